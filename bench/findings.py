@@ -16,8 +16,9 @@ import tempfile
 
 MOST_SECONDS = 60
 MOST_KINDS = 25
-# What is left out of a message for its kind: quoted texts, names of files, and numbers.
-PARTS = [(re.compile(pattern), " ") for pattern in (r"'[^']*'", r'"[^"]*"', r"\([^)]*\)", r"\S+\.bib\S*", r"\d+", r"^[^:]*--line .*", r"\s+")]
+# What is left out of a message for its kind: the place of a BibTeX error, quoted texts, names of files, BibTeX's key, and numbers.
+PATTERNS = (r"---line .*", r"`[^']*'", r"'[^']*'", r'"[^"]*"', r"\([^)]*\)", r"\S+\.bib\S*", r" in \S+$", r"\d+", r"\s+")
+PARTS = [(re.compile(pattern), " ") for pattern in PATTERNS]
 
 
 def run(words, room, text=None):

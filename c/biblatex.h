@@ -67,8 +67,9 @@ uint32_t biblatex_csl(const uint8_t *text, size_t length, uint8_t *out, size_t c
    isn't UTF-8 is read as Windows-1252. Refuses only a `format` that isn't a value of enum biblatex_format. */
 uint32_t biblatex_recover(const uint8_t *text, size_t length, uint32_t format, uint8_t *out, size_t capacity, size_t *size);
 
-/* Writes the findings of a text as a JSON array of objects with file (empty), line and column (from 1, in characters),
-   severity, code and message. No text is refused: one that isn't UTF-8 is read as Windows-1252, and has a finding for that.
+/* Writes the findings of a text as a JSON array of objects with file (empty), line and column of the start, end_line and
+   end_column (all from 1, columns in characters; the end is after the last character), severity, code and message. No text is
+   refused: one that isn't UTF-8 is read as Windows-1252, and has a finding for that.
 
    A text that biblatex_keys or biblatex_fmt refuses has a finding with the code unread-bytes or syntax. A text that
    biblatex_biblatex, biblatex_bibtex, biblatex_json and biblatex_csl refuse has a finding with one of these codes, or with

@@ -129,7 +129,7 @@ static void check_addition(void)
           "an addition of a text in quotes with unbalanced braces is refused");
 }
 
-/* Whether this is what can be read of a text with an error in the second of its three entries. */
+/* Whether this is what is kept of a text with an error after the only field of the second of its three entries. */
 static int recovers(uint32_t format, const char *wanted)
 {
     const char *text = "@article{a, journaltitle={J}}\n@misc{b, title={T}\n@misc{c, note={N}}\n";
@@ -143,15 +143,17 @@ static void check_recovery(void)
 {
     uint8_t out[4096];
     size_t size = 77;
-    check(recovers(BIBLATEX_FORMAT_BIBLATEX, "@article{a,\njournaltitle = {J},\n}\n\n@misc{c,\nnote = {N},\n}\n"), "recover as BibLaTeX");
-    check(recovers(BIBLATEX_FORMAT_BIBTEX, "@article{a,\njournal = {J},\n}\n\n@misc{c,\nnote = {N},\n}\n"), "recover as BibTeX");
+    check(recovers(BIBLATEX_FORMAT_BIBLATEX, "@article{a,\njournaltitle = {J},\n}\n\n@misc{b,\ntitle = {T},\n}\n\n@misc{c,\nnote = {N},\n}\n"), "recover as BibLaTeX");
+    check(recovers(BIBLATEX_FORMAT_BIBTEX, "@article{a,\njournal = {J},\n}\n\n@misc{b,\ntitle = {T},\n}\n\n@misc{c,\nnote = {N},\n}\n"), "recover as BibTeX");
     check(recovers(BIBLATEX_FORMAT_JSON,
                    "[\n{\"fields\":{\"journaltitle\":{\"chunks\":[{\"end\":27,\"kind\":\"normal\",\"start\":26,\"text\":\"J\"}]}},"
                    "\"key\":\"a\",\"type\":\"article\"},\n"
+                   "{\"fields\":{\"title\":{\"chunks\":[{\"end\":47,\"kind\":\"normal\",\"start\":46,\"text\":\"T\"}]}},"
+                   "\"key\":\"b\",\"type\":\"misc\"},\n"
                    "{\"fields\":{\"note\":{\"chunks\":[{\"end\":65,\"kind\":\"normal\",\"start\":64,\"text\":\"N\"}]}},"
                    "\"key\":\"c\",\"type\":\"misc\"}\n]\n"),
           "recover as JSON");
-    check(biblatex_recover(bytes("@misc{a"), 7, BIBLATEX_FORMAT_CSL, out, sizeof out, &size) == BIBLATEX_DONE && size == 3
+    check(biblatex_recover(bytes("@{a"), 3, BIBLATEX_FORMAT_CSL, out, sizeof out, &size) == BIBLATEX_DONE && size == 3
               && memcmp(out, "[]\n", 3) == 0,
           "recover nothing as CSL");
     size = 77;

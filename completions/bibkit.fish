@@ -2,8 +2,8 @@
 set -l commands lint keys get select grep cited stats fmt convert resolve set unset rename rekey edit remove add strings recode help
 set -l edits set unset rename rekey edit remove add strings
 set -l codes unread-bytes syntax unread-field unknown-abbreviation circular-abbreviation duplicate-key circular-reference \
-    unread-date unknown-type missing-field superfluous-field malformed-field not-a-number unknown-field foreign-field \
-    unknown-reference likely-duplicate missing-entry unused-entry
+    unread-date unknown-type missing-field superfluous-field malformed-field not-a-number malformed-date unknown-field foreign-field \
+    repeated-field empty-field wrong-isbn doi-address unknown-reference likely-duplicate key-case missing-entry unused-entry
 set -l fields author editor title subtitle booktitle journaltitle journal series edition volume number pages publisher location address \
     institution school organization date year month doi isbn issn url urldate note keywords abstract crossref
 
@@ -33,7 +33,8 @@ complete -c bibkit -s h -l help -d 'Print help'
 complete -c bibkit -n '__fish_seen_subcommand_from lint' -x -l only -a "$codes" -d 'Report only these codes'
 complete -c bibkit -n '__fish_seen_subcommand_from lint' -x -l ignore -a "$codes" -d 'Don\'t report these codes'
 complete -c bibkit -n '__fish_seen_subcommand_from lint' -x -l explain -a "$codes" -d 'Explain a code'
-complete -c bibkit -n '__fish_seen_subcommand_from lint' -x -l format -a 'text json' -d 'Lines or JSON'
+complete -c bibkit -n '__fish_seen_subcommand_from lint' -x -l format -a 'text json jsonl github checkstyle sarif' -d 'The format of findings'
+complete -c bibkit -n '__fish_seen_subcommand_from lint' -x -l fail-on -a 'error warning info never' -d 'Status 1 for findings of at least this severity'
 complete -c bibkit -n '__fish_seen_subcommand_from lint' -r -l cited -d 'Report keys that this document cites and no file contains'
 complete -c bibkit -n '__fish_seen_subcommand_from lint' -l unused -d 'Report entries that the document doesn\'t cite'
 complete -c bibkit -n '__fish_seen_subcommand_from lint' -x -l color -a 'auto always never' -d 'When to print colours'

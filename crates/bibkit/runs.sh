@@ -100,7 +100,7 @@ for word in help --help -h; do
     done
 done
 run_start 'help of lint' 0 $'Report errors and likely mistakes in files\n\nUsage: bibkit lint [OPTIONS] [FILE]...\n' lint --help
-for option in '--only <CODES>' '--ignore <CODES>' '--explain <CODE>' '--format <FORMAT>' '--cited <DOCUMENT>' '--unused' '--color <WHEN>' '--where <CONDITION>'; do
+for option in '--only <CODES>' '--ignore <CODES>' '--explain <CODE>' '--format <FORMAT>' '--fail-on <SEVERITY>' '--cited <DOCUMENT>' '--unused' '--color <WHEN>' '--where <CONDITION>'; do
     holds "help of lint names $option" grep -qE "^      $option +[A-Z]" results
 done
 run_start 'help of keys' 0 $'Print the key of each entry\n\nUsage: bibkit keys [OPTIONS] [FILE]...\n' keys --help
@@ -133,6 +133,7 @@ run 'a wrong option' 2 '' lint --nothing
 holds 'a wrong option is named' messages_have --nothing
 run 'a wrong code' 2 '' lint --only no-code
 run 'a wrong format' 2 '' lint --format xml
+run 'a wrong severity' 2 '' lint --fail-on note
 run 'unused entries of no document' 2 '' lint --unused
 run 'no keys' 2 '' get
 run 'no text' 2 '' grep author
@@ -147,19 +148,19 @@ run 'no other code' 0 $'errors: 0, warnings: 0\n' lint --only syntax,duplicate-k
 run 'a code that is left out' 0 $'errors: 0, warnings: 0\n' lint --ignore missing-field one.bib
 run 'two options that leave codes out' 0 $'errors: 0, warnings: 0\n' lint --ignore syntax --ignore missing-field one.bib
 run 'a code that is asked for and left out' 0 $'errors: 0, warnings: 0\n' lint --only missing-field --ignore missing-field one.bib
-run 'two files' 1 $'broken.bib:1:7: warning: a: missing year [missing-field]\nbroken.bib:3:1: error: expected comma [syntax]\n'"$lines_of_one"$'errors: 1, warnings: 4\n' lint broken.bib one.bib
+run 'two files' 1 $'broken.bib:1:7: warning: a: missing year [missing-field]\nbroken.bib:3:1: error: c: expected comma [syntax]\n'"$lines_of_one"$'errors: 1, warnings: 4\n' lint broken.bib one.bib
 cp one.bib input
 run 'standard input' 1 "${lines_of_one//one.bib/-}"$'errors: 0, warnings: 3\n' lint
 run 'standard input by its name, after a file' 1 "$lines_of_one${lines_of_one//one.bib/-}"$'errors: 0, warnings: 6\n' lint one.bib -
 : >input
 run 'a list in JSON' 1 '[
-{"file":"one.bib","line":1,"column":10,"severity":"warning","code":"missing-field","message":"test: missing title"},
-{"file":"one.bib","line":1,"column":10,"severity":"warning","code":"missing-field","message":"test: missing journaltitle"},
-{"file":"one.bib","line":1,"column":10,"severity":"warning","code":"missing-field","message":"test: missing year"}
+{"file":"one.bib","line":1,"column":10,"end_line":1,"end_column":14,"severity":"warning","code":"missing-field","message":"test: missing title"},
+{"file":"one.bib","line":1,"column":10,"end_line":1,"end_column":14,"severity":"warning","code":"missing-field","message":"test: missing journaltitle"},
+{"file":"one.bib","line":1,"column":10,"end_line":1,"end_column":14,"severity":"warning","code":"missing-field","message":"test: missing year"}
 ]
 ' lint --format json one.bib
 "$program" lint --format json one.bib broken.bib one.bib >output
-holds 'a list of three files in JSON' python3 -c 'import json, sys; found = json.load(open("output")); sys.exit(len(found) != 8 or found[4] != {"file": "broken.bib", "line": 3, "column": 1, "severity": "error", "code": "syntax", "message": "expected comma"})'
+holds 'a list of three files in JSON' python3 -c 'import json, sys; found = json.load(open("output")); sys.exit(len(found) != 8 or found[4] != {"file": "broken.bib", "line": 3, "column": 1, "end_line": 3, "end_column": 1, "severity": "error", "code": "syntax", "message": "c: expected comma"})'
 run 'an empty list in JSON' 0 $'[\n]\n' lint --format json
 printf '@misc{a, title={A}}\n' >'a "b" \ c.bib'
 printf '@misc{q"\\, author={B}}\n' >'a "b" \ c.bib'
@@ -169,10 +170,11 @@ holds 'quotes and backslashes in JSON' python3 -c 'import json, sys; found = jso
 for code in unread-bytes syntax unread-field circular-abbreviation duplicate-key circular-reference missing-entry; do
     run_start "the meaning of $code" 0 "$code (error): " lint --explain $code no-file.bib
 done
-for code in unknown-abbreviation unread-date unknown-type missing-field superfluous-field malformed-field unknown-field unknown-reference likely-duplicate unused-entry; do
+for code in unknown-abbreviation unread-date unknown-type missing-field superfluous-field malformed-field malformed-date unknown-field repeated-field \
+    wrong-isbn doi-address unknown-reference likely-duplicate key-case unused-entry; do
     run_start "the meaning of $code" 0 "$code (warning): " lint --explain $code no-file.bib
 done
-for code in not-a-number foreign-field; do
+for code in not-a-number foreign-field empty-field; do
     run_start "the meaning of $code" 0 "$code (info): " lint --explain $code no-file.bib
 done
 run 'the whole meaning of a code' 0 'superfluous-field (warning): An entry of this type must not have this field. Remove it, or change the type of the entry.
@@ -184,12 +186,150 @@ printf '@misc{a, title={\xe9t\xe9}}\n' >latin.bib
 run 'bytes that are not UTF-8' 1 $'latin.bib:1:17: error: not UTF-8 from here on, so the file is read as Windows-1252 [unread-bytes]\nerrors: 1, warnings: 0\n' lint --ignore missing-field latin.bib
 run 'they are the first finding' 1 $'latin.bib:1:17: error: not UTF-8 from here on, so the file is read as Windows-1252 [unread-bytes]\nlatin.bib:1:7: warning: a: missing year [missing-field]\nerrors: 1, warnings: 1\n' lint latin.bib
 run 'entries of them' 0 $'@misc{a, title={\xc3\xa9t\xc3\xa9}}\n' get a latin.bib
-printf '@misc{a,\n title={\xc3\xa9}, author={\xc3\xa9 \xc3\xa9}, nofield={}, year={2000}}\n' >columns.bib
+printf '@misc{a,\n title={\xc3\xa9}, author={\xc3\xa9 \xc3\xa9}, nofield={x}, year={2000}}\n' >columns.bib
 run 'columns are characters' 1 $'columns.bib:2:27: warning: a: unknown field `nofield` [unknown-field]\nerrors: 0, warnings: 1\n' lint columns.bib
 printf '@misc{a, title={A}, year={2000}, volume={12A}, owner={me}}\n' >infos.bib
+printf '@article{k, titel={A}, title={B}, titel={C}\n' >cut.bib
+run 'findings of an entry that is cut' 1 $'cut.bib:1:13: warning: k: unknown field `titel`; did you mean `title`? [unknown-field]\ncut.bib:1:35: warning: k: unknown field `titel`; did you mean `title`? [unknown-field]\ncut.bib:1:35: warning: k: field `titel` occurs again; BibTeX keeps the first, Biber the last [repeated-field]\ncut.bib:2:1: error: k: expected comma [syntax]\nerrors: 1, warnings: 3\n' lint cut.bib
 run 'findings that are information' 0 $'infos.bib:1:34: info: a: malformed volume: invalid number [not-a-number]\ninfos.bib:1:48: info: field owner of another program, 1 time [foreign-field]\nerrors: 0, warnings: 0, info: 2\n' lint infos.bib
 "$program" lint --format json infos.bib >output
 holds 'information in JSON' python3 -c 'import json, sys; found = json.load(open("output")); sys.exit([it["severity"] for it in found] != ["info", "info"])'
+
+# the status by the severities of findings: infos.bib has only information, and one.bib only warnings
+while read -r severity infos warnings errors; do
+    "$program" lint --fail-on "$severity" infos.bib >output
+    holds "the status for information, $severity" [ $? = "$infos" ]
+    "$program" lint --fail-on "$severity" infos.bib one.bib >output
+    holds "the status for warnings, $severity" [ $? = "$warnings" ]
+    "$program" lint --fail-on "$severity" --only syntax broken.bib >output
+    holds "the status for errors, $severity" [ $? = "$errors" ]
+    "$program" lint --fail-on "$severity" --format json infos.bib one.bib >output
+    holds "the status of JSON, $severity" [ $? = "$warnings" ]
+    run "no findings, $severity" 0 $'errors: 0, warnings: 0\n' lint --fail-on "$severity" --only syntax one.bib
+done <<'ROWS'
+error 0 0 1
+warning 0 1 1
+info 1 1 1
+never 0 0 0
+ROWS
+run 'a file that can not be read, and no status for findings' 2 $'errors: 0, warnings: 0\n' lint --fail-on never no.bib
+
+# formats of findings. circle.bib has a finding of three lines, which ends before the closing brace of its entry. A file name and a key
+# in odd.aux have characters that formats escape: a tab, U+0001, an apostrophe and U+FFFF are in the key.
+printf '@misc{r,\n  crossref = {r},\n}\n' >circle.bib
+cp one.bib 'a "b",&%:.bib'
+cp one.bib $'two\nlines.bib'
+printf '\\citation{x&<>%%:\t\001\047\xef\xbf\xbfy}\n' >odd.aux
+run 'JSON lines' 1 '{"file":"one.bib","line":1,"column":10,"end_line":1,"end_column":14,"severity":"warning","code":"missing-field","message":"test: missing title"}
+{"file":"one.bib","line":1,"column":10,"end_line":1,"end_column":14,"severity":"warning","code":"missing-field","message":"test: missing journaltitle"}
+{"file":"one.bib","line":1,"column":10,"end_line":1,"end_column":14,"severity":"warning","code":"missing-field","message":"test: missing year"}
+' lint --format jsonl one.bib
+run 'no JSON lines' 0 '' lint --format jsonl
+"$program" lint --format json one.bib broken.bib circle.bib >output
+"$program" lint --format jsonl one.bib broken.bib circle.bib >lines
+holds 'JSON lines are the elements of the JSON array' python3 -c 'import json, sys; sys.exit([json.loads(line) for line in open("lines")] != json.load(open("output")))'
+"$program" lint --format jsonl --only circular-reference circle.bib >output
+holds 'a finding of three lines' python3 -c 'import json, sys; it = json.load(open("output")); sys.exit([it[name] for name in ("line", "column", "end_line", "end_column")] != [1, 1, 3, 1])'
+# the commands for one.bib under another name, escaped as a property
+commands_of() {
+    printf '::warning file=%s,line=1,endLine=1,col=10,endColumn=14,title=missing-field::test: missing %s\n' "$1" title "$1" journaltitle "$1" year
+}
+run 'commands of GitHub' 1 "::warning file=broken.bib,line=1,endLine=1,col=7,endColumn=8,title=missing-field::a: missing year
+::error file=broken.bib,line=3,endLine=3,col=1,endColumn=1,title=syntax::c: expected comma
+::notice file=infos.bib,line=1,endLine=1,col=48,endColumn=53,title=foreign-field::field owner of another program, 1 time
+$(commands_of one.bib)
+" lint --format github --ignore not-a-number broken.bib infos.bib one.bib
+run 'no commands of GitHub' 0 '' lint --format github
+run_start 'a command for three lines' 1 '::error file=circle.bib,line=1,endLine=3,title=circular-reference::' lint --format github --only circular-reference circle.bib
+run 'a file name in a command' 1 "$(commands_of 'a "b"%2C&%25%3A.bib')"$'\n' lint --format github 'a "b",&%:.bib'
+run 'a file name of two lines in a command' 1 "$(commands_of two%0Alines.bib)"$'\n' lint --format github $'two\nlines.bib'
+run 'a message in a command' 1 $'::error file=odd.aux,line=1,endLine=1,col=1,endColumn=1,title=missing-entry::no file has an entry "x&<>%25:\t\001\'\xef\xbf\xbfy"\n' \
+    lint --format github --only missing-entry --cited odd.aux two.bib
+run 'elements of Checkstyle' 1 '<?xml version="1.0" encoding="utf-8"?>
+<checkstyle version="4.3">
+  <file name="a &quot;b&quot;,&amp;%:.bib">
+    <error line="1" column="10" severity="warning" message="test: missing title" source="bibkit.missing-field"/>
+    <error line="1" column="10" severity="warning" message="test: missing journaltitle" source="bibkit.missing-field"/>
+    <error line="1" column="10" severity="warning" message="test: missing year" source="bibkit.missing-field"/>
+  </file>
+  <file name="broken.bib">
+    <error line="1" column="7" severity="warning" message="a: missing year" source="bibkit.missing-field"/>
+    <error line="3" column="1" severity="error" message="c: expected comma" source="bibkit.syntax"/>
+  </file>
+  <file name="infos.bib">
+    <error line="1" column="48" severity="info" message="field owner of another program, 1 time" source="bibkit.foreign-field"/>
+  </file>
+</checkstyle>
+' lint --format checkstyle --ignore not-a-number 'a "b",&%:.bib' broken.bib infos.bib
+run 'no elements of Checkstyle' 0 '<?xml version="1.0" encoding="utf-8"?>
+<checkstyle version="4.3">
+</checkstyle>
+' lint --format checkstyle
+run 'a message in an element, after one element of a file' 1 '<?xml version="1.0" encoding="utf-8"?>
+<checkstyle version="4.3">
+  <file name="two.bib">
+    <error line="1" column="7" severity="warning" message="a: missing year" source="bibkit.missing-field"/>
+    <error line="1" column="7" severity="warning" message="a: never cited" source="bibkit.unused-entry"/>
+    <error line="3" column="7" severity="warning" message="b: never cited" source="bibkit.unused-entry"/>
+  </file>
+  <file name="odd.aux">
+    <error line="1" column="1" severity="error" message="no file has an entry &quot;x&amp;&lt;&gt;%:&#9;'$'\xef\xbf\xbd''&apos;'$'\xef\xbf\xbd''y&quot;" source="bibkit.missing-entry"/>
+  </file>
+</checkstyle>
+' lint --format checkstyle --cited odd.aux --unused two.bib
+"$program" lint --format checkstyle 'a "b",&%:.bib' $'two\nlines.bib' >output
+holds 'XML' python3 -c 'import sys, xml.etree.ElementTree as tree; sys.exit([file.get("name") for file in tree.parse("output").getroot()] != ["a \"b\",&%:.bib", "two\nlines.bib"])'
+
+# a log in SARIF: the members that the standard requires, by its sections
+cat >sarif.py <<'PY'
+import json, re, sys
+
+def members(value, *names):
+    assert all(name in value for name in names), (names, value)
+
+log = json.load(open("output"))
+members(log, "version", "runs")  # 3.13
+assert log["version"] == "2.1.0" and len(log["runs"]) == 1
+run = log["runs"][0]
+members(run, "tool")  # 3.14
+assert run["columnKind"] in ("utf16CodeUnits", "unicodeCodePoints")
+members(run["tool"], "driver")  # 3.18
+driver = run["tool"]["driver"]
+members(driver, "name", "version")  # 3.19
+assert (driver["name"], "bibkit " + driver["version"]) == ("bibkit", sys.argv[1])
+rules = {}
+for rule in driver["rules"]:
+    members(rule, "id")  # 3.49
+    assert rule["id"] not in rules
+    rules[rule["id"]] = rule["defaultConfiguration"]["level"]
+found = []
+for result in run["results"]:
+    members(result, "message")  # 3.27
+    members(result["message"], "text")  # 3.11
+    assert result["level"] == rules[result["ruleId"]] and result["level"] in ("none", "note", "warning", "error")
+    [location] = result["locations"]
+    place = location["physicalLocation"]
+    uri = place["artifactLocation"]["uri"]
+    assert re.fullmatch(r"([A-Za-z0-9._~/-]|%[0-9A-F]{2})*", uri), uri
+    region = [place["region"][name] for name in ("startLine", "startColumn", "endLine", "endColumn")]
+    assert all(number >= 1 for number in region)
+    found.append([result["ruleId"], result["level"], uri, *region, result["message"]["text"]])
+assert found == json.loads(sys.argv[2]), found
+PY
+version=$("$program" --version)
+"$program" lint --format sarif --ignore not-a-number 'a "b",&%:.bib' broken.bib infos.bib >output
+holds 'a log in SARIF' python3 sarif.py "$version" '[
+    ["missing-field", "warning", "a%20%22b%22%2C%26%25%3A.bib", 1, 10, 1, 14, "test: missing title"],
+    ["missing-field", "warning", "a%20%22b%22%2C%26%25%3A.bib", 1, 10, 1, 14, "test: missing journaltitle"],
+    ["missing-field", "warning", "a%20%22b%22%2C%26%25%3A.bib", 1, 10, 1, 14, "test: missing year"],
+    ["missing-field", "warning", "broken.bib", 1, 7, 1, 8, "a: missing year"],
+    ["syntax", "error", "broken.bib", 3, 1, 3, 1, "c: expected comma"],
+    ["foreign-field", "note", "infos.bib", 1, 48, 1, 53, "field owner of another program, 1 time"]
+]'
+"$program" lint --format sarif --only circular-reference circle.bib >output
+holds 'a result of three lines' python3 -c 'import json, sys; [result] = json.load(open("output"))["runs"][0]["results"]; sys.exit(result["locations"][0]["physicalLocation"]["region"] != {"startLine": 1, "startColumn": 1, "endLine": 3, "endColumn": 1})'
+"$program" lint --format sarif >output
+holds 'a log in SARIF without results' python3 sarif.py "$version" '[]'
 
 # entries
 run 'keys' 0 $'a\nb\n' keys two.bib
@@ -812,15 +952,24 @@ printf 'format = "json"\nonly = ["syntax"]\ncolor = "always"\n' >project/deep/bi
 run 'nearer settings' 0 $'[\n]\n' lint project/deep/er/one.bib
 run 'a format of the command line' 0 $'errors: 0, warnings: 0\n' lint --format text project/deep/er/one.bib
 run 'codes of the command line, in the place of those of settings' 1 '[
-{"file":"project/deep/er/one.bib","line":1,"column":10,"severity":"warning","code":"missing-field","message":"test: missing title"},
-{"file":"project/deep/er/one.bib","line":1,"column":10,"severity":"warning","code":"missing-field","message":"test: missing journaltitle"},
-{"file":"project/deep/er/one.bib","line":1,"column":10,"severity":"warning","code":"missing-field","message":"test: missing year"}
+{"file":"project/deep/er/one.bib","line":1,"column":10,"end_line":1,"end_column":14,"severity":"warning","code":"missing-field","message":"test: missing title"},
+{"file":"project/deep/er/one.bib","line":1,"column":10,"end_line":1,"end_column":14,"severity":"warning","code":"missing-field","message":"test: missing journaltitle"},
+{"file":"project/deep/er/one.bib","line":1,"column":10,"end_line":1,"end_column":14,"severity":"warning","code":"missing-field","message":"test: missing year"}
 ]
 ' lint --only missing-field project/deep/er/one.bib
 run 'codes that are left out of those of settings' 0 $'[\n]\n' lint --ignore missing-field project/deep/er/one.bib
 printf 'only = ["no-code"]\n' >project/bibkit.toml
 run 'a wrong code in settings' 2 '' lint project/one.bib
 holds 'its file is named' messages_have 'project/bibkit.toml: expected a list of codes for `only`'
+printf 'format = "xml"\n' >project/bibkit.toml
+run 'a wrong format in settings' 2 '' lint project/one.bib
+holds 'the formats are named' messages_have 'expected "text", "json", "jsonl", "github", "checkstyle" or "sarif" for `format`'
+printf 'fail-on = "note"\n' >project/bibkit.toml
+run 'a wrong severity in settings' 2 '' lint project/one.bib
+holds 'the severities are named' messages_have 'expected "error", "warning", "info" or "never" for `fail-on`'
+printf 'fail-on = "error"\nformat = "github"\n' >project/bibkit.toml
+run 'a severity and a format of settings' 0 "$(commands_of project/one.bib)"$'\n' lint project/one.bib
+run 'a severity of the command line wins' 1 "$(commands_of project/one.bib)"$'\n' lint --fail-on warning project/one.bib
 printf 'colour = "always"\n' >project/bibkit.toml
 run 'an unknown setting' 2 '' lint project/one.bib
 holds 'an unknown setting is named' messages_have 'unknown setting `colour`'
@@ -917,7 +1066,7 @@ holds 'a style that is no table: what is said' messages_have 'styled/bibkit.toml
 printf 'indent = 4\n' >styled/bibkit.toml
 run 'a setting of no table' 2 '' fmt styled/a.bib
 holds 'a setting of no table: what is said' messages_have 'styled/bibkit.toml: unknown setting `indent`'
-printf 'ignore = ["unknown-field"]\nonly = ["no-code"]\ncolor = "never"\nformat = "text"\n' >styled/bibkit.toml
+printf 'ignore = ["unknown-field"]\nonly = ["no-code"]\ncolor = "never"\nformat = "text"\nfail-on = "none"\n' >styled/bibkit.toml
 run 'fmt passes over settings of lint' 0 "$(cat usual.bib)"$'\n' fmt styled/a.bib
 printf '[fmt]\nindent = 9\n' >styled/bibkit.toml
 run 'edits read no settings' 0 $'@book{a,\n    title = {X},\n    year  = {2000}\n}\n' set a year=2000 -f styled/a.bib
@@ -925,7 +1074,7 @@ run_start 'meanings read no settings' 0 'syntax (error): ' lint --explain syntax
 
 # colours, on no terminal
 bold=$'\e[1m' plain=$'\e[0m' yellow=$'\e[1;33m' red=$'\e[1;31m' green=$'\e[1;32m'
-want="${bold}broken.bib:3:1:$plain ${red}error:$plain expected comma [syntax]
+want="${bold}broken.bib:3:1:$plain ${red}error:$plain c: expected comma [syntax]
   
   $green^$plain
 errors: 1, warnings: 0
@@ -941,7 +1090,7 @@ ${frame}errors: 0, warnings: 3
 "
 run 'colours of settings' 1 "$want_settings" lint --format text --only missing-field project/deep/er/one.bib
 run 'no colours of the command line' 1 "${lines_of_one//one.bib/project/deep/er/one.bib}"$'errors: 0, warnings: 3\n' lint --format text --only missing-field --color never project/deep/er/one.bib
-run 'no colours' 1 $'broken.bib:3:1: error: expected comma [syntax]\nerrors: 1, warnings: 0\n' lint --only syntax --color never broken.bib
+run 'no colours' 1 $'broken.bib:3:1: error: c: expected comma [syntax]\nerrors: 1, warnings: 0\n' lint --only syntax --color never broken.bib
 printf '@misc{a,\n\tt\x1b[31m\xc3\xa9itle={x}, nofield={1}, author={B}}\n' >frame.bib
 "$program" lint --color always --only unknown-field frame.bib >output
 holds 'a control character is not printed' bash -c '! grep -q "$(printf "\033\[31m")" output'
@@ -963,7 +1112,7 @@ if command -v python3 >/dev/null; then
     python3 terminal.py "$program" lint --only syntax broken.bib </dev/null >/dev/null
     count 'colours on a terminal' $? 1 "$want"
     NO_COLOR=1 python3 terminal.py "$program" lint --only syntax broken.bib </dev/null >/dev/null
-    count 'NO_COLOR' $? 1 $'broken.bib:3:1: error: expected comma [syntax]\nerrors: 1, warnings: 0\n'
+    count 'NO_COLOR' $? 1 $'broken.bib:3:1: error: c: expected comma [syntax]\nerrors: 1, warnings: 0\n'
     NO_COLOR=1 python3 terminal.py "$program" lint --color always --only syntax broken.bib </dev/null >/dev/null
     count 'colours although NO_COLOR is set' $? 1 "$want"
     clear=$'\r\e[K'
@@ -1254,7 +1403,7 @@ run 'findings about selected entries of two files' 1 "$lines_of_one"$'errors: 0,
 run 'selected findings about selected entries' 0 $'errors: 0, warnings: 0\n' lint --where 'key = a' --only syntax broken.bib
 run 'findings about selected entries of a file that is not UTF-8' 1 $'latin.bib:1:7: warning: a: missing year [missing-field]\nerrors: 0, warnings: 1\n' lint --where $'title = "\xc3\xa9"' latin.bib
 run 'findings about selected entries in JSON' 1 '[
-{"file":"broken.bib","line":1,"column":7,"severity":"warning","code":"missing-field","message":"a: missing year"}
+{"file":"broken.bib","line":1,"column":7,"end_line":1,"end_column":8,"severity":"warning","code":"missing-field","message":"a: missing year"}
 ]
 ' lint --format json --where 'key = a' broken.bib
 run 'no findings about selected entries in JSON' 0 $'[\n]\n' lint --format json --where 'key = z' broken.bib
@@ -1482,7 +1631,8 @@ touch references.bib
 in_bash 'bibkit li' $'lint\n'
 in_bash 'bibkit lint --on' $'--only\n'
 in_bash 'bibkit lint --only syntax,dup' $'syntax,duplicate-key\n'
-in_bash 'bibkit lint --format j' $'json\n'
+in_bash 'bibkit lint --format j' $'json\njsonl\n'
+in_bash 'bibkit lint --fail-on w' $'warning\n'
 in_bash 'bibkit lint --color ne' $'never\n'
 in_bash 'bibkit keys refe' $'references.bib\n'
 in_bash 'bibkit rem' $'remove\n'
@@ -1522,7 +1672,8 @@ if command -v fish >/dev/null; then
     in_fish 'bibkit li' $'lint\n'
     in_fish 'bibkit lint --on' $'--only\n'
     in_fish 'bibkit lint --only syn' $'syntax\n'
-    in_fish 'bibkit lint --format j' $'json\n'
+    in_fish 'bibkit lint --format s' $'sarif\n'
+    in_fish 'bibkit lint --fail-on w' $'warning\n'
     in_fish 'bibkit lint --color ne' $'never\n'
     in_fish 'bibkit keys refe' $'references.bib\n'
     in_fish 'bibkit str' $'strings\n'
@@ -1530,7 +1681,7 @@ if command -v fish >/dev/null; then
     in_fish 'bibkit fmt --sort au' $'author\n'
     in_fish 'bibkit fmt --delimiters q' $'quotes\n'
 else
-    skip fish 10
+    skip fish 11
 fi
 if command -v zsh >/dev/null; then
     mkdir zsh
@@ -1550,7 +1701,8 @@ ZSH
     in_zsh 'bibkit li>' $'bibkit lint\n'
     in_zsh 'bibkit lint --on>' $'bibkit lint --only\n'
     in_zsh 'bibkit lint --only syntax,dup>' $'bibkit lint --only syntax,duplicate-key\n'
-    in_zsh 'bibkit lint --format j>' $'bibkit lint --format json\n'
+    in_zsh 'bibkit lint --format s>' $'bibkit lint --format sarif\n'
+    in_zsh 'bibkit lint --fail-on w>' $'bibkit lint --fail-on warning\n'
     in_zsh 'bibkit lint --color ne>' $'bibkit lint --color never\n'
     in_zsh 'bibkit keys refe>' $'bibkit keys references.bib\n'
     in_zsh 'bibkit str>' $'bibkit strings\n'
@@ -1559,7 +1711,7 @@ ZSH
     in_zsh 'bibkit fmt --delimiters q>' $'bibkit fmt --delimiters quotes\n'
     in_zsh 'bibkit fmt --order author,ti>' $'bibkit fmt --order author,title\n'
 else
-    skip zsh 11
+    skip zsh 12
 fi
 
 # the sessions of documents: a block is one session in a folder of its own; `$ COMMAND` and the lines that it prints

@@ -105,8 +105,8 @@ def parse(text: AnyText) -> Bibliography:
 def recover(text: AnyText) -> tuple[Bibliography, list[Finding]]:
     """Parses everything in a text that can be parsed. Returns the bibliography, and the findings that make `parse` fail.
 
-    A block that can't be parsed is skipped. An entry with the key of an earlier one is left out, and so is a field whose
-    text can't be parsed. docs/LIBRARY.md lists the effect of each error. A text that isn't UTF-8 is read as Windows-1252, and
+    Only the complete parts of a block that can't be parsed are kept: its key, fields or definitions. An entry with the key of
+    an earlier one is left out, and so is a field whose text can't be parsed. docs/LIBRARY.md lists the effect of each error. A text that isn't UTF-8 is read as Windows-1252, and
     the spans of its chunks are byte ranges of that text in UTF-8.
 
     `to_biblatex` and `to_bibtex` escape each command that the parser doesn't know.

@@ -39,7 +39,7 @@ class Finding:
     message: str
 
     def __str__(self) -> str:
-        """Returns the position and the message, for example `3:12: expected comma`."""
+        """Returns the position and the message, for example `3:12: turing1950: expected comma`."""
         return f"{self.line}:{self.column}: {self.message}"
 
 
@@ -47,7 +47,7 @@ class ParseError(ValueError):
     """Raised when a text can't be parsed.
 
     `findings` contains each finding that makes parsing fail, in the order of `lint`. `line` and `column` are the position of
-    the first one. `str` of the error is that of the first one, for example `3:12: unexpected end of file`.
+    the first one. `str` of the error is that of the first one, for example `3:12: turing1950: unexpected end of file`.
     """
 
     findings: Sequence[Finding]

@@ -30,7 +30,7 @@ class Buffers(unittest.TestCase):
         count = 20_000
         text = "".join(f"@misc{{{index},a=1,b=1}}" for index in range(count))
         self.assertEqual(len(biblatex.parse(text)), count)
-        self.assertEqual(len(biblatex.lint("".join(f"@a{{{index}}}\n" for index in range(count)))), count)
+        self.assertEqual(len(biblatex.lint("".join(f"@misc{{{index}}}\n" for index in range(count)))), count)
 
     def test_an_answer_of_no_bytes(self) -> None:
         self.assertEqual(native.call("biblatex_keys", b""), b"")

@@ -114,7 +114,7 @@ class Refusals(unittest.TestCase):
         self.assertEqual(biblatex.add_entries("@string{s={x}}", '@string{s="x"}'), '@string{s={x}}\n@string{s="x"}')
 
     def test_what_is_added_has_an_error(self) -> None:
-        self.refuses(biblatex.add_entries, BOTH, "@misc{c", why="what is added can't be read: 1:8: expected comma")
+        self.refuses(biblatex.add_entries, BOTH, "@misc{c", why="what is added can't be read: 1:8: c: expected comma")
         self.assertEqual(biblatex.add_entries("@misc{a,}\r\n", "@misc{b,\n}"), "@misc{a,}\r\n\r\n@misc{b,\r\n}")
         quoted = '@misc{a, title = "The {"}Big{"} one"}'
         why = "the braces of a text in quotes aren't balanced, so BibTeX and Biber end it elsewhere"
@@ -135,7 +135,7 @@ class Refusals(unittest.TestCase):
         for edit, words in edits:
             with self.assertRaises(biblatex.ParseError) as raised:
                 edit(text, *words)
-            self.assertEqual(str(raised.exception), "2:9: expected comma")
+            self.assertEqual(str(raised.exception), "2:9: b: expected comma")
 
     def test_bytes_that_are_not_utf8(self) -> None:
         for text in (b"@misc{a, title={\xff}}",):

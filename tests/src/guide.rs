@@ -89,7 +89,7 @@ fn read_the_rest(rt: HostRuntime) -> Result<(), Fail> {
         errors.as_str()
             == "2:16: unknown abbreviation \"foo\": 34-37; 3:1: duplicate key \"b\": 49-67; "
     );
-    assert!(rt; found.bibliography.get("b").is_some());
+    assert!(rt; found.bibliography.get("a").is_some() && found.bibliography.get("b").is_some());
     Ok(())
 }
 

@@ -18,6 +18,7 @@ impl Calls for Syntax {
             "fronts" => keys::prefixes(alloc, text)?,
             "raw" => reading::raw(alloc, text)?,
             "recover" => recovery::recover(alloc, text)?,
+            "parts" => recovery::recover_parts(alloc, text)?,
             "recovered_fronts" => recovery::recovered_prefixes(alloc, text)?,
             "is_key" => characters::key_characters(alloc, text)?,
             "is_id_start" => characters::id_starts(alloc, text)?,

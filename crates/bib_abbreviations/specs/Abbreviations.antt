@@ -57,7 +57,7 @@ IsKnown definitions name =
     ((definition : List Piece) × (definitions name ≡ Some definition))
     ⊎ ((english : List ℕ) × (month name ≡ Some english))
 
--- whether a name is defined, or the first three letters of a month
+-- whether a name is defined, or is the first three letters of a month in any ASCII case
 abbrev pub is_known : Definitions → List ℕ → Bool
 is_known definitions name = is_some (definitions name) || is_some (month name)
 

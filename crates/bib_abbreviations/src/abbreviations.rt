@@ -52,8 +52,8 @@ pub(crate) struct Expansion<'m, 'f, 's> {
     pub(crate) is_verbatim: bool,
 }
 
-// The names that occurred, and their chunks in `values`. The chunks of a name are contiguous and include those of the
-// names in its definition. Neighbouring chunks of different pieces may stay unmerged.
+// The defined names that occurred, and their chunks in `values`. The chunks of a name are contiguous and include those of
+// the names in its definition. Neighbouring chunks of different pieces may stay unmerged.
 #[derive(Drop)]
 pub(crate) struct Memo<'s> {
     names: BTreeMap<&'s str, Progress>,
@@ -126,7 +126,7 @@ impl<'s> Memo<'s> {
         Ok(())
     }
 
-    // Appends copies of the chunks from `start` to `end`.
+    // Appends copies of the chunks from `start` to `end`, merged as by `append_copies`.
     fn repeat(&mut self, alloc: Global, start: usize, end: usize) -> Result<(), ParseError>
         requires ordered { start ≤ end }
         requires within { end ≤ length self.old.values.items }
@@ -290,7 +290,7 @@ impl<'m, 'f, 's> Expansion<'m, 'f, 's> {
         Ok(())
     }
 
-    // Appends the chunks of a name to the memo, or starts to expand it. A name that is being expanded is a cycle.
+    // Appends the chunks of a name to the memo, or starts to expand it. Returns an error if the name is being expanded.
     fn name(
         self,
         memo: &mut Memo<'s>,

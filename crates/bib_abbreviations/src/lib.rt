@@ -2,8 +2,9 @@
 //!
 //! A field consists of pieces: literals and names of abbreviations. `contents` of `bib_contents` parses each literal.
 //! `abbreviations` expands names without recursion. It has a stack of frames, each with the pieces of a definition that
-//! are left, and a memo of the names that occurred, with their chunks. A name in the memo that isn't done is a cycle.
-//! Each definition is parsed once, however often its name occurs, and the cost of a chain of names is that of its text.
+//! are left, and a memo of the defined names that occurred, with their chunks. If a name in the memo isn't done and occurs
+//! again, there is a cycle. Each definition is parsed at most once, however often its name occurs, and the cost of a chain
+//! of names is that of its text.
 //!
 //! `definitions` looks up the definition of a name, in the map of the caller of `parse_field` or in a sorted one. A
 //! `FieldReader` has a sorted one. It keeps two memos from field to field, one for verbatim fields and one for others,

@@ -15,9 +15,9 @@ use std::alloc::Global;
 use std::collections::BTreeMap;
 use std::marker::Model;
 
-/// Parses the contents of fields, one after another, with the same definitions of abbreviations. Each definition is
-/// expanded once for verbatim fields and once for others, however many fields use it, unless an error occurs. Contracts
-/// see the names that are defined, each with its definition.
+/// Parses the contents of fields, one after another, with the same definitions of abbreviations. Unless an error occurs,
+/// each definition is expanded at most once for verbatim fields and at most once for others. Contracts see the names that
+/// are defined, each with its definition.
 #[derive(Drop)]
 pub struct FieldReader<'f, 's> {
     alloc: Global,
@@ -52,7 +52,7 @@ impl<'f, 's> FieldReader<'f, 's> {
         }
     }
 
-    /// Returns whether a name is defined, or the first three letters of a month. Does not allocate.
+    /// Returns whether a name is defined, or is the first three letters of a month in any ASCII case. Does not allocate.
     pub fn knows(&self, name: &str) -> bool
         ensures { result ≡ is_known (given_by self.now) name.now }
     {

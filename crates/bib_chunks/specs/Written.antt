@@ -40,7 +40,7 @@ written_chunk (Math text) true = spelling true (chars text)
 written_chunk (Math text) false = chars text
 
 -- the text before a chunk; the flag says whether the braces around verbatim chunks are open. They open before a
--- verbatim chunk and close before a normal one. Math has a dollar sign before it and leaves the braces.
+-- verbatim chunk and close before a normal one. Math has a dollar sign before it and neither opens nor closes them.
 abbrev pub lead : Bool → Chunk → List ℕ
 lead true (Normal text) = char.close_brace ∷ []
 lead false (Normal text) = []

@@ -60,10 +60,10 @@ impl Chunk {
     /// Returns the text of the chunk as a file has it, without braces and dollar signs around it. `is_verbatim` says
     /// whether the field is a verbatim one.
     ///
-    /// Special characters are escaped, except in a math chunk outside verbatim fields. A command that the parser does
-    /// not know is plain text: `\emph{x}` is written `\\emph\{x\}`. Outside verbatim fields `~` is written
-    /// `\textasciitilde{}` and `^` is written `\textasciicircum{}`. The edits and `convert` of `bibkit` keep a file's
-    /// own text.
+    /// Braces and backslashes are escaped by a backslash, outside verbatim fields also `#`, `&`, `%`, `$` and `_`. There
+    /// `~` is written `\textasciitilde{}` and `^` is written `\textasciicircum{}`, but math is written unchanged. A
+    /// command that the parser does not know is plain text: `\emph{x}` is written `\\emph\{x\}`. The edits and `convert`
+    /// of `bibkit` keep a file's own text.
     ///
     /// The only error is out of memory.
     pub fn to_biblatex_string(&self, alloc: Global, is_verbatim: bool) -> Result<String, AllocError>

@@ -41,7 +41,7 @@ root_at roots index = slice_index_or roots index None
 abbrev pub AreRoots : Graph → List (Option ℕ) → Type 0
 AreRoots graph roots = (index root : ℕ) → root_at roots index ≡ Some root → Leads graph root index
 
--- each reference of `inside` is a reversed reference of `graph` between indices with the same root
+-- each reference of `inside` is a reversed reference of `graph` between indices with the same root or without a root
 pub record AreBackInside (graph : Graph) (roots : List (Option ℕ)) (inside : Graph) : Type 0 where
   pub same_length : length inside ≡ length graph
   pub in_range : IsInRange inside

@@ -61,8 +61,8 @@ fn next_unmarked(refs: &[usize], marks: &[bool], from: usize) -> Option<usize>
     None
 }
 
-// Returns the indices in the order in which a depth-first search leaves them. Only the speed of `search` and
-// `marks_on_cycles` depends on this order.
+// Returns the indices in the order in which a depth-first search leaves them. The speed of `marks_on_cycles` depends on
+// this order, but its result doesn't.
 fn post_order(alloc: Global, refs: &[Vec<usize>]) -> Result<Vec<usize>, AllocError>
     requires in_range { IsInRange (rows refs.now) }
     ensures { IfOk result (λ order. All (λ index. index < length refs.now) order.items) }
@@ -143,7 +143,7 @@ fn search(
     Ok(Searches { suspects, roots })
 }
 
-// Returns for each index the entries with the same root that refer to it.
+// Returns for each index the entries that refer to it and have the same root, or no root if it has none.
 fn waiting_lists_inside(
     alloc: Global,
     refs: &[Vec<usize>],

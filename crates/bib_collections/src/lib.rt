@@ -11,10 +11,10 @@
 //!
 //! An entry *leads* to another if a chain of one or more references goes from it to the other. If some entries are never
 //! done, `cycles` finds those on a cycle, which lead to themselves. A depth-first search against the direction of the
-//! references gives an order of entries. In this order, a search along the references starts at each entry without a mark.
-//! It marks the entries without a mark that the start leads to. The start is the root of these entries. A walk back from the
-//! root, among the entries with this root, finds those that lead to the root. Since the root leads to them, they lead to
-//! themselves.
+//! references leaves the entries in some order. In the reverse of this order, a search along the references starts at each
+//! entry without a mark. It marks the entries without a mark that the start leads to. The start is the root of these
+//! entries. A walk back from the root, among the entries with this root, finds those that lead to the root. Since the root
+//! leads to them, they lead to themselves.
 //!
 //! It isn't proved that these searches decide every entry, so a separate search would start from each undecided one. In all,
 //! this takes time linear in the number of references. No function is recursive.

@@ -12,7 +12,7 @@ use bib_chunks::joining::append;
 use bib_text::text::Text;
 use std::alloc::AllocError;
 
-// A chunk that isn't finished: its text, the number of braces open in it, and its start in bytes of the file.
+// A chunk that isn't finished: its text, the number of braces open around it, and its start in bytes of the file.
 #[derive(Drop)]
 pub(crate) struct OpenChunk {
     pub(crate) text: String,

@@ -62,7 +62,7 @@ literal_item text = record { parts = []; season = None; circa = false; literal =
 unfoldable pub digit : List ℕ → ℕ → ℕ
 digit text i = slice_index text i - char.zero
 
--- the year that the first four digits of a text write
+-- the year that the first four bytes of a text form as digits
 unfoldable pub first_year : List ℕ → ℕ
 first_year text = 1000 * digit text 0 + 100 * digit text 1 + 10 * digit text 2 + digit text 3
 

@@ -78,7 +78,7 @@ abbrev pub around : List (List ℕ) → List (List ℕ)
 around [] = []
 around (name ∷ names) = names
 
--- whether the innermost open brace is that of `\url`, in which a tilde isn't a non-breaking space
+-- whether the innermost open brace is that of `\url`, in which a tilde isn't a no-break space
 unfoldable pub is_address : List (List ℕ) → Bool
 is_address [] = false
 is_address (name ∷ names) = bytes_eq name (codes "url")

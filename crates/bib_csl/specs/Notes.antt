@@ -18,7 +18,7 @@ unfoldable pub tag_of : Language → List ℕ
 tag_of EnglishUK = codes "en-GB"
 tag_of language = (language_row language).tag
 
--- the tag of a language by a name that BibLaTeX has, but not the table of languages; nothing for other names
+-- the tag of a language for a name of BibLaTeX that the table of languages lacks; nothing for other names
 unfoldable pub tag_named : List ℕ → List ℕ
 tag_named name =
     if bytes_eq name (codes "acadian") then codes "fr-CA"

@@ -27,13 +27,13 @@ use Rattle.bib_csl.specs.Markup.{untied}
 use Rattle.bib_csl.specs.Names.{variable_name}
 use Rattle.bib_csl.specs.Texts.{field}
 
--- whether a chunk is in braces or empty
+-- whether a chunk is verbatim (in braces), or normal and empty
 abbrev pub is_braced : Chunk → Bool
 is_braced (Normal chars) = length chars == 0
 is_braced (Verbatim chars) = true
 is_braced (Math chars) = false
 
--- whether a name has no parts: it is in braces, or is the word `others`
+-- whether a name has no parts: it is empty, in braces, or the word `others`
 unfoldable pub is_literal : Value → Bool
 is_literal chunks = list_all (λ c. is_braced c.v) chunks || bytes_eq (text chunks) (codes "others")
 
@@ -75,7 +75,7 @@ says_nothing (Parts p) =
 unfoldable pub unless_empty : Name → List Name
 unless_empty name = if says_nothing name then [] else name ∷ []
 
--- the names of a list of people
+-- the names of a list of people, except empty ones
 unfoldable pub names_listed : Bool → Value → List Name
 names_listed uses_prefix chunks = flat_map (λ part. unless_empty (name_said uses_prefix part)) (and_list chunks)
 

@@ -22,7 +22,7 @@ unfoldable pub shown_field : Option Value → List ℕ
 shown_field None = []
 shown_field (Some chunks) = text chunks
 
--- a text in a tag that keeps its case in every style
+-- a text in a tag that keeps its case in every style; an empty text has no tag
 unfoldable pub keeping_case : List ℕ → List ℕ
 keeping_case text = if length text == 0 then [] else codes "<span class=\"nocase\">" ++ (text ++ codes "</span>")
 

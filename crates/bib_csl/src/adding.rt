@@ -12,7 +12,7 @@ use bib_entry::entry::Entry;
 use bib_text::items::Items;
 use std::alloc::{AllocError, Global};
 
-// Appends a variable with the plain text of a field.
+// Appends a variable with the plain text of a field, unless it is empty.
 pub(crate) fn add_plain(
     alloc: Global,
     variable: Variable,
@@ -25,7 +25,7 @@ pub(crate) fn add_plain(
     add_text(fields, variable, texts::plain_text(alloc, entry, name)?)
 }
 
-// Appends a variable with the text of a title, with HTML tags.
+// Appends a variable with the text of a title, with HTML tags, unless it is empty.
 pub(crate) fn add_title(
     alloc: Global,
     variable: Variable,
@@ -38,7 +38,7 @@ pub(crate) fn add_title(
     add_text(fields, variable, texts::title_text(alloc, entry, name)?)
 }
 
-// Appends a variable with the text of a field, with HTML tags.
+// Appends a variable with the text of a field, with HTML tags, unless it is empty.
 pub(crate) fn add_rich(
     alloc: Global,
     variable: Variable,
@@ -51,7 +51,8 @@ pub(crate) fn add_rich(
     add_text(fields, variable, texts::rich_text(alloc, entry, name)?)
 }
 
-// Appends a variable with the text of the field `name`, or of the field `other` if that is missing, with HTML tags.
+// Appends a variable with the text of the field `name`, or of the field `other` if that is missing, with HTML tags. Appends
+// nothing if the text is empty.
 pub(crate) fn add_rich_or(
     alloc: Global,
     variable: Variable,

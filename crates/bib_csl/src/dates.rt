@@ -123,7 +123,7 @@ fn digit(text: &[u8], i: usize) -> u32
     text[i].saturating_sub(b'0') as u32
 }
 
-// Returns the year that the first four digits of a text write.
+// Returns the year that the first four bytes of a text form as digits.
 #[tactic(auto, unfolding(crate::specs::Dates::first_year))]
 fn first_year(text: &[u8]) -> i32
     requires { 3 < length text.now }
@@ -269,8 +269,8 @@ fn one_field_item(alloc: Global, chunks: ChunksRef<'_>) -> Result<Option<ItemDat
     unread(alloc, shown(alloc, chunks)?)
 }
 
-// Returns the date of an item for a year, and the month and the day if they are given. If they can't be parsed, its text is the month and
-// the year.
+// Returns the date of an item for a year, and the month and the day if they are given. If they can't be parsed, it is the date
+// for the text of the month and the year, which can be a season.
 #[tactic(auto, unfolding(crate::specs::Dates::three_fields_item, crate::specs::Dates::read_or_unread))]
 fn three_fields_item(
     alloc: Global,

@@ -9,13 +9,13 @@ ghost use Rattle.bib_csl.specs.Items.{item_of_entry, type_of_entry};
 ghost use Rattle.bib_csl.specs.Json.{content_json, json_of};
 ghost use Rattle.bib_csl.specs.Names.{item_type_name, variable_name};
 
-/// The JSON of the item of an entry has each variable of the item under its name, with its content.
+/// States that the JSON of the item of an entry has each variable of the item under its name, with its content.
 pub fn variables_are_found()
     ensures { (entry : AnEntry) → AllByRecursion (λ f. get (variable_name f.variable) (json_of (item_of_entry entry))
         ≡ Some (content_json f.content)) (item_of_entry entry).fields }
 {}
 
-/// The JSON of the item of an entry has the key of the entry as `id`, and the name of the item's type as `type`.
+/// States that the JSON of the item of an entry has the key of the entry as `id`, and the name of the item's type as `type`.
 pub fn key_and_type_are_found()
     ensures key { (entry : AnEntry) → get (codes "id") (json_of (item_of_entry entry)) ≡ Some (string entry.key) }
     ensures type_of { (entry : AnEntry) → get (codes "type") (json_of (item_of_entry entry))

@@ -30,7 +30,7 @@ fn tag_of(language: Language) -> &'static str
     }
 }
 
-// Returns the tag of a language by a name that BibLaTeX has, but not the table of languages. Returns an empty text for other names.
+// Returns the tag of a language for a name of BibLaTeX that the table of languages lacks, or an empty text for other names.
 #[tactic(auto, unfolding(crate::specs::Notes::tag_named))]
 fn tag_named(name: &str) -> &'static str
     ensures { result.now ≡ spec.tag_named name.now }

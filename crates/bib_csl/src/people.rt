@@ -25,7 +25,7 @@ use bib_text::text::Text;
 use bib_values::enums::read_editor_type;
 use std::alloc::{AllocError, Global};
 
-// Returns whether a chunk is in braces or empty.
+// Returns whether a chunk is verbatim (in braces), or normal and empty.
 fn is_braced(chunk: &Chunk) -> bool
     ensures { result ≡ spec.is_braced chunk.now }
 {
@@ -36,7 +36,7 @@ fn is_braced(chunk: &Chunk) -> bool
     }
 }
 
-// Returns whether all chunks are in braces or empty.
+// Returns whether each chunk is verbatim, or normal and empty.
 fn is_all_braced(chunks: ChunksRef<'_>) -> bool
     ensures { result ≡ list_all (λ c. spec.is_braced c.v) chunks.now }
 {
@@ -77,7 +77,7 @@ fn parts_with(alloc: Global, uses_prefix: bool, person: Person) -> Result<NamePa
     })
 }
 
-// Returns whether a name has no parts: it is in braces, or is the word `others`.
+// Returns whether a name has no parts: it is empty, in braces, or the word `others`.
 #[tactic(auto, unfolding(crate::specs::People::is_literal))]
 fn is_literal(alloc: Global, chunks: ChunksRef<'_>) -> Result<bool, AllocError>
     ensures { IfOk result (λ literal. literal ≡ spec.is_literal chunks.now) }
@@ -134,7 +134,7 @@ fn add_unless_empty(names: &mut Items<Name>, name: Name) -> Result<(), AllocErro
     Ok(())
 }
 
-// Appends the names of a list of people.
+// Appends the names of a list of people, except empty ones.
 #[tactic(auto, unfolding(crate::specs::People::names_listed))]
 fn add_names_in(
     alloc: Global,
@@ -277,7 +277,7 @@ fn editors_under(
     Ok(names)
 }
 
-// Returns whether an entry has editors. Without editors, all variables for them are empty.
+// Returns whether an entry has a field for editors. Without such a field, all variables for editors are empty.
 fn has_editors(entry: &Entry) -> bool
     ensures { result ≡ false → ((v : AnyVariable) → spec.editors_under v entry.now ≡ []) }
 {

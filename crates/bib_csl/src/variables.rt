@@ -76,7 +76,7 @@ pub enum Variable {
     Title,
     /// The abbreviated title.
     TitleShort,
-    /// The title of the volume, in a work of several.
+    /// The title of the volume, in a work of several volumes.
     VolumeTitle,
     /// The title of the container: the journal or book that contains the work.
     ContainerTitle,

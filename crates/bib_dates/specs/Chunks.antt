@@ -25,7 +25,7 @@ AnswersReading reading result = IsReadAs (λ value. value) (readable_value readi
 abbrev pub date_reading : Value → Reading Date
 date_reading chunks = date_of (text chunks)
 
--- the date that the formatted text of chunks is, if it is one
+-- the date parsed from the formatted text of chunks, if it can be parsed
 abbrev pub date_read : Value → Option Date
 date_read chunks = readable_value (date_reading chunks)
 

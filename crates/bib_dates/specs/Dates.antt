@@ -67,8 +67,8 @@ unknowns text = prefix_len (λ b. b == char.upper_x) text
 abbrev pub after_unknowns : List ℕ → List ℕ
 after_unknowns text = after_run (λ b. b == char.upper_x) text
 
--- all months of a year, given the text after `XX` for the month. That is white space only or nothing, or hyphens, `XX` and a text that
--- doesn't begin with `X`.
+-- all months of a year, given the text after `XX` for the month. That is empty or only white space, or hyphens, `XX`
+-- and a text that doesn't begin with `X`.
 unfoldable pub all_months : ℕ → List ℕ → Reading DateValue
 all_months y text =
     if length (trim_start text) == 0 then says (months y)

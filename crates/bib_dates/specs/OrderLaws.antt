@@ -30,7 +30,7 @@ alone_equal : (same : Bool) → Decides same (if_equal same ≡ Some Equal)
 alone_equal true = (λ h. refl, λ h. refl)
 alone_equal false = (λ h. cc, λ h. cc)
 
--- equal or not comparable, by an equivalence, is a partial order
+-- an order in which two values are equal, by an equivalence, or not comparable is a partial order
 pub alone_po : {K : Type 0} (E : K → K → Bool) → IsEquivalence E → IsPartialOrder E (λ x y. if_equal (E x y))
 alone_po E e = record {
   antisymm = λ x y. ap if_equal (e.symm x y) ∙ alone_back (E y x);

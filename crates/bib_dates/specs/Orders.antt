@@ -65,7 +65,7 @@ abbrev pub same_time : Time → Time → Bool
 same_time a b = nat_eq a.hour b.hour && (nat_eq a.minute b.minute && (nat_eq a.second b.second && option_eq same_offset a.offset b.offset))
 
 -- the order of times: by their seconds if both have an offset or both have none. Times with the same seconds are equal
--- or not comparable.
+-- or not comparable. A time with an offset and one without are not comparable.
 abbrev pub time_cmp : Time → Time → Option Ordering
 time_cmp a b =
     partial_ordering_then (if_equal (beq (is_some a.offset) (is_some b.offset)))

@@ -46,11 +46,11 @@ begins_with byte text = slice_index text 0 == byte
 abbrev pub after_byte : ℕ → List ℕ → Reading (List ℕ)
 after_byte byte text = if begins_with byte text then says (drop 1 text) else unread
 
--- the text after a colon and the white space before that
+-- the text after white space and a colon at the start
 abbrev pub after_colon : List ℕ → Reading (List ℕ)
 after_colon text = after_byte char.colon (trim_start text)
 
--- the text after a run of hyphens and the white space before that
+-- the text after white space and a run of hyphens at the start
 unfoldable pub after_hyphens : List ℕ → Reading (List ℕ)
 after_hyphens text = do
   rest ← after_byte char.hyphen (trim_start text)

@@ -41,7 +41,7 @@ IsDateKind YearZeroCE = ⊤
 IsDateKind other = ⊥
 
 -- the kinds that a date's error may have if the definition specifies none: a number or the format is wrong. So the
--- error is never one of the other four: an open range, a month or a day out of range, or the year 0
+-- error is never one of the other four: a range open on both sides, a month or a day out of range, or the year 0
 abbrev pub IsUnreadKind : TypeErrorKind → Type 0
 IsUnreadKind InvalidNumber = ⊤
 IsUnreadKind MissingNumber = ⊤

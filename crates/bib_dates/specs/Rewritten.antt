@@ -8,10 +8,10 @@ use Rattle.bib_dates.specs.Dates.{date_of}
 use Rattle.bib_dates.specs.ThreeFields.{three_fields_of}
 use Rattle.bib_dates.specs.Written.{date_text}
 
--- the text of the date that a text is, if it can be parsed
+-- the text of the date parsed from a text, if it can be parsed
 abbrev pub rewritten_date : List ℕ → Option (List ℕ)
 rewritten_date text = option_map date_text (readable_value (date_of text))
 
--- the text of the date that a year, a month and a day are, if they can be parsed
+-- the text of the date parsed from a year, a month and a day, if they can be parsed
 abbrev pub rewritten_three_fields : List ℕ → Option (List ℕ) → Option (List ℕ) → Option (List ℕ)
 rewritten_three_fields year month day = option_map date_text (readable_value (three_fields_of year month day))

@@ -83,7 +83,8 @@ month_named word = option_map month_index (month_of_word word)
 abbrev pub named_month : List ℕ → Parsed (Option ℕ)
 named_month text = says (month_named (run is_ascii_alphabetic text), after_run is_ascii_alphabetic text)
 
--- the month field: one or two digits, otherwise a run of letters; and the text after it
+-- the month field: one or two digits, otherwise the letters after any number of digits; and the text after it. Letters
+-- that name no month aren't an error.
 unfoldable pub month_field : List ℕ → Parsed (Option ℕ)
 month_field text =
     let here = trim_start text in

@@ -11,7 +11,7 @@ use Rattle.bib_dates.specs.Readings.Reading.{says, unread}
 use Rattle.bib_dates.specs.Parts.{small_number, begins_with, after_byte, after_colon}
 use Rattle.bib_text.specs.Characters as char
 
--- the minutes of an offset, after its hours; text after them is ignored
+-- the minutes of an offset, given the text after its hours: 0 if that is empty. Text after the minutes is ignored.
 unfoldable pub offset_minute : List ℕ → Reading ℕ
 offset_minute [] = says 0
 offset_minute text = do
@@ -26,7 +26,7 @@ signed_offset positive text = do
   minutes ← offset_minute (trim_start hours.1)
   says (Some (Offset positive hours.0 minutes))
 
--- an offset: `Z`, after which any text may come, or a sign and hours, and optional minutes
+-- an optional offset: nothing, `Z` and any text after it, or a sign, hours and optional minutes
 unfoldable pub offset : List ℕ → Reading (Option TimeOffset)
 offset text =
     if length text == 0 then says None

@@ -10,7 +10,7 @@ use Rattle.bib_dates.specs.declared.date.DateValue.TheVariants.{At, After, Befor
 use Rattle.bib_dates.specs.declared.date.Datetime.{Datetime}
 use Rattle.bib_text.specs.Characters as char
 
--- the zeros before a number that has at least so many digits with them
+-- the zeros before a number that has fewer than `width` digits, so that it has `width` with them
 abbrev pub zeros : ℕ → ℕ → List ℕ
 zeros width n = replicate (width - length (decimal n)) char.zero
 

@@ -65,7 +65,9 @@ impl Date {
     }
 
     /// Parses the formatted texts of a year, a month and a day as a date. An era may come after the year, and the month
-    /// may be a name. If there is no day field, the day may come after the month. Without a month, the day is ignored.
+    /// may be a name. Text that is neither a number of one or two digits nor such a name isn't an error: the month is
+    /// then `None`. If there is no day field, the day may come after the month. Without a month field, the day field is
+    /// ignored.
     ///
     /// An error other than out of memory has the span of its field. For a day after the month, it has that of the
     /// digits, in bytes of the month's text. The kind is `MonthOutOfRange` if there is no such month. It is

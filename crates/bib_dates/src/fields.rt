@@ -1,4 +1,5 @@
-// The parser of a date in three fields: each function parses one part at the start of a text, and returns it with the rest.
+// The parser of a date in three fields. A function parses one part at the start of a text. If another part may come
+// after it, the function returns the rest too.
 
 ghost use Rattle.std.specs.Prelude.{◌≡◌, ◌<◌, ◌&&◌, ◌==◌, not, nat_lt, length, is_some, IfSome, drop, codes};
 ghost use Rattle.std.specs.List.{prefix_len};
@@ -92,7 +93,7 @@ fn with_era(has_sign: bool, is_minus: bool, n: u16, text: &str) -> Result<i32, R
     Ok(with_sign(is_minus, n))
 }
 
-// Parses the year field.
+// Parses the year field: an optional sign, one to four digits and an optional era. Other text after them is ignored.
 #[tactic(auto, unfolding(crate::specs::ThreeFields::year_field))]
 pub(crate) fn year_field(text: &str) -> Result<i32, ReadError>
     ensures { reading result ≡ Spec.year_field text.now }

@@ -43,8 +43,8 @@ pub fn times_go_by_their_seconds()
     ensures alone { (a b : ATime) → is_some a.offset ≢ is_some b.offset → time_cmp a b ≡ None }
 {}
 
-/// States that the order of times is a strict partial order: no time is earlier than itself, and a time before an
-/// earlier one is earlier. Times compare as `Equal` exactly if they are equal.
+/// States that the order of times is a strict partial order. No time is earlier than itself. If `a` is earlier than `b`
+/// and `b` is earlier than `c`, then `a` is earlier than `c`. Times compare as `Equal` exactly if they are equal.
 pub fn times_are_ordered()
     ensures itself { (a : ATime) → time_cmp a a ≢ Some Less }
     ensures through { (a b c : ATime) → time_cmp a b ≡ Some Less → time_cmp b c ≡ Some Less →
@@ -52,7 +52,7 @@ pub fn times_are_ordered()
     ensures equal { (a b : ATime) → (time_cmp a b ≡ Some Equal) ↔ (a ≡ b) }
 {}
 
-/// States the same for dates.
+/// States for dates what `times_are_ordered` states for times.
 pub fn dates_are_ordered()
     ensures itself { (a : ADatetime) → datetime_cmp a a ≢ Some Less }
     ensures through { (a b c : ADatetime) → datetime_cmp a b ≡ Some Less →

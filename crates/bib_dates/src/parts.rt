@@ -126,14 +126,14 @@ pub(crate) fn after_byte(text: &str, byte: u8, reason: UnspecifiedKind) -> Resul
     }
 }
 
-// Returns the text after a colon and the white space before that.
+// Skips white space and a colon, and returns the text after them. If there is no colon, the error is `InvalidFormat`.
 pub(crate) fn after_colon(text: &str) -> Result<&str, ReadError>
     ensures { rest result ≡ Spec.after_colon text.now }
 {
     after_byte(text.trim_start(), b':', UnspecifiedKind::InvalidFormat)
 }
 
-// Returns the text after a run of hyphens and the white space before that. If there is no hyphen, the error is
+// Skips white space and a run of hyphens, and returns the text after them. If there is no hyphen, the error is
 // `reason`.
 #[tactic(auto, unfolding(crate::specs::Parts::after_hyphens))]
 pub(crate) fn after_hyphens(text: &str, reason: UnspecifiedKind) -> Result<&str, ReadError>
@@ -144,7 +144,7 @@ pub(crate) fn after_hyphens(text: &str, reason: UnspecifiedKind) -> Result<&str,
     Ok(following)
 }
 
-// Returns whether the text begins with a minus, and the text after a sign.
+// Returns whether the text begins with a minus, and the text after a sign at the start, if there is one.
 #[tactic(auto, unfolding(crate::specs::Parts::sign))]
 pub(crate) fn sign(text: &str) -> (bool, &str)
     ensures minus { result.0 ≡ (Spec.sign text.now).0 }

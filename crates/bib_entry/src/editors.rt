@@ -28,7 +28,7 @@ impl Entry {
         Ok(editors)
     }
 
-    // Appends the people of the field `people`, with the role in the field `role`.
+    // Appends the people of the field `people`, if the entry has it, with the role in the field `role`.
     fn add_editors(
         &self,
         alloc: Global,

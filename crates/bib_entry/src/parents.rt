@@ -32,7 +32,7 @@ pub fn has_references(entry: &Entry) -> bool
 }
 
 impl Entry {
-    /// Returns the names of the entries that this entry belongs to: the text of `crossref`, and then the items of the
+    /// Returns the keys of the entries that this entry belongs to: the text of `crossref`, and then the items of the
     /// comma-separated list `xref`. The only error is out of memory.
     pub fn parents(&self, alloc: Global) -> Result<Vec<String>, TypeError>
         ensures parents { IfOk result (λ names.

@@ -37,9 +37,12 @@ impl Report {
 impl Entry {
     /// Reports the problems of the entry. `missing` contains the fields that its type requires and it lacks, and
     /// `superfluous` those that its type forbids and it has. `malformed` contains the fields that can't be parsed as values
-    /// of their types. A required field without chunks is missing. It may also occur under its other name: `journal` for
-    /// `journaltitle`, `address` for `location`, and `institution` for `school`. Authors, editors, pages, a chapter and a date
-    /// aren't missing if their fields exist, even without chunks. The only error is out of memory.
+    /// of their types. A date in three fields has the name of the single field there, such as `date`.
+    ///
+    /// A required field without chunks is missing. It may also occur under its other name: `journal` for `journaltitle`,
+    /// `address` for `location`, and `institution` for `school`. Authors, editors, pages, a chapter and a date aren't missing
+    /// if their fields exist, even without chunks. A forbidden field without chunks isn't superfluous, except for `author`,
+    /// `pages` and `chapter`. The only error is out of memory.
     pub fn verify(&self, alloc: Global) -> Result<Report, AllocError>
         ensures missing { IfOk result (λ report. texts report.missing.items ≡ missing_of self.now) }
         ensures superfluous { IfOk result (λ report. texts report.superfluous.items ≡

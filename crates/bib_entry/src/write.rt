@@ -174,7 +174,8 @@ fn write_fields(
     Ok(())
 }
 
-/// Appends an entry to `out`, in the types and fields of `dialect`.
+/// Appends an entry to `out`, in the types and fields of `dialect`. The only error is out of memory. A part of the entry may
+/// then be appended.
 pub fn write_entry(
     alloc: Global,
     out: &mut String,

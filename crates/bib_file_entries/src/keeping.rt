@@ -39,8 +39,8 @@ pub struct KeptEntries {
     pub spans: Vec<Span>,
     /// The index of each entry among the raw entries of the file.
     pub origins: Vec<usize>,
-    /// The errors in the order of the file: one for each undefined abbreviation, and one for each field and entry that is
-    /// left out.
+    /// The errors, in the order of the entries and of their fields: one for each undefined abbreviation, and one for each
+    /// field and entry that is left out. For a field that is left out, those of its abbreviations come first.
     pub errors: Vec<ParseError>,
 }
 

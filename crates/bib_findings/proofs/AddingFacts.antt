@@ -14,13 +14,14 @@ use Rattle.bib_entry.specs.declared.entry.Entry.{Entry}
 use Rattle.bib_tables.specs.Requirements.{Names}
 use Rattle.bib_syntax.specs.Reading.{EntryReading}
 use Rattle.bib_findings.specs.Adding.{Adds}
-use Rattle.bib_findings.specs.Demands.{missing_fields}
 use Rattle.bib_findings.specs.Entries.{AreOfEach, field_finding}
-use Rattle.bib_findings.specs.Reported.{AreOfReport, is_reported_field, malformed_finding, malformed_findings, report_findings, superfluous_fields}
+use Rattle.bib_findings.specs.Reported.{AreOfReport, is_reported_field, malformed_finding, malformed_findings, report_findings, reported_missing, superfluous_fields}
 use Rattle.bib_findings.specs.Types.{AreOfType}
+use Rattle.bib_findings.specs.Cuts.{is_cut, whole_among}
 use Rattle.bib_findings.specs.Duplicates.{duplicates, entries_at}
-use Rattle.bib_findings.specs.Findings.{AreBetween, AreFindingsIn, AreOfEntry, AreSortedByPlace}
+use Rattle.bib_findings.specs.Findings.{AreBetween, AreFindingsIn, AreOfEntry, AreSortedByPlace, single_findings}
 use Rattle.bib_findings.specs.Foreign.{foreign_findings}
+use Rattle.bib_findings.specs.KeyCases.{case_findings}
 use Rattle.bib_findings.specs.References.{AreReferences}
 use Rattle.bib_collections.specs.Sorted.{ByText}
 use Rattle.bib_findings.specs.Errors.{block_finding, error_finding}
@@ -74,6 +75,13 @@ added_thrice : (old one two new a b c : List Finding) → one ≡ old ++ a → t
 added_thrice old one two new a b c first second third =
     third ∙ ap (λ l. l ++ c) (second ∙ ap (λ l. l ++ b) first) ∙ append_assoc (old ++ a) b c ∙ append_assoc old a (b ++ c)
 
+-- appending four lists in turn appends their concatenation
+pub added_four_times : (old one two three new a b c d : List Finding) → one ≡ old ++ a → two ≡ one ++ b → three ≡ two ++ c
+    → new ≡ three ++ d → new ≡ old ++ (a ++ (b ++ (c ++ d)))
+added_four_times old one two three new a b c d first second third fourth =
+    added_thrice one two three new b c d second third fourth ∙ ap (λ l. l ++ (b ++ (c ++ d))) first
+    ∙ append_assoc old a (b ++ (c ++ d))
+
 -- the findings of the three parts of a report
 abbrev parts : EntryReading → Names → Names → List (List ℕ × TypeError) → List Finding
 parts said missing superfluous errors =
@@ -81,28 +89,29 @@ parts said missing superfluous errors =
     ++ (map (field_finding said SuperfluousField (codes "superfluous")) superfluous ++ malformed_findings said errors)
 
 -- appending the findings of the three parts of a report adds the findings of the report
-pub report_added : {E U : Type 0} (said : EntryReading) (entry : Entry) (missing : Names)
+pub report_added : {E U : Type 0} (cut : Bool) (said : EntryReading) (entry : Entry) (missing : Names)
     (errors listed : List (List ℕ × TypeError)) (old one two new : List Finding) (r : Result U E)
-    → missing ≡ missing_fields said entry → errors ≡ listed → AreMalformed entry listed
+    → missing ≡ reported_missing cut said entry → errors ≡ listed → AreMalformed entry listed
     → one ≡ old ++ map (field_finding said MissingField (codes "missing")) missing
     → two ≡ one ++ map (field_finding said SuperfluousField (codes "superfluous")) (superfluous_fields entry)
-    → OnOk r (new ≡ two ++ malformed_findings said errors) → OnOk r (Adds (AreOfReport said entry) old new)
-report_added said entry missing errors listed old one two new (Ok u) lacks same_errors malformed first second third = record {
-  added = report_findings said entry listed;
+    → OnOk r (new ≡ two ++ malformed_findings said errors) → OnOk r (Adds (AreOfReport cut said entry) old new)
+report_added cut said entry missing errors listed old one two new (Ok u) lacks same_errors malformed first second third = record {
+  added = report_findings cut said entry listed;
   are = record { errors = listed; malformed = malformed; are = refl };
   new_is =
       added_thrice old one two new _ _ _ first second third
       ∙ ap (λ names. old ++ parts said names (superfluous_fields entry) errors) lacks
-      ∙ ap (λ all. old ++ parts said (missing_fields said entry) (superfluous_fields entry) all) same_errors;
+      ∙ ap (λ all. old ++ parts said (reported_missing cut said entry) (superfluous_fields entry) all) same_errors;
 }
-report_added said entry missing errors listed old one two new (Err x) lacks same_errors malformed first second third = tt
+report_added cut said entry missing errors listed old one two new (Err x) lacks same_errors malformed first second third = tt
 
--- appending the finding of a type, those of a report and those of unknown fields in turn adds the findings of the entry
-pub entry_added : {E U : Type 0} (said : EntryReading) (entry : Entry) (old one two new : List Finding) (r : Result U E)
-    → Adds (AreOfType said) old one → Adds (AreOfReport said entry) one two
-    → OnOk r (Adds (AreOfUnknown said) two new) → OnOk r (Adds (AreOfEntry said entry) old new)
-entry_added said entry old one two new (Ok u) first second third = record {
-  added = first.added ++ (second.added ++ third.added);
+-- appending the finding of a type, those of a report, those of unknown fields and those of single fields in turn adds the findings of the
+-- entry
+pub entry_added : {E U : Type 0} (cut : Bool) (said : EntryReading) (entry : Entry) (old one two three new : List Finding) (r : Result U E)
+    → Adds (AreOfType said) old one → Adds (AreOfReport cut said entry) one two → Adds (AreOfUnknown said) two three
+    → OnOk r (new ≡ three ++ single_findings cut said entry) → OnOk r (Adds (AreOfEntry cut said entry) old new)
+entry_added cut said entry old one two three new (Ok u) first second third fourth = record {
+  added = first.added ++ (second.added ++ (third.added ++ single_findings cut said entry));
   are = record {
     of_type = first.added;
     type = first.are;
@@ -112,9 +121,11 @@ entry_added said entry old one two new (Ok u) first second third = record {
     unknown = third.are;
     are = refl;
   };
-  new_is = added_thrice old one two new first.added second.added third.added first.new_is second.new_is third.new_is;
+  new_is =
+      added_four_times old one two three new first.added second.added third.added (single_findings cut said entry) first.new_is
+      second.new_is third.new_is fourth;
 }
-entry_added said entry old one two new (Err x) first second third = tt
+entry_added cut said entry old one two three new (Err x) first second third fourth = tt
 
 -- the findings of entries, followed by those of one more entry, are the findings of all of them
 each_more : (Are : EntryReading → Entry → List Finding → Type 0) (said : List EntryReading) (indices : List ℕ)
@@ -178,26 +189,32 @@ added_in_order none one two three new a b c d empty first second third fourth =
     let start : one ≡ a = first ∙ ap (λ l. l ++ a) empty in
     added_thrice one two three new b c d second third fourth ∙ ap (λ l. l ++ (b ++ (c ++ d))) start
 
--- appending the findings of references, of likely duplicates and of foreign fields in turn to an empty list makes those between entries
-pub between_are : (names : ByText ℕ) (said : List EntryReading) (origins : List ℕ) (own : List Entry) (none one two new : List Finding)
-    → none ≡ [] → Adds (AreOfEach (AreReferences names) said origins own) none one
-    → two ≡ one ++ duplicates (entries_at said origins) → new ≡ two ++ foreign_findings (entries_at said origins)
-    → AreBetween names said origins own new
-between_are names said origins own none one two new empty references alike foreign = record {
+-- appending the findings of references, of likely duplicates, of keys and of foreign fields in turn to an empty list makes those between
+-- entries
+pub between_are : (skipped : List SkippedBlock) (names : ByText ℕ) (said : List EntryReading) (origins : List ℕ) (own : List Entry)
+    (whole : List EntryReading) (none one two three new : List Finding)
+    → whole ≡ whole_among skipped (entries_at said origins)
+    → none ≡ [] → Adds (AreOfEach (AreReferences names) said origins own) none one → two ≡ one ++ duplicates whole
+    → three ≡ two ++ case_findings (entries_at said origins) → new ≡ three ++ foreign_findings (entries_at said origins)
+    → AreBetween skipped names said origins own new
+between_are skipped names said origins own whole none one two three new are_whole empty references alike cases foreign = record {
   of_keys = references.added;
   keys = references.are;
   are =
-      added_thrice none one two new references.added (duplicates (entries_at said origins)) (foreign_findings (entries_at said origins))
-      references.new_is alike foreign
-      ∙ ap (λ l. l ++ (references.added ++ (duplicates (entries_at said origins) ++ foreign_findings (entries_at said origins)))) empty;
+      added_in_order none one two three new references.added (duplicates whole) (case_findings (entries_at said origins))
+      (foreign_findings (entries_at said origins)) empty references.new_is alike cases foreign
+      ∙ ap
+      (λ l.
+      references.added ++ (duplicates l ++ (case_findings (entries_at said origins) ++ foreign_findings (entries_at said origins))))
+      are_whole;
 }
 
 -- the sorted findings of all parts are the findings of the recovered file
 pub sorted_are : {E : Type 0} (skipped : List SkippedBlock) (errors : List ParseError) (said : List EntryReading)
     (origins : List ℕ) (entries : List Entry) (between of_entries all : List Finding)
     (r : Result (Vec Finding Global) E)
-    → AreOfEach AreOfEntry said origins entries of_entries
-    → all ≡ map block_finding skipped ++ (map error_finding errors ++ (of_entries ++ between))
+    → AreOfEach (λ one. AreOfEntry (is_cut skipped one) one) said origins entries of_entries
+    → all ≡ map (block_finding said) skipped ++ (map error_finding errors ++ (of_entries ++ between))
     → IfOk r (λ sorted. AreSortedByPlace all sorted.items)
     → IfOk r (λ found. AreFindingsIn skipped errors said origins entries between found.items)
 sorted_are skipped errors said origins entries between of_entries all (Ok found) reports are sorted = record {

@@ -7,9 +7,14 @@ use Rattle.std.proofs.lemmas.List.Folds.{list_any-append}
 use Rattle.std.proofs.lemmas.List.Sums.{sum_by-append}
 use Rattle.std.proofs.lemmas.Slice.Eq.{bytes_eq-Decides}
 use Rattle.bib_syntax.specs.Reading.{FieldReading}
-use Rattle.bib_findings.specs.Counted.{count_of, counts, firsts_after, if_first, lowercase_name, one_field_more}
-use Rattle.bib_findings.specs.Foreign.{have_one_name, most_counted}
+use Rattle.bib_findings.specs.After.{each_after}
+use Rattle.bib_findings.specs.Counted.{count_of, counts, lowercase_name, one_field_more}
+use Rattle.bib_findings.specs.Foreign.{have_one_name, if_first, most_counted}
 use Rattle.bib_findings.proofs.ListFacts.{any_of_map}
+
+-- the first fields with each name after some earlier ones
+abbrev firsts_after : List FieldReading → List FieldReading → List FieldReading
+firsts_after = each_after if_first
 
 -- a count with one field more if the field has its name
 abbrev pub raised : FieldReading → FieldReading × ℕ → FieldReading × ℕ

@@ -1,4 +1,4 @@
--- The fields that findings name for the demands that an entry doesn't meet.
+-- The fields that findings name for the requirements that an entry doesn't meet.
 use Rattle.std.proofs.Common.{◌≡◌, Bool, not, List, [], ◌++◌, map, sym, ap, ◌∙◌}
 use Rattle.std.specs.List.{filter}
 use Rattle.std.proofs.lemmas.List.{map-append}
@@ -8,7 +8,7 @@ use Rattle.bib_syntax.specs.Reading.{EntryReading}
 use Rattle.bib_tables.specs.Requirements.{Names}
 use Rattle.bib_findings.specs.Demands.{date_demand, demanded_field, demands_of, is_met, missing_fields, unmet_fields}
 
--- the fields for the unmet ones of two lists of demands
+-- the fields for the unmet ones of two lists of requirements
 unmet-append : (said : EntryReading) (entry : Entry) (demands others : List Names)
     → unmet_fields said entry (demands ++ others) ≡ unmet_fields said entry demands ++ unmet_fields said entry others
 unmet-append said entry demands others =
@@ -16,7 +16,7 @@ unmet-append said entry demands others =
     ap (map demanded_field) (filter-append unmet demands others)
     ∙ map-append demanded_field (filter unmet demands) (filter unmet others)
 
--- the fields for all demands are those for the demands of the type and then that for a date
+-- the fields for all requirements are those for the requirements of the type and then that for a date
 pub unmet_in_turn : (said : EntryReading) (entry : Entry) (none first all : Names) (demands dates : List Names)
     → none ≡ [] → first ≡ none ++ unmet_fields said entry demands → all ≡ first ++ unmet_fields said entry dates
     → demands ≡ demands_of said.kind.text → dates ≡ date_demand said.kind.text → all ≡ missing_fields said entry

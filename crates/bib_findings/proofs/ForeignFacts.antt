@@ -1,7 +1,7 @@
 -- The findings of fields that other programs write for themselves.
-use Rattle.std.proofs.Common.{◌≡◌, ℕ, Bool, true, false, List, [], ◌∷◌, ◌++◌, ◌+◌, ◌<◌, ◌≤◌, length, get_or, map, take, Some, refl, sym, ap, ◌∙◌, append_assoc, append-nil, subst, cond}
+use Rattle.std.proofs.Common.{◌≡◌, ℕ, true, false, List, [], ◌∷◌, ◌++◌, ◌+◌, ◌<◌, ◌≤◌, length, get_or, map, take, Some, refl, sym, ap, ◌∙◌, append_assoc, append-nil, subst, cond}
 use Rattle.std.specs.Prelude.{slice_get}
-use Rattle.std.specs.List.{All, filter, flat_map, list_any}
+use Rattle.std.specs.List.{All, filter, flat_map}
 use Rattle.std.proofs.lemmas.Grind.{flat_map-append}
 use Rattle.std.proofs.lemmas.List.{map_more, take_all, take_more}
 use Rattle.std.proofs.lemmas.List.Elements.{All-get_or, filter-append}
@@ -10,9 +10,9 @@ use Rattle.bib_syntax.specs.Reading.{EntryReading, FieldReading}
 use Rattle.bib_syntax.specs.Views.{entry_reading_of, field_of}
 use Rattle.bib_syntax.specs.declared.raw.Pair.{Pair}
 use Rattle.bib_syntax.specs.declared.raw.RawEntry.{RawEntry}
-use Rattle.bib_findings.specs.Counted.{AreFieldsCounted, CountsMore, count_of, counted_finding, counted_of, firsts_after}
+use Rattle.bib_findings.specs.Counted.{AreFieldsCounted, CountsMore, count_of, counted_finding, counted_of}
 use Rattle.bib_findings.specs.Duplicates.{entries_at}
-use Rattle.bib_findings.specs.Foreign.{foreign_after, foreign_among, foreign_finding, foreign_findings, have_one_name, is_foreign}
+use Rattle.bib_findings.specs.Foreign.{first_fields, foreign_among, foreign_finding, foreign_findings, is_foreign}
 use Rattle.bib_findings.specs.declared.finding.Finding.{Finding}
 use Rattle.bib_findings.specs.declared.foreign.Counted.{Counted}
 use Rattle.bib_findings.proofs.ListFacts.{get_mapped, given_more}
@@ -103,19 +103,10 @@ entry_counted said origins index one old new there within is before later =
     subst (AreFieldsCounted new) (sym (among_next said origins index one there within is))
     (later (foreign_among (entries_at (map entry_reading_of said) (take index origins))) before)
 
--- the findings of the first fields with each name are those of the counts
-firsts_found : (all earlier fields : List FieldReading)
-    → map counted_finding (map (count_of all) (firsts_after earlier fields)) ≡ foreign_after all earlier fields
-firsts_found all earlier [] = refl
-firsts_found all earlier (f ∷ rest) =
-    by (list_any (have_one_name f) earlier) (firsts_found all (earlier ++ f ∷ []) rest)
-  where
-    by : (test : Bool)
-        → map counted_finding (map (count_of all) (firsts_after (earlier ++ f ∷ []) rest)) ≡ foreign_after all (earlier ++ f ∷ []) rest
-        → map counted_finding (map (count_of all) (cond test [] (f ∷ []) ++ firsts_after (earlier ++ f ∷ []) rest))
-        ≡ cond test [] (foreign_finding all f ∷ []) ++ foreign_after all (earlier ++ f ∷ []) rest
-    by true same = same
-    by false same = ap (λ l. foreign_finding all f ∷ l) same
+-- the findings of fields are those of their counts
+counts_found : (all fields : List FieldReading) → map counted_finding (map (count_of all) fields) ≡ map (foreign_finding all) fields
+counts_found all [] = refl
+counts_found all (f ∷ fields) = ap (λ l. foreign_finding all f ∷ l) (counts_found all fields)
 
 -- mapping pairs of counts to findings maps the counts
 pairs_found : (counted : List Counted)
@@ -127,7 +118,7 @@ pairs_found (c ∷ counted) = ap (λ l. counted_finding (counted_of c) ∷ l) (p
 pub findings_of_counts : (entries : List EntryReading) (counted : List Counted) → AreFieldsCounted counted (foreign_among entries)
     → map (λ c. counted_finding (counted_of c)) counted ≡ foreign_findings entries
 findings_of_counts entries counted are =
-    pairs_found counted ∙ ap (map counted_finding) are ∙ firsts_found (foreign_among entries) [] (foreign_among entries)
+    pairs_found counted ∙ ap (map counted_finding) are ∙ counts_found (foreign_among entries) (first_fields (foreign_among entries))
 
 -- appending the finding of the next count appends those of the counts up to it
 pub finding_next : (counted : List Counted) (index : ℕ) (one : Counted) (old mid new : List Finding) (finding : Finding)

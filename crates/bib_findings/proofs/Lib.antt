@@ -12,5 +12,10 @@ mod NotedFacts
 mod SeenFacts
 mod RecoveredFacts
 mod SharedFacts
+mod StartFacts
 mod TypeFacts
 mod WordFacts
+mod AfterFacts
+mod CutFacts
+mod KeyFacts
+mod RepeatedFacts

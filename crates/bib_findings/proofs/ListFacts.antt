@@ -1,7 +1,7 @@
 -- Lists that grow by one item.
-use Rattle.std.proofs.Common.{◌≡◌, ℕ, Bool, ◌||◌, List, [], ◌∷◌, ◌++◌, ◌+◌, ◌<◌, length, get_or, take, map, Option, Some, None, refl, sym, ap, ◌∙◌, arith, suc, zero}
+use Rattle.std.proofs.Common.{◌≡◌, ℕ, Bool, ◌&&◌, ◌||◌, List, [], ◌∷◌, ◌++◌, ◌+◌, ◌<◌, length, get_or, take, map, Option, Some, None, refl, sym, ap, ◌∙◌, arith, suc, zero}
 use Rattle.std.specs.Prelude.{slice_get}
-use Rattle.std.specs.List.{cons_option, filter_map, list_any}
+use Rattle.std.specs.List.{cons_option, filter_map, list_all, list_any}
 use Rattle.std.proofs.lemmas.List.{take_more}
 
 -- the first `index + 1` items are the first `index` items and the one at `index`
@@ -36,3 +36,9 @@ pub any_of_map : {A B : Type 0} (f : A → B) (test : B → Bool) (items : List 
     → list_any test (map f items) ≡ list_any (λ item. test (f item)) items
 any_of_map f test [] = refl
 any_of_map f test (item ∷ items) = ap (λ b. test (f item) || b) (any_of_map f test items)
+
+-- whether all mapped items pass a test
+pub all_of_map : {A B : Type 0} (f : A → B) (test : B → Bool) (items : List A)
+    → list_all test (map f items) ≡ list_all (λ item. test (f item)) items
+all_of_map f test [] = refl
+all_of_map f test (item ∷ items) = ap (λ b. test (f item) && b) (all_of_map f test items)

@@ -1,5 +1,5 @@
 -- The nearest of the known names for which a name may be a typing error.
-use Rattle.std.proofs.Common.{◌≡◌, ℕ, Bool, true, false, not, ◌&&◌, List, [], ◌∷◌, ◌++◌, ◌+◌, ◌<◌, ◌≤◌, length, Option, Some, None, refl, sym, ap, ◌∙◌, append_assoc, append-nil, subst, arith, cond}
+use Rattle.std.proofs.Common.{◌≡◌, ℕ, Bool, true, false, not, ◌&&◌, List, [], ◌∷◌, ◌++◌, ◌<◌, ◌≤◌, length, Option, Some, None, refl, sym, ap, ◌∙◌, append_assoc, append-nil, subst, arith, cond}
 use Rattle.std.specs.Prelude.{bytes_eq, codes, drop, nat_eq, nat_le, nat_lt, unwrap_or}
 use Rattle.std.specs.List.{All, ends_with, filter}
 use Rattle.std.specs.Str.Pattern.{FindsTextPrefix}

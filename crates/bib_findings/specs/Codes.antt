@@ -2,7 +2,7 @@
 -- Codes of findings: their names and severities.
 use Rattle.std.specs.Prelude.{ℕ, List, [], ◌∷◌, Option, bytes_eq, codes, find}
 use Rattle.bib_findings.specs.declared.codes.Code.{Code}
-use Rattle.bib_findings.specs.declared.codes.Code.TheVariants.{UnreadBytes, Syntax, UnreadField, UnknownAbbreviation, CircularAbbreviation, DuplicateKey, CircularReference, UnreadDate, UnknownType, MissingField, SuperfluousField, MalformedField, NotANumber, UnknownField, ForeignField, UnknownReference, LikelyDuplicate, MissingEntry, UnusedEntry}
+use Rattle.bib_findings.specs.declared.codes.Code.TheVariants.{UnreadBytes, Syntax, UnreadField, UnknownAbbreviation, CircularAbbreviation, DuplicateKey, CircularReference, UnreadDate, UnknownType, MissingField, SuperfluousField, MalformedField, NotANumber, MalformedDate, UnknownField, ForeignField, RepeatedField, EmptyField, WrongIsbn, DoiAddress, UnknownReference, LikelyDuplicate, KeyCase, MissingEntry, UnusedEntry}
 use Rattle.bib_findings.specs.declared.codes.Severity.{Severity}
 use Rattle.bib_findings.specs.declared.codes.Severity.TheVariants.{Error, Warning, Info}
 
@@ -27,10 +27,16 @@ code_name MissingField = codes "missing-field"
 code_name SuperfluousField = codes "superfluous-field"
 code_name MalformedField = codes "malformed-field"
 code_name NotANumber = codes "not-a-number"
+code_name MalformedDate = codes "malformed-date"
 code_name UnknownField = codes "unknown-field"
 code_name ForeignField = codes "foreign-field"
+code_name RepeatedField = codes "repeated-field"
+code_name EmptyField = codes "empty-field"
+code_name WrongIsbn = codes "wrong-isbn"
+code_name DoiAddress = codes "doi-address"
 code_name UnknownReference = codes "unknown-reference"
 code_name LikelyDuplicate = codes "likely-duplicate"
+code_name KeyCase = codes "key-case"
 code_name MissingEntry = codes "missing-entry"
 code_name UnusedEntry = codes "unused-entry"
 
@@ -38,15 +44,16 @@ code_name UnusedEntry = codes "unused-entry"
 abbrev pub all_codes : List Code
 all_codes =
     UnreadBytes ∷ Syntax ∷ UnreadField ∷ UnknownAbbreviation ∷ CircularAbbreviation ∷ DuplicateKey ∷ CircularReference ∷ UnreadDate
-    ∷ UnknownType ∷ MissingField ∷ SuperfluousField ∷ MalformedField ∷ NotANumber ∷ UnknownField ∷ ForeignField ∷ UnknownReference
-    ∷ LikelyDuplicate ∷ MissingEntry ∷ UnusedEntry ∷ []
+    ∷ UnknownType ∷ MissingField ∷ SuperfluousField ∷ MalformedField ∷ NotANumber ∷ MalformedDate ∷ UnknownField ∷ ForeignField
+    ∷ RepeatedField ∷ EmptyField ∷ WrongIsbn ∷ DoiAddress ∷ UnknownReference ∷ LikelyDuplicate ∷ KeyCase ∷ MissingEntry
+    ∷ UnusedEntry ∷ []
 
 -- the code that has this name, if there is one
 abbrev pub code_named : List ℕ → Option Code
 code_named name = find (λ code. bytes_eq (code_name code) name) all_codes
 
--- the severity of a code: an error if part of the file isn't read as written or a cited entry is missing; information if nothing is wrong
--- for BibLaTeX; a warning otherwise
+-- the severity of a code: an error if part of the file isn't parsed as written or a cited entry is missing; information if nothing is
+-- wrong for BibLaTeX; a warning otherwise
 abbrev pub severity_of : Code → Severity
 severity_of UnreadBytes = Error
 severity_of Syntax = Error
@@ -57,4 +64,5 @@ severity_of CircularReference = Error
 severity_of MissingEntry = Error
 severity_of NotANumber = Info
 severity_of ForeignField = Info
+severity_of EmptyField = Info
 severity_of _ = Warning

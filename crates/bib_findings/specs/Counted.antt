@@ -1,14 +1,13 @@
 -- Machinery: words of private contracts.
 -- Fields counted by name.
-use Rattle.std.specs.Prelude.{◌≡◌, ◌<◌, ℕ, List, [], ◌∷◌, ◌++◌, count_by, get_or, if◌then◌else◌, length, map, min, ◌+◌, Option, Some}
-use Rattle.std.specs.List.{list_any}
+use Rattle.std.specs.Prelude.{◌≡◌, ◌<◌, ℕ, List, [], ◌++◌, count_by, get_or, length, map, min, ◌+◌, Option, Some}
 use Rattle.std.specs.Str.{str_to_ascii_lowercase}
 use Rattle.bib_tables.specs.Requirements.{Names}
 use Rattle.bib_syntax.specs.Reading.{FieldReading}
 use Rattle.bib_syntax.specs.Views.{field_of}
 use Rattle.bib_findings.specs.Entries.{part_range}
 use Rattle.bib_findings.specs.Errors.{finding_at}
-use Rattle.bib_findings.specs.Foreign.{foreign_message, have_one_name, most_counted}
+use Rattle.bib_findings.specs.Foreign.{first_fields, foreign_message, have_one_name, most_counted}
 use Rattle.bib_findings.specs.declared.codes.Code.TheVariants.{ForeignField}
 use Rattle.bib_findings.specs.declared.finding.Finding.{Finding}
 use Rattle.bib_findings.specs.declared.foreign.Counted.{Counted}
@@ -25,15 +24,6 @@ lowercase_name f = str_to_ascii_lowercase f.name.text
 abbrev pub counted_names : List Counted → Names
 counted_names = map (λ c. lowercase_name (field_of c.first.now))
 
--- a field if it is the first with its name after some earlier ones
-abbrev pub if_first : List FieldReading → FieldReading → List FieldReading
-if_first earlier f = if list_any (have_one_name f) earlier then [] else f ∷ []
-
--- the first field with each name among those of a list that come after some earlier ones, without the names of the earlier ones
-abbrev pub firsts_after : List FieldReading → List FieldReading → List FieldReading
-firsts_after earlier [] = []
-firsts_after earlier (f ∷ rest) = if_first earlier f ++ firsts_after (earlier ++ f ∷ []) rest
-
 -- a field, and the number of fields with its name, at most the greatest that is counted
 abbrev pub count_of : List FieldReading → FieldReading → FieldReading × ℕ
 count_of fields f = (f, min (count_by (have_one_name f) fields) most_counted)
@@ -44,7 +34,7 @@ one_field_more count = min (count + 1) most_counted
 
 -- the first field with each name, and the number of fields with this name
 abbrev pub counts : List FieldReading → List (FieldReading × ℕ)
-counts fields = map (count_of fields) (firsts_after [] fields)
+counts fields = map (count_of fields) (first_fields fields)
 
 -- whether these are the counts of some fields
 abbrev pub AreFieldsCounted : List Counted → List FieldReading → Type 0

@@ -1,6 +1,7 @@
 -- Meaning: words of public contracts.
--- The fields that BibLaTeX demands of an entry, by its type: the mandatory fields of its default data model (blx-dm.def of BibLaTeX 3.18b).
-use Rattle.std.specs.Prelude.{ℕ, Bool, not, ◌||◌, find, is_some, List, [], ◌∷◌, ◌++◌, codes, if◌then◌else◌, map}
+-- The fields that BibLaTeX requires of an entry, by its type: the mandatory fields of its default data model (blx-dm.def of BibLaTeX
+-- 3.18b).
+use Rattle.std.specs.Prelude.{ℕ, Bool, not, ◌||◌, find, is_some, List, [], ◌∷◌, ◌++◌, if◌then◌else◌, map}
 use Rattle.std.specs.List.{filter, list_any}
 use Rattle.std.specs.Option.{option_map_or}
 use Rattle.bib_entry.specs.Reports.{has_field}
@@ -10,12 +11,12 @@ use Rattle.bib_syntax.specs.Reading.{EntryReading}
 use Rattle.bib_findings.specs.Entries.{last_named}
 use Rattle.bib_findings.specs.Nearest.{is_known_name}
 
--- The fields of which an entry needs one. Findings name the first. The others stand for it: BibTeX's names, and for the author of a whole
+-- The fields of which an entry needs one. Findings name the first. The others replace it: BibTeX's names, and for the author of a whole
 -- book its editor, whom BibLaTeX prints in the author's place.
 abbrev pub Demand : Type 0
 Demand = Names
 
--- types, and the demands of entries with one of them, besides a date
+-- types, and the requirements of entries with one of them, besides a date
 abbrev pub demands_by_type : List (Names × List Demand)
 demands_by_type =
     (fields "article", fields "author" ∷ fields "title" ∷ fields "journaltitle journal" ∷ [])
@@ -34,17 +35,17 @@ demands_by_type =
     ∷ (fields "set", fields "entryset" ∷ [])
     ∷ []
 
--- the types of which a date is demanded
+-- the types that require a date
 abbrev pub dated_types : Names
 dated_types = fields "article book mvbook inbook bookinbook suppbook booklet collection mvcollection incollection suppcollection manual"
     ++ (fields "misc online electronic www patent periodical suppperiodical proceedings inproceedings conference reference inreference"
     ++ fields "report techreport set thesis mastersthesis phdthesis unpublished")
 
--- the demands of an entry with a type, besides a date
+-- the requirements of a type, besides a date
 abbrev pub demands_of : List ℕ → List Demand
 demands_of entry_type = option_map_or (λ row. row.1) (find (λ row. is_known_name row.0 entry_type) demands_by_type) []
 
--- the demand of a date, if one is demanded of a type
+-- the requirement of a date, if a type requires one
 abbrev pub date_demand : List ℕ → List Demand
 date_demand entry_type = if is_known_name dated_types entry_type then fields "year date" ∷ [] else []
 
@@ -52,23 +53,23 @@ date_demand entry_type = if is_known_name dated_types entry_type then fields "ye
 abbrev pub has_or_writes : EntryReading → Entry → List ℕ → Bool
 has_or_writes said entry name = has_field entry name || is_some (last_named said.fields name)
 
--- whether an entry has a field that a demand is about
+-- whether an entry has one of these fields
 abbrev pub is_met : EntryReading → Entry → Demand → Bool
 is_met said entry demand = list_any (has_or_writes said entry) demand
 
--- the demands of an entry
+-- the requirements of a type
 abbrev pub all_demands : List ℕ → List Demand
 all_demands entry_type = demands_of entry_type ++ date_demand entry_type
 
--- the field that a finding names for a demand: its first
+-- the field that a finding names for a requirement: its first
 abbrev pub demanded_field : Demand → List ℕ
 demanded_field [] = []
 demanded_field (name ∷ others) = name
 
--- the fields that findings name for those of the demands that an entry doesn't meet
+-- the fields that findings name for those of the requirements that an entry doesn't meet
 abbrev pub unmet_fields : EntryReading → Entry → List Demand → Names
 unmet_fields said entry demands = map demanded_field (filter (λ demand. not (is_met said entry demand)) demands)
 
--- the fields that are demanded of an entry and that it lacks
+-- the fields that are required of an entry and that it lacks
 abbrev pub missing_fields : EntryReading → Entry → Names
 missing_fields said entry = unmet_fields said entry (all_demands said.kind.text)

@@ -1,13 +1,16 @@
 -- Meaning: words of public contracts.
 -- The findings of what recovery reports: skipped blocks and errors.
-use Rattle.std.specs.Prelude.{ℕ, List, ◌++◌, codes}
+use Rattle.std.specs.Prelude.{ℕ, Bool, ◌&&◌, not, nat_lt, List, ◌++◌, codes, if◌then◌else◌}
+use Rattle.std.specs.Option.{option_map_or}
 use Rattle.std.specs.declared.ops.Range.{Range}
 use Rattle.bib_tables.specs.TypeError.{type_kind_text}
 use Rattle.bib_syntax.specs.Errors.{token_text}
+use Rattle.bib_syntax.specs.Reading.{EntryReading}
 use Rattle.bib_syntax.specs.declared.raw.ParseError.{ParseError}
 use Rattle.bib_syntax.specs.declared.raw.ParseErrorKind.{ParseErrorKind}
 use Rattle.bib_syntax.specs.declared.raw.ParseErrorKind.TheVariants.{UnexpectedEof, Unexpected, Expected, UnknownAbbreviation, MalformedCommand, DuplicateKey, ResolutionError, AbbreviationCycle, ReferenceCycle}
 use Rattle.bib_syntax.specs.declared.raw.recovery.SkippedBlock.{SkippedBlock}
+use Rattle.bib_findings.specs.Cuts.{entry_from}
 use Rattle.bib_findings.specs.declared.codes.Code.{Code}
 use Rattle.bib_findings.specs.declared.codes.Code.TheVariants as code
 use Rattle.bib_findings.specs.declared.finding.Finding.{Finding}
@@ -46,6 +49,23 @@ error_code _ = code.UnreadField
 abbrev pub error_finding : ParseError → Finding
 error_finding e = finding_at (error_code e.kind) e.span (error_message e.kind)
 
--- the finding of a skipped block, at the place of its error
-abbrev pub block_finding : SkippedBlock → Finding
-block_finding block = finding_at code.Syntax block.error.span (error_message block.error.kind)
+-- whether a field after the complete ones of a skipped block never ends: the error is reported where the block ends, or later
+abbrev pub is_unclosed : SkippedBlock → EntryReading → Bool
+is_unclosed block e = not (nat_lt block.error.span.start block.span.end) && nat_lt e.end block.span.end
+
+-- the finding of a skipped block of which the entry `e` is kept. It names the entry. It is at the place of the error or, if a field never
+-- ends, at the start of this field
+abbrev pub kept_finding : SkippedBlock → EntryReading → Finding
+kept_finding block e =
+    if is_unclosed block e
+    then finding_at code.Syntax (record { start = e.end; end = e.end })
+    (e.key.text ++ codes ": incomplete field; is a brace or a quote open?")
+    else finding_at code.Syntax block.error.span (e.key.text ++ (codes ": " ++ error_message block.error.kind))
+
+-- the finding of a skipped block of which no entry is kept, at the place of its error
+abbrev pub lost_finding : SkippedBlock → Finding
+lost_finding block = finding_at code.Syntax block.error.span (error_message block.error.kind)
+
+-- the finding of a skipped block; the entry that is kept of it, if there is one, begins where the block begins
+abbrev pub block_finding : List EntryReading → SkippedBlock → Finding
+block_finding said block = option_map_or (kept_finding block) (entry_from said block.span.start) (lost_finding block)

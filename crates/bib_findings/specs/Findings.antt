@@ -1,6 +1,6 @@
 -- Meaning: words of public contracts.
 -- All findings of a file: those of what recovery reports, and those of each entry that it keeps.
-use Rattle.std.specs.Prelude.{◌≡◌, ℕ, List, ◌++◌, map}
+use Rattle.std.specs.Prelude.{◌≡◌, ℕ, Bool, List, ◌++◌, map}
 use Rattle.std.specs.declared.ops.Range.{Range}
 use Rattle.std.specs.List.Sorted.{IsPermutation, IsSortedByKey, IsStableByKey}
 use Rattle.std.specs.Ordering.{nat_cmp}
@@ -9,17 +9,22 @@ use Rattle.bib_file_entries.specs.Claiming.{IsKeptSoFar}
 use Rattle.bib_file_entries.specs.Loaded.{definition_in}
 use Rattle.bib_inheritance.specs.Recovered.{AreRecovered}
 use Rattle.bib_syntax.specs.Reading.{EntryReading, FileReading}
-use Rattle.bib_syntax.specs.Recovery.{IsRecovery}
+use Rattle.bib_syntax.specs.Recovery.{IsFullRecovery}
 use Rattle.bib_syntax.specs.Views.{entry_reading_of}
 use Rattle.bib_syntax.specs.declared.raw.ParseError.{ParseError}
 use Rattle.bib_syntax.specs.declared.raw.RawEntry.{RawEntry}
 use Rattle.bib_text.specs.declared.spanned.Spanned.{Spanned}
 use Rattle.bib_syntax.specs.declared.raw.recovery.SkippedBlock.{SkippedBlock}
 use Rattle.bib_collections.specs.Sorted.{ByText}
+use Rattle.bib_findings.specs.BookNumbers.{number_findings}
+use Rattle.bib_findings.specs.Cuts.{is_cut, whole_among}
 use Rattle.bib_findings.specs.Duplicates.{duplicates, entries_at}
 use Rattle.bib_findings.specs.Entries.{AreOfEach}
 use Rattle.bib_findings.specs.Errors.{block_finding, error_finding}
+use Rattle.bib_findings.specs.Fields.{address_findings, empty_findings, repeated_findings}
 use Rattle.bib_findings.specs.Foreign.{foreign_findings}
+use Rattle.bib_findings.specs.KeyCases.{case_findings}
+use Rattle.bib_findings.specs.MalformedDates.{date_findings}
 use Rattle.bib_findings.specs.Names.{AreOfUnknown}
 use Rattle.bib_findings.specs.References.{AreReferences}
 use Rattle.bib_findings.specs.Reported.{AreOfReport}
@@ -30,16 +35,22 @@ use Rattle.bib_findings.specs.declared.finding.Finding.{Finding}
 abbrev pub entries_said : List (Spanned RawEntry) → List EntryReading
 entries_said = map entry_reading_of
 
+-- the findings of single fields of an entry: repeated and empty ones, wrong numbers, DOIs with an address, and dates that aren't one
+abbrev pub single_findings : Bool → EntryReading → Entry → List Finding
+single_findings cut said entry =
+    repeated_findings said
+    ++ (empty_findings said ++ (number_findings said ++ (address_findings said ++ date_findings cut said entry)))
+
 -- whether these are the findings of an entry, with its raw form `said`: that of its type, then those of its report, then those of unknown
--- field names
-pub record AreOfEntry (said : EntryReading) (entry : Entry) (found : List Finding) : Type 0 where
+-- field names, then those of its single fields; `cut` says whether the entry is cut
+pub record AreOfEntry (cut : Bool) (said : EntryReading) (entry : Entry) (found : List Finding) : Type 0 where
   pub of_type : List Finding
   pub type : AreOfType said of_type
   pub of_report : List Finding
-  pub report : AreOfReport said entry of_report
+  pub report : AreOfReport cut said entry of_report
   pub of_unknown : List Finding
   pub unknown : AreOfUnknown said of_unknown
-  pub are : found ≡ of_type ++ (of_report ++ of_unknown)
+  pub are : found ≡ of_type ++ (of_report ++ (of_unknown ++ single_findings cut said entry))
 
 -- whether `found` is `all`, sorted by the start of the span; findings with the same start keep their order
 pub record AreSortedByPlace (all found : List Finding) : Type 0 where
@@ -48,27 +59,30 @@ pub record AreSortedByPlace (all found : List Finding) : Type 0 where
   pub stable : IsStableByKey (λ f. f.span.start) nat_cmp all found
 
 -- whether these are the findings between entries: first of keys that no entry has, then of entries that are likely the same work, then of
--- fields that other programs write for themselves
-pub record AreBetween (names : ByText ℕ) (said : List EntryReading) (origins : List ℕ) (own : List Entry)
+-- keys that differ only in case, then of fields that other programs write for themselves; a cut entry is no likely duplicate
+pub record AreBetween (skipped : List SkippedBlock) (names : ByText ℕ) (said : List EntryReading) (origins : List ℕ) (own : List Entry)
     (found : List Finding) : Type 0 where
   pub of_keys : List Finding
   pub keys : AreOfEach (AreReferences names) said origins own of_keys
-  pub are : found ≡ of_keys ++ (duplicates (entries_at said origins) ++ foreign_findings (entries_at said origins))
+  pub are : found
+      ≡ of_keys
+      ++ (duplicates (whole_among skipped (entries_at said origins))
+      ++ (case_findings (entries_at said origins) ++ foreign_findings (entries_at said origins)))
 
 -- whether these are the findings of a recovered file, sorted by where they start: those of skipped blocks, of errors, of each kept
 -- entry, and those between entries
 pub record AreFindingsIn (skipped : List SkippedBlock) (errors : List ParseError) (said : List EntryReading)
     (origins : List ℕ) (entries : List Entry) (between found : List Finding) : Type 0 where
   pub of_entries : List Finding
-  pub reports : AreOfEach AreOfEntry said origins entries of_entries
-  pub sorted : AreSortedByPlace (map block_finding skipped ++ (map error_finding errors ++ (of_entries ++ between))) found
+  pub reports : AreOfEach (λ one. AreOfEntry (is_cut skipped one) one) said origins entries of_entries
+  pub sorted : AreSortedByPlace (map (block_finding said) skipped ++ (map error_finding errors ++ (of_entries ++ between))) found
 
--- whether these are all findings of a file with this text. Each kept entry is reported with the fields that it inherits. The findings
--- between entries use only the fields that each entry has itself.
+-- whether these are all findings of a file with this text, with the complete parts of its skipped blocks. Each kept entry is reported with
+-- the fields that it inherits. The findings between entries use only the fields that each entry has itself.
 pub record AreFindings (text : List ℕ) (found : List Finding) : Type 0 where
   pub says : FileReading
   pub skipped : List SkippedBlock
-  pub recovery : IsRecovery text says skipped
+  pub recovery : IsFullRecovery text says skipped
   pub own : List Entry
   pub names : ByText ℕ
   pub places : List (Range ℕ)
@@ -79,5 +93,5 @@ pub record AreFindings (text : List ℕ) (found : List Finding) : Type 0 where
   pub of_references : List ParseError
   pub resolved : AreRecovered places names own entries of_references
   pub between : List Finding
-  pub are_between : AreBetween names says.entries origins own between
+  pub are_between : AreBetween skipped names says.entries origins own between
   pub are : AreFindingsIn skipped (of_entries ++ of_references) says.entries origins entries between found

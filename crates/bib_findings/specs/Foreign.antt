@@ -1,11 +1,12 @@
 -- Meaning: words of public contracts.
 -- Fields that other programs write for themselves, and the findings of these fields: one for each name in a file.
-use Rattle.std.specs.Prelude.{ℕ, Bool, ◌||◌, ◌-◌, ◌^◌, ◌==◌, List, [], ◌∷◌, ◌++◌, codes, count_by, if◌then◌else◌, length, min, take}
+use Rattle.std.specs.Prelude.{ℕ, Bool, ◌||◌, ◌-◌, ◌^◌, ◌==◌, List, [], ◌∷◌, ◌++◌, codes, count_by, if◌then◌else◌, length, map, min, take}
 use Rattle.std.specs.Fmt.{decimal}
 use Rattle.std.specs.List.{filter, flat_map, list_any}
 use Rattle.std.specs.Str.{str_eq_ignore_ascii_case}
 use Rattle.bib_tables.specs.Requirements.{Names, fields}
 use Rattle.bib_syntax.specs.Reading.{EntryReading, FieldReading}
+use Rattle.bib_findings.specs.After.{each_after}
 use Rattle.bib_findings.specs.Entries.{part_range}
 use Rattle.bib_findings.specs.Errors.{finding_at}
 use Rattle.bib_findings.specs.Nearest.{is_known_name}
@@ -63,15 +64,14 @@ abbrev pub foreign_finding : List FieldReading → FieldReading → Finding
 foreign_finding all f =
     finding_at ForeignField (part_range f.name) (foreign_message f.name.text (min (count_by (have_one_name f) all) most_counted))
 
--- the finding of a field, if it is the first with its name
-abbrev pub foreign_first : List FieldReading → List FieldReading → FieldReading → List Finding
-foreign_first all earlier f = if list_any (have_one_name f) earlier then [] else foreign_finding all f ∷ []
+-- a field if it is the first with its name after some earlier ones
+abbrev pub if_first : List FieldReading → FieldReading → List FieldReading
+if_first earlier f = if list_any (have_one_name f) earlier then [] else f ∷ []
 
--- the findings of the fields of a list that come after some earlier ones
-abbrev pub foreign_after : List FieldReading → List FieldReading → List FieldReading → List Finding
-foreign_after all earlier [] = []
-foreign_after all earlier (f ∷ rest) = foreign_first all earlier f ++ foreign_after all (earlier ++ f ∷ []) rest
+-- the first field with each name
+abbrev pub first_fields : List FieldReading → List FieldReading
+first_fields fields = each_after if_first [] fields
 
 -- the findings of the fields of entries that other programs write for themselves: one for each name, at its first field
 abbrev pub foreign_findings : List EntryReading → List Finding
-foreign_findings entries = foreign_after (foreign_among entries) [] (foreign_among entries)
+foreign_findings entries = map (foreign_finding (foreign_among entries)) (first_fields (foreign_among entries))

@@ -28,8 +28,8 @@ begin_alike _ _ = false
 abbrev pub are_of_like_length : ℕ → List ℕ → List ℕ → Bool
 are_of_like_length most name known = nat_le (length name - length known) most && nat_le (length known - length name) most
 
--- whether a name is a known one with other letters before or after it, such as `fjournal`, and isn't its plural: someone's own name, and
--- no typing error
+-- whether a name is a known one with other characters before or after it, such as `fjournal`, and isn't its plural: someone's own name,
+-- and no typing error
 abbrev pub is_extension : List ℕ → List ℕ → Bool
 is_extension name known =
     if starts_with nat_eq name known then not (bytes_eq (drop (length known) name) (codes "s")) else ends_with nat_eq name known

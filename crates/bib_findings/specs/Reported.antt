@@ -3,6 +3,7 @@
 use Rattle.std.specs.Prelude.{◌≡◌, ℕ, Bool, true, false, not, ◌||◌, List, [], ◌++◌, bytes_eq, codes, if◌then◌else◌, map}
 use Rattle.std.specs.List.{filter}
 use Rattle.std.specs.declared.ops.Range.{Range}
+use Rattle.bib_tables.specs.Requirements.{Names}
 use Rattle.bib_tables.specs.TypeError.{type_kind_text}
 use Rattle.bib_tables.specs.declared.mechanics.EntryType.{EntryType}
 use Rattle.bib_tables.specs.declared.mechanics.EntryType.TheVariants.{MvBook, MvCollection, MvReference, Unknown}
@@ -69,15 +70,19 @@ superfluous_fields entry =
     if is_unknown_type entry.entry_type then []
     else filter (λ name. not (is_in_data_model entry.entry_type name)) (superfluous_of entry)
 
+-- the missing fields that are reported: none if the entry is cut, because its other fields may be lost
+abbrev pub reported_missing : Bool → EntryReading → Entry → Names
+reported_missing cut said entry = if cut then [] else missing_fields said entry
+
 -- the findings of a report: first of the missing fields, then of the superfluous ones, then of the malformed ones
-abbrev pub report_findings : EntryReading → Entry → List (List ℕ × TypeError) → List Finding
-report_findings said entry errors =
-    map (field_finding said code.MissingField (codes "missing")) (missing_fields said entry)
+abbrev pub report_findings : Bool → EntryReading → Entry → List (List ℕ × TypeError) → List Finding
+report_findings cut said entry errors =
+    map (field_finding said code.MissingField (codes "missing")) (reported_missing cut said entry)
     ++ (map (field_finding said code.SuperfluousField (codes "superfluous")) (superfluous_fields entry)
     ++ malformed_findings said errors)
 
--- whether these are the findings of the report on an entry, with its raw form `said`
-pub record AreOfReport (said : EntryReading) (entry : Entry) (found : List Finding) : Type 0 where
+-- whether these are the findings of the report on an entry, with its raw form `said`; `cut` says whether the entry is cut
+pub record AreOfReport (cut : Bool) (said : EntryReading) (entry : Entry) (found : List Finding) : Type 0 where
   pub errors : List (List ℕ × TypeError)
   pub malformed : AreMalformed entry errors
-  pub are : found ≡ report_findings said entry errors
+  pub are : found ≡ report_findings cut said entry errors

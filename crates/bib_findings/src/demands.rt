@@ -1,10 +1,11 @@
-//! The fields that BibLaTeX demands of an entry, by its type: the mandatory fields of its default data model.
+//! The fields that BibLaTeX requires of an entry, by its type: the mandatory fields of its default data model.
 
 ghost use Rattle.std.specs.Prelude.{◌≡◌, ◌++◌, IfOk, OnOk};
 ghost use Rattle.bib_tables.specs.Requirements.{texts};
 ghost use Rattle.bib_syntax.specs.Views.{entry_reading_of};
 ghost use Rattle.bib_findings.specs.DemandRows.{demand_texts, demands_in};
 ghost use Rattle.bib_findings.specs.Demands as spec;
+ghost use Rattle.bib_findings.specs.Reported.{reported_missing};
 
 use crate::nearest::is_among;
 use crate::places::last_named;
@@ -13,7 +14,7 @@ use bib_syntax::raw::RawEntry;
 use bib_text::spanned::Spanned;
 use std::alloc::{AllocError, Global};
 
-// Types, and the demands of entries with one of them, besides a date. A demand is the fields of which an entry needs one.
+// Types, and the requirements of entries with one of them, besides a date. A requirement is the fields of which an entry needs one.
 struct Row {
     types: &'static [&'static str],
     demands: &'static [&'static [&'static str]],
@@ -96,7 +97,7 @@ static ROWS: [Row; 14] = [
     },
 ];
 
-// The types of which a date is demanded.
+// The types that require a date.
 static DATED_TYPES: [&str; 31] = [
     "article",
     "book",
@@ -131,7 +132,7 @@ static DATED_TYPES: [&str; 31] = [
     "unpublished",
 ];
 
-// Returns the demands in the first of these rows with a type, or none.
+// Returns the requirements in the first of these rows with a type, or none.
 fn demands_in(rows: &[Row], entry_type: &str) -> &'static [&'static [&'static str]]
     ensures { demand_texts result.now ≡ demands_in rows.now entry_type.now }
 {
@@ -143,14 +144,14 @@ fn demands_in(rows: &[Row], entry_type: &str) -> &'static [&'static [&'static st
     &[]
 }
 
-// Returns the demands of an entry with a type, besides a date.
+// Returns the requirements of a type, besides a date.
 fn demands_of(entry_type: &str) -> &'static [&'static [&'static str]]
     ensures { demand_texts result.now ≡ spec.demands_of entry_type.now }
 {
     demands_in(&ROWS, entry_type)
 }
 
-// Returns the demand of a date, if one is demanded of a type.
+// Returns the requirement of a date, if a type requires one.
 fn date_demand(entry_type: &str) -> &'static [&'static [&'static str]]
     ensures { demand_texts result.now ≡ spec.date_demand entry_type.now }
 {
@@ -168,7 +169,7 @@ fn has_or_writes(said: &Spanned<RawEntry<'_>>, entry: &Entry, name: &str) -> boo
     entry.fields.get(name).is_some() || last_named(said.v.fields.as_slice(), name).is_some()
 }
 
-// Returns whether an entry has a field that a demand is about.
+// Returns whether an entry has one of these fields.
 fn is_met(said: &Spanned<RawEntry<'_>>, entry: &Entry, demand: &[&'static str]) -> bool
     ensures { result ≡ spec.is_met (entry_reading_of said.now) entry.now (texts demand.now) }
 {
@@ -180,7 +181,7 @@ fn is_met(said: &Spanned<RawEntry<'_>>, entry: &Entry, demand: &[&'static str]) 
     false
 }
 
-// Returns the field that a finding names for a demand: its first.
+// Returns the field that a finding names for a requirement: its first.
 fn demanded_field(demand: &[&'static str]) -> &'static str
     ensures { result.now ≡ spec.demanded_field (texts demand.now) }
 {
@@ -190,7 +191,7 @@ fn demanded_field(demand: &[&'static str]) -> &'static str
     }
 }
 
-// Appends the fields that findings name for those of the demands that an entry doesn't meet.
+// Appends the fields that findings name for those of the requirements that an entry doesn't meet.
 fn push_unmet(
     missing: &mut Vec<&'static str>,
     said: &Spanned<RawEntry<'_>>,
@@ -208,8 +209,8 @@ fn push_unmet(
     Ok(())
 }
 
-// Returns the fields that are demanded of an entry and that it lacks.
-pub(crate) fn missing_fields(
+// Returns the fields that are required of an entry and that it lacks.
+fn missing_fields(
     alloc: Global,
     said: &Spanned<RawEntry<'_>>,
     entry: &Entry,
@@ -221,4 +222,19 @@ pub(crate) fn missing_fields(
     push_unmet(&mut missing, said, entry, demands_of(entry_type))?;
     push_unmet(&mut missing, said, entry, date_demand(entry_type))?;
     Ok(missing)
+}
+
+/// Returns the missing fields that are reported: none if the entry is cut, because its other fields may be lost.
+pub(crate) fn reported_missing(
+    alloc: Global,
+    is_cut: bool,
+    said: &Spanned<RawEntry<'_>>,
+    entry: &Entry,
+) -> Result<Vec<&'static str>, AllocError>
+    ensures { IfOk result (λ missing. texts missing.items ≡ reported_missing is_cut (entry_reading_of said.now) entry.now) }
+{
+    if is_cut {
+        return Ok(Vec::new(alloc));
+    }
+    missing_fields(alloc, said, entry)
 }

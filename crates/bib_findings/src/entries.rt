@@ -12,7 +12,7 @@ ghost use Rattle.bib_findings.specs.Reported.{AreOfReport, is_in_data_model, is_
 ghost use Rattle.bib_findings.specs.declared.codes.Code.TheVariants.{MissingField, SuperfluousField};
 
 use crate::codes::Code;
-use crate::demands::missing_fields;
+use crate::demands::reported_missing;
 use crate::finding::Finding;
 use crate::identities::own_literal;
 use crate::places::{field_place, malformed_place};
@@ -32,7 +32,7 @@ fn field_message(alloc: Global, key: &str, wrong: &str, name: &str) -> Result<St
 }
 
 // Returns the finding of a field of an entry, with `wrong`, the word for what is wrong.
-fn field_finding(
+pub(crate) fn field_finding(
     alloc: Global,
     said: &Spanned<RawEntry<'_>>,
     code: Code,
@@ -170,16 +170,17 @@ fn add_superfluous(
     }
 }
 
-// Appends the findings of the report on an entry.
+// Appends the findings of the report on an entry. `is_cut` says whether the entry is cut.
 pub(crate) fn add_report(
     alloc: Global,
     found: &mut Vec<Finding>,
+    is_cut: bool,
     said: &Spanned<RawEntry<'_>>,
     entry: &Entry,
 ) -> Result<(), AllocError>
-    ensures { OnOk result (Adds (AreOfReport (entry_reading_of said.now) entry.now) found.old.items found.new.items) }
+    ensures { OnOk result (Adds (AreOfReport is_cut (entry_reading_of said.now) entry.now) found.old.items found.new.items) }
 {
-    let missing = missing_fields(alloc, said, entry)?;
+    let missing = reported_missing(alloc, is_cut, said, entry)?;
     add_missing(alloc, found, said, &missing)?;
     let report = entry.verify(alloc)?;
     add_superfluous(alloc, found, said, entry, &report.superfluous)?;

@@ -2,13 +2,19 @@
 
 ghost use Rattle.std.specs.Prelude.{◌≡◌, ◌++◌, map, IfOk, OnOk};
 ghost use Rattle.std.specs.String.{string_bytes};
+ghost use Rattle.bib_syntax.specs.Views.{entry_reading_of};
+ghost use Rattle.bib_findings.specs.Errors as spec;
 ghost use Rattle.bib_findings.specs.Errors.{block_finding, error_finding, error_code, error_message, with_name};
+ghost use Rattle.bib_findings.specs.Starts.{AreEntriesByStart};
 
 use crate::codes::Code;
+use crate::cuts::entries_by_start;
 use crate::finding::Finding;
-use bib_syntax::raw::{ParseError, ParseErrorKind, SkippedBlock};
+use bib_syntax::raw::{ParseError, ParseErrorKind, RawEntry, SkippedBlock};
+use bib_text::spanned::Spanned;
 use bib_text::text::Text;
 use std::alloc::{AllocError, Global};
+use std::collections::BTreeMap;
 
 // Returns the code of an error that recovery reports.
 fn error_code(kind: &ParseErrorKind) -> Code
@@ -67,28 +73,82 @@ fn error_finding(alloc: Global, error: &ParseError) -> Result<Finding, AllocErro
     })
 }
 
-// Returns the finding of a skipped block, at the place of its error.
-fn block_finding(alloc: Global, block: &SkippedBlock) -> Result<Finding, AllocError>
-    ensures { IfOk result (λ finding. finding ≡ block_finding block.now) }
+// Returns whether a field after the complete ones of a skipped block never ends.
+fn is_unclosed(block: &SkippedBlock, entry: &Spanned<RawEntry<'_>>) -> bool
+    ensures { result ≡ spec.is_unclosed block.now (entry_reading_of entry.now) }
 {
-    let message = Text::from_string(error_message(alloc, &block.error.kind)?);
+    !(block.error.span.start < block.span.end) && entry.span.end < block.span.end
+}
+
+// Returns the finding of a skipped block of which `entry` is kept.
+fn kept_finding(
+    alloc: Global,
+    block: &SkippedBlock,
+    entry: &Spanned<RawEntry<'_>>,
+) -> Result<Finding, AllocError>
+    ensures { IfOk result (λ finding. finding ≡ spec.kept_finding block.now (entry_reading_of entry.now)) }
+{
+    let key = entry.v.key.v;
+    if is_unclosed(block, entry) {
+        let message = format!(in alloc; "{key}: incomplete field; is a brace or a quote open?")?;
+        return Ok(Finding {
+            code: Code::Syntax,
+            span: entry.span.end..entry.span.end,
+            message: Text::from_string(message),
+        });
+    }
+    let error = error_message(alloc, &block.error.kind)?;
+    let message = format!(in alloc; "{key}: {error}")?;
     Ok(Finding {
         code: Code::Syntax,
         span: block.error.span.start..block.error.span.end,
-        message,
+        message: Text::from_string(message),
     })
 }
 
-// Appends the findings of skipped blocks.
+// Returns the finding of a skipped block of which no entry is kept.
+fn lost_finding(alloc: Global, block: &SkippedBlock) -> Result<Finding, AllocError>
+    ensures { IfOk result (λ finding. finding ≡ spec.lost_finding block.now) }
+{
+    let message = error_message(alloc, &block.error.kind)?;
+    Ok(Finding {
+        code: Code::Syntax,
+        span: block.error.span.start..block.error.span.end,
+        message: Text::from_string(message),
+    })
+}
+
+// Returns the finding of a skipped block. `entries` contains the entries by their starts.
+fn block_finding(
+    alloc: Global,
+    said: &[Spanned<RawEntry<'_>>],
+    entries: &BTreeMap<usize, &Spanned<RawEntry<'_>>>,
+    block: &SkippedBlock,
+) -> Result<Finding, AllocError>
+    requires { AreEntriesByStart entries.now (map entry_reading_of said.now) }
+    ensures { IfOk result (λ finding. finding ≡ block_finding (map entry_reading_of said.now) block.now) }
+{
+    match entries.get(&block.span.start).copied() {
+        Some(entry) => kept_finding(alloc, block, entry),
+        None => lost_finding(alloc, block),
+    }
+}
+
+// Appends the findings of skipped blocks. `said` contains the raw entries of the file.
 pub(crate) fn add_blocks(
     alloc: Global,
     found: &mut Vec<Finding>,
+    said: &[Spanned<RawEntry<'_>>],
     blocks: &[SkippedBlock],
 ) -> Result<(), AllocError>
-    ensures { OnOk result (found.new.items ≡ found.old.items ++ map block_finding blocks.now) }
+    ensures { OnOk result (found.new.items ≡ found.old.items ++ map (block_finding (map entry_reading_of said.now)) blocks.now) }
 {
+    if blocks.is_empty() {
+        return Ok(());
+    }
+    let entries = entries_by_start(alloc, said)?;
     'skipped: for block in blocks {
-        found.push(block_finding(alloc, block)?)?;
+        found.push(block_finding(alloc, said, &entries, block)?)?;
     }
     Ok(())
 }

@@ -1,18 +1,24 @@
 //! All findings of a file.
 
-ghost use Rattle.std.specs.Prelude.{◌≡◌, ◌<◌, All, length, map, IfOk, OnOk};
+ghost use Rattle.std.specs.Prelude.{◌≡◌, ◌<◌, ◌++◌, All, length, map, IfOk, OnOk};
 ghost use Rattle.std.specs.BTreeMap.{get_by_text};
 ghost use Rattle.bib_syntax.specs.Views.{entry_reading_of};
 ghost use Rattle.bib_findings.specs.Adding.{Adds};
+ghost use Rattle.bib_findings.specs.Cuts.{is_cut};
 ghost use Rattle.bib_findings.specs.Entries.{AreOfEach};
-ghost use Rattle.bib_findings.specs.Findings.{AreBetween, AreFindings, AreFindingsIn, AreOfEntry, AreSortedByPlace, entries_said};
+ghost use Rattle.bib_findings.specs.Findings.{AreBetween, AreFindings, AreFindingsIn, AreOfEntry, AreSortedByPlace, entries_said, single_findings};
 ghost use Rattle.bib_findings.specs.Met.{AreFieldNames};
 
+use crate::book_numbers::add_numbers;
+use crate::cuts::{block_starts, whole_origins};
 use crate::duplicates::add_duplicates;
 use crate::entries::add_report;
 use crate::errors::{add_blocks, add_errors};
+use crate::fields::{add_address, add_empty, add_repeated};
 use crate::finding::Finding;
 use crate::foreign::add_foreign_fields;
+use crate::key_cases::add_cases;
+use crate::malformed_dates::add_dates;
 use crate::names::{FieldName, add_unknown_fields};
 use crate::references::add_references;
 use crate::types::add_unknown_type;
@@ -25,52 +31,77 @@ use bib_text::spanned::Spanned;
 use std::alloc::{AllocError, Global};
 use std::collections::BTreeMap;
 
-// Appends the findings of an entry, with its raw form `said`. `met` caches the field names.
+// Appends the findings of single fields of an entry: repeated and empty ones, wrong numbers, DOIs with an address, and dates that aren't
+// one.
+fn add_single(
+    alloc: Global,
+    found: &mut Vec<Finding>,
+    is_cut: bool,
+    said: &Spanned<RawEntry<'_>>,
+    entry: &Entry,
+) -> Result<(), AllocError>
+    ensures { OnOk result (found.new.items ≡ found.old.items ++
+        single_findings is_cut (entry_reading_of said.now) entry.now) }
+{
+    add_repeated(alloc, found, said)?;
+    add_empty(alloc, found, said)?;
+    add_numbers(alloc, found, said)?;
+    add_address(alloc, found, said)?;
+    add_dates(alloc, found, is_cut, said, entry)
+}
+
+// Appends the findings of an entry, with its raw form `said`. `met` caches the field names, and `is_cut` says whether the entry is cut.
 fn add_entry(
     alloc: Global,
     found: &mut Vec<Finding>,
     met: &mut BTreeMap<String, FieldName>,
+    is_cut: bool,
     said: &Spanned<RawEntry<'_>>,
     entry: &Entry,
 ) -> Result<(), AllocError>
     requires { AreFieldNames (get_by_text met.old) }
     ensures met { OnOk result (AreFieldNames (get_by_text met.new)) }
-    ensures added { OnOk result (Adds (AreOfEntry (entry_reading_of said.now) entry.now)
+    ensures added { OnOk result (Adds (AreOfEntry is_cut (entry_reading_of said.now) entry.now)
         found.old.items found.new.items) }
 {
     add_unknown_type(alloc, found, said)?;
-    add_report(alloc, found, said, entry)?;
-    add_unknown_fields(alloc, found, met, said)
+    add_report(alloc, found, is_cut, said, entry)?;
+    add_unknown_fields(alloc, found, met, said)?;
+    add_single(alloc, found, is_cut, said, entry)
 }
 
-// Appends the findings of entries. `origins` contains the index of each in `said`.
+// Appends the findings of entries. `origins` contains the index of each in `said`, and `skipped` the skipped blocks.
 fn add_entries(
     alloc: Global,
     found: &mut Vec<Finding>,
+    skipped: &[SkippedBlock],
     said: &[Spanned<RawEntry<'_>>],
     origins: &[usize],
     entries: &[Entry],
 ) -> Result<(), AllocError>
     requires same_length { length origins.now ≡ length entries.now }
     requires there { All (λ index. index < length said.now) origins.now }
-    ensures { OnOk result (Adds (AreOfEach AreOfEntry (map entry_reading_of said.now) origins.now entries.now)
-        found.old.items found.new.items) }
+    ensures { OnOk result (Adds (AreOfEach (λ one. AreOfEntry (is_cut skipped.now one) one) (map entry_reading_of said.now) origins.now
+        entries.now) found.old.items found.new.items) }
 {
+    let starts = block_starts(alloc, skipped)?;
     let mut met = BTreeMap::new(alloc);
     'entries: for index in 0..entries.len() {
         let one = &said[origins[index]];
         let entry = &entries[index];
-        add_entry(alloc, found, &mut met, one, entry)?;
+        let is_cut = starts.contains(&one.span.start);
+        add_entry(alloc, found, &mut met, is_cut, one, entry)?;
     }
     Ok(())
 }
 
 /// Returns the findings between entries, with only the fields that each entry has itself. They are keys that an entry
-/// refers to and no entry has, entries that are likely the same work as an earlier one, and fields that other programs write
-/// for themselves. `origins` contains the index of each entry in `said`, the raw entries of the file. Fails only if out of
-/// memory.
+/// refers to and no entry has, entries that are likely the same work as an earlier one, keys that differ only in case, and fields
+/// that other programs write for themselves. `origins` contains the index of each entry in `said`, the raw entries of the file, and `skipped` its skipped
+/// blocks. An entry that begins where a skipped block begins is no likely duplicate. Fails only if out of memory.
 pub fn between(
     alloc: Global,
+    skipped: &[SkippedBlock],
     said: &[Spanned<RawEntry<'_>>],
     origins: &[usize],
     names: &Names,
@@ -78,11 +109,13 @@ pub fn between(
 ) -> Result<Vec<Finding>, AllocError>
     requires same_length { length origins.now ≡ length own.now }
     requires there { All (λ index. index < length said.now) origins.now }
-    ensures { IfOk result (λ found. AreBetween names.now (entries_said said.now) origins.now own.now found.items) }
+    ensures { IfOk result (λ found. AreBetween skipped.now names.now (entries_said said.now) origins.now own.now found.items) }
 {
     let mut found = Vec::new(alloc);
     add_references(alloc, &mut found, names, said, origins, own)?;
-    add_duplicates(alloc, &mut found, said, origins)?;
+    let whole = whole_origins(alloc, skipped, said, origins)?;
+    add_duplicates(alloc, &mut found, said, &whole)?;
+    add_cases(alloc, &mut found, said, origins)?;
     add_foreign_fields(alloc, &mut found, said, origins)?;
     Ok(found)
 }
@@ -115,20 +148,21 @@ pub fn findings_in(
 {
     let mut between = between;
     let mut found = Vec::new(alloc);
-    add_blocks(alloc, &mut found, skipped)?;
+    add_blocks(alloc, &mut found, said, skipped)?;
     add_errors(alloc, &mut found, errors)?;
-    add_entries(alloc, &mut found, said, origins, entries)?;
+    add_entries(alloc, &mut found, skipped, said, origins, entries)?;
     found.append(&mut between)?;
     sorted_by_place(found)
 }
 
 /// Returns all findings of the text of a bibliography file, sorted by where they start. Recovers the text as
-/// `Bibliography::recover` does. Spans are in bytes of the text. The codes `UnreadBytes`, `MissingEntry` and `UnusedEntry`
-/// don't occur, because they are about the bytes of the file or about documents. Fails only if out of memory.
+/// `Bibliography::recover` does, so the complete fields of an entry with a syntax error have findings too. Spans are in bytes of
+/// the text. The codes `UnreadBytes`, `MissingEntry` and `UnusedEntry` don't occur, because they are about the bytes of the file
+/// or about documents. Fails only if out of memory.
 pub fn findings(alloc: Global, text: &str) -> Result<Vec<Finding>, AllocError>
     ensures { IfOk result (λ found. AreFindings text.now found.items) }
 {
-    let RawRecovery { raw, skipped } = RawBibliography::recover(alloc, text)?;
+    let RawRecovery { raw, skipped } = RawBibliography::recover_parts(alloc, text)?;
     let KeptEntries {
         mut entries,
         names,
@@ -137,7 +171,7 @@ pub fn findings(alloc: Global, text: &str) -> Result<Vec<Finding>, AllocError>
         mut errors,
     } = keep(alloc, &raw)?;
     let said = &raw.entries;
-    let linked = between(alloc, said, &origins, &names, &entries)?;
+    let linked = between(alloc, &skipped, said, &origins, &names, &entries)?;
     let mut unresolved = resolve_readable(alloc, &spans, &names, &mut entries)?;
     errors.append(&mut unresolved)?;
     findings_in(alloc, &skipped, &errors, said, &origins, &entries, linked)

@@ -100,7 +100,7 @@ pub(crate) fn begins_with(prefix: &str, name: &str) -> bool
 }
 
 // Returns whether a name begins with one of these texts, in any ASCII case.
-fn begins_with_any(prefixes: &[&'static str], name: &str) -> bool
+pub(crate) fn begins_with_any(prefixes: &[&'static str], name: &str) -> bool
     ensures { result ≡ list_any (λ prefix. spec.begins_in_any_case prefix name.now) (texts prefixes.now) }
 {
     prefixes.iter().any(|prefix| begins_with(prefix, name))

@@ -47,7 +47,7 @@ fn are_of_like_length(most: usize, name: &str, known: &str) -> bool
     name.len().saturating_sub(known.len()) <= most && known.len().saturating_sub(name.len()) <= most
 }
 
-// Returns whether a name is a known one with other letters before or after it, and isn't its plural.
+// Returns whether a name is a known one with other characters before or after it, and isn't its plural.
 fn is_extension(name: &str, known: &str) -> bool
     ensures { result ≡ spec.is_extension name.now known.now }
 {

@@ -93,7 +93,7 @@ parted_date parts date = record {
   literal = date_words date;
 }
 
--- the date that a text is parsed as in a date field, or else a date with this text
+-- the date that a text is parsed as in a date field, or else a season or a date with this text; `None` if it is empty
 abbrev pub said_date : List ℕ → Option ItemDate
 said_date text = read_or_unread (date_read (alone (Normal text))) text
 

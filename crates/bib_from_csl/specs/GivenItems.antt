@@ -49,7 +49,8 @@ single_page text =
     then before_first (λ b. b == char.hyphen) text
     else text
 
--- the text of a variable; in page numbers, each hyphen is replaced by an en dash, and a range of one page by the page
+-- the text of a variable; in page numbers, each hyphen is replaced by an en dash, except that a text that is one range of one
+-- page is replaced by the page
 unfoldable pub content_text : List ℕ → List ℕ → List ℕ
 content_text name text =
     if has_dashes name text then dashed_text (single_page text) else text

@@ -23,7 +23,7 @@ abbrev pub content_of : List ℕ → List Field → Option Content
 content_of name [] = None
 content_of name (field ∷ fields) = if bytes_eq (variable_name field.variable) name then Some field.content else content_of name fields
 
--- whether an entry of this kind has a field for the variable with a name
+-- whether the entry of an item with these properties has a field for the variable with a name
 abbrev pub is_fielded : Work → List ℕ → Bool
 is_fielded work name = bytes_eq name (codes "language") || not (length (variable_field work.kind work.in_work name) == 0)
 

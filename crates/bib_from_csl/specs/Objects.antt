@@ -28,7 +28,7 @@ object_members j = option_map listed_members (as_object j)
 abbrev pub object_size : Json → ℕ
 object_size j = option_map_or length (object_members j) 0
 
--- a text, or the digits of a number
+-- a text, or a number as it is written
 abbrev pub text_in : Json → Option (List ℕ)
 text_in j = option_or (as_str j) (as_number j)
 
@@ -36,7 +36,7 @@ text_in j = option_or (as_str j) (as_number j)
 abbrev pub string_under : List ℕ → Json → Option (List ℕ)
 string_under name j = option_and_then as_str (get name j)
 
--- the text or the digits of the number of the member with a name
+-- the text of the member with a name, or its number as it is written
 abbrev pub text_under : List ℕ → Json → Option (List ℕ)
 text_under name j = option_and_then text_in (get name j)
 

@@ -10,7 +10,7 @@ use Rattle.bib_csl.specs.declared.item.Name.TheVariants.{Literal, Parts}
 use Rattle.bib_csl.specs.declared.item.NameParts.{NameParts}
 use Rattle.bib_from_csl.specs.WrittenPeople.{particle}
 
--- a name without parts, without a tilde, and not the word `others`
+-- a name without parts that isn't empty, has no tilde and isn't the word `others`
 pub record IsPlainLiteral (text : List ℕ) : Type 0 where
   pub some : 0 < length text
   pub utf8 : IsUtf8 text

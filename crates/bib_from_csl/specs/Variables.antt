@@ -23,15 +23,15 @@ is_title =
     (codes
     "title title-short volume-title container-title container-title-short collection-title original-title event-title")
 
--- whether the field of a variable is a list
+-- whether the field of a variable is a list of texts with `and` between them
 abbrev pub is_list_variable : List ℕ → Bool
 is_list_variable = is_among_words (codes "publisher publisher-place original-publisher original-publisher-place")
 
--- whether a variable is a text with HTML tags that is no title
+-- whether a variable is a text with HTML tags that is neither a title nor a list
 abbrev pub is_rich : List ℕ → Bool
 is_rich = is_among_words (codes "event-place genre abstract annote note")
 
--- whether a variable is a text with HTML tags
+-- whether a variable is a text with HTML tags that is no list
 abbrev pub is_tagged : List ℕ → Bool
 is_tagged name = is_title name || is_rich name
 

@@ -62,9 +62,14 @@ abbrev pub date_of_first : List DateParts → Option Datetime
 date_of_first [] = None
 date_of_first (first ∷ rest) = datetime_of first
 
--- the text of a season, such as `2020-21`, if there is a date for its year
+-- a date without its month, day and time
+abbrev pub only_year : Datetime → Datetime
+only_year date = record { year = date.year; month = None; day = None; time = None }
+
+-- the year of the first date with the number of a season after it, such as `2020-21`; `None` if there is no such date
 abbrev pub season_text : List DateParts → Season → Option (List ℕ)
-season_text parts season = option_map (λ year. datetime_text year ++ (codes "-2" ++ season_digit season)) (date_of_first parts)
+season_text parts season =
+    option_map (λ first. datetime_text (only_year first) ++ (codes "-2" ++ season_digit season)) (date_of_first parts)
 
 -- the mark of an approximate date
 abbrev pub circa_mark : Bool → List ℕ

@@ -29,7 +29,7 @@ pub struct Converted {
 pub struct Refusal {
     /// The reason.
     pub fault: Fault,
-    /// The index of the element at fault.
+    /// The index of the element at fault; 0 if the text isn't JSON or no array.
     pub element: usize,
     /// The byte offset of the fault: the start of that element, or the first place at which the text isn't JSON. For JSON that is no array,
     /// it is the start of the value.
@@ -39,7 +39,7 @@ pub struct Refusal {
 /// The reason why a text can't be converted to entries.
 #[derive(Debug, Drop)]
 pub enum ItemsError {
-    /// The text contains no items that can be converted, or two items with one key.
+    /// The text contains no items that can be converted, or two items whose entries have one key.
     Refused(Refusal),
     /// The source of the entries can't be parsed, for this reason.
     NotRead(ParseError),
@@ -160,8 +160,8 @@ fn unread(
 ///
 /// # Errors
 ///
-/// `Refused` if the text contains no items that can be converted, or two items with one key; `NotRead` if the source of the entries can't
-/// be parsed; `OutOfMemory` if memory runs out.
+/// `Refused` if the text contains no items that can be converted, or two items whose entries have one key; `NotRead` if the
+/// source of the entries can't be parsed; `OutOfMemory` if memory runs out.
 pub fn entries_of(alloc: Global, json: &str) -> Result<Converted, ItemsError>
     ensures made { IfOk result (spec.AreEntriesOf json.now) }
     ensures refused { IfErr result (spec.MayRefuseItems json.now) }

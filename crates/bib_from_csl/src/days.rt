@@ -99,7 +99,20 @@ fn first_of(parts: &[DateParts]) -> Option<Datetime>
     }
 }
 
-// Returns the text of a season, such as `2020-21`, if there is a date for its year.
+// Returns a date without its month, day and time.
+fn only_year(date: Datetime) -> Datetime
+    ensures { result ≡ spec.only_year date }
+{
+    Datetime {
+        year: date.year,
+        month: None,
+        day: None,
+        time: None,
+    }
+}
+
+// Returns the year of the first date with the number of a season after it, such as `2020-21`, or `None` if there is no such
+// date.
 fn season_text(
     alloc: Global,
     parts: &[DateParts],
@@ -107,9 +120,10 @@ fn season_text(
 ) -> Result<Option<Text>, AllocError>
     ensures { IfOk result (λ text. text ≡ spec.season_text parts.now season) }
 {
-    let Some(year) = first_of(parts) else {
+    let Some(first) = first_of(parts) else {
         return Ok(None);
     };
+    let year = only_year(first);
     let digit = season_digit(season);
     Ok(Some(Text::from_string(format!(in alloc; "{year}-2{digit}")?)))
 }

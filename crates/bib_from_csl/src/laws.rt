@@ -15,19 +15,19 @@ ghost use Rattle.bib_from_csl.specs.PlainDates.{HasBothEnds, IsDateReadBack};
 ghost use Rattle.bib_from_csl.specs.PlainPeople.{ArePlainNames};
 ghost use Rattle.bib_from_csl.specs.WrittenPeople.{names_chunks};
 
-/// Plain names are parsed back, in their order, from the chunks that are written for them.
+/// States that plain names are parsed back, in their order, from the chunks that are written for them.
 pub fn names_are_read_again()
     ensures { (uses_prefix : Bool) (name : AName) (names : List AName) → ArePlainNames uses_prefix (name ∷ names) →
         names_listed uses_prefix (names_chunks uses_prefix (name ∷ names)) ≡ name ∷ names }
 {}
 
-/// The date of an item for a BibLaTeX date is parsed back from its text, if the years are from -9999 to 9999, the days exist, there is no
-/// time, and a range has both ends.
+/// States that the date of an item for a BibLaTeX date is parsed back from its text, if the years are from -9999 to 9999, the
+/// days exist, there is no time, and a range has both ends.
 pub fn dates_are_read_again()
     ensures { (d : ADate) → IsKeptDate d → HasBothEnds d.value → IsDateReadBack (date_item d) }
 {}
 
-/// The pages of at least one range of 32-bit numbers are parsed back from a field that contains them.
+/// States that the pages of at least one range of 32-bit numbers are parsed back from a field that contains them.
 pub fn pages_are_read_again()
     ensures { (ranges : List (ARange ℕ)) → RangesKept ranges →
         pages (Some (alone (Normal (pages_after [] ranges)))) ≡ pages_after [] ranges }

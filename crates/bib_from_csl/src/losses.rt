@@ -49,7 +49,7 @@ fn content_of<'f>(fields: &'f [Field], name: &str) -> Option<&'f Content>
     None
 }
 
-// Returns whether an entry of this kind has a field for the variable with a name.
+// Returns whether the entry of an item with these properties has a field for the variable with a name.
 fn has_field(work: &Work, name: &str) -> bool
     ensures { result ≡ spec.is_fielded work.now name.now }
 {

@@ -38,7 +38,7 @@ pub(crate) fn size(value: &Value<'_>) -> usize
     }
 }
 
-// Returns a text, or the digits of a number.
+// Returns a text, or a number as it is written.
 pub(crate) fn text_in<'a>(value: &Value<'a>) -> Option<&'a str>
     ensures { option_map (λ text. text.now) result ≡ spec.text_in (value_view value.now) }
 {
@@ -56,7 +56,7 @@ pub(crate) fn string_under<'a>(value: &Value<'a>, name: &str) -> Option<&'a str>
     member.as_str()
 }
 
-// Returns the text or the digits of the number of the member with a name.
+// Returns the text of the member with a name, or its number as it is written.
 pub(crate) fn text_under<'a>(value: &Value<'a>, name: &str) -> Option<&'a str>
     ensures { option_map (λ text. text.now) result ≡ spec.text_under name.now (value_view value.now) }
 {

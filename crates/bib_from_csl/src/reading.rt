@@ -20,7 +20,7 @@ use bib_text::text::Text;
 use json::Value;
 use std::alloc::{AllocError, Global};
 
-/// The reason why a text isn't an array of items.
+/// The reason why the items of a text can't be converted.
 #[derive(Debug, Clone, Copy, PartialEq, Eq)]
 pub enum Fault {
     /// The text isn't JSON.
@@ -35,7 +35,7 @@ pub enum Fault {
     NoType,
     /// A variable of an item doesn't have the form that CSL requires: a text or a number, names, or a date.
     WrongForm,
-    /// Two items have one key.
+    /// The entries of two items have one key.
     KeyTwice,
 }
 
@@ -100,7 +100,8 @@ fn single_page(text: &str) -> &str
     }
 }
 
-// Returns the text of a variable. In page numbers, each hyphen is replaced by an en dash, and a range of one page by the page.
+// Returns the text of a variable. In page numbers, each hyphen is replaced by an en dash, except that a text that is one range of
+// one page is replaced by the page.
 #[tactic(auto, unfolding(crate::specs::GivenItems::content_text))]
 fn content_text(alloc: Global, name: &str, text: &str) -> Result<Text, AllocError>
     ensures { IfOk result (λ content. content ≡ spec.content_text name.now text.now) }

@@ -75,7 +75,7 @@ fn is_title(name: &str) -> bool
     )
 }
 
-// Returns whether the field of a variable is a list.
+// Returns whether the field of a variable is a list of texts with `and` between them.
 pub(crate) fn is_listed(name: &str) -> bool
     ensures { result ≡ spec.is_list_variable name.now }
 {
@@ -85,7 +85,7 @@ pub(crate) fn is_listed(name: &str) -> bool
     )
 }
 
-// Returns whether a variable is a text with HTML tags that is no title.
+// Returns whether a variable is a text with HTML tags that is neither a title nor a list.
 fn is_rich(name: &str) -> bool
     ensures { result ≡ spec.is_rich name.now }
 {
@@ -95,7 +95,7 @@ fn is_rich(name: &str) -> bool
     )
 }
 
-// Returns whether a variable is a text with HTML tags.
+// Returns whether a variable is a text with HTML tags that is no list.
 pub(crate) fn is_tagged(name: &str) -> bool
     ensures { result ≡ spec.is_tagged name.now }
 {

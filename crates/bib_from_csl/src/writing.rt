@@ -160,7 +160,8 @@ fn push_language(alloc: Global, out: &mut Text, tag: &str) -> Result<(), AllocEr
     push_line(out, field, value.as_str())
 }
 
-// Appends the lines of a variable with this field: that of the field, and that of the additional field, if there is one.
+// Appends the lines of a variable with this field: that of the field, and that of the additional field, if there is one. Appends
+// nothing for a date that can't be written.
 fn push_valued(
     alloc: Global,
     out: &mut Text,

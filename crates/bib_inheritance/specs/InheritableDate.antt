@@ -70,12 +70,12 @@ is_unreadable (InheritableDate.dated atoms) = false
 abbrev pub looks_for_date : EntryTexts → Bool
 looks_for_date own = (rules_of own.entry_type).needs_date && not (has own (codes "date") || has own (codes "year"))
 
--- the date of the last of these entries that has one
+-- the date of the last of these entries whose date can be inherited
 abbrev pub last_date : List EntryTexts → Option (List Atom)
 last_date [] = None
 last_date (r ∷ rest) = first_some (last_date rest) (dated_text (inheritable_date r.fields))
 
--- the date that an entry inherits: if it lacks a required date, that of the last reference that has one
+-- the date that an entry inherits: if it lacks a required date, that of the last reference whose date can be inherited
 abbrev pub date_for : EntryTexts → List EntryTexts → Option (List Atom)
 date_for own references = if looks_for_date own then last_date references else None
 

@@ -34,8 +34,8 @@ main_titles =
     (codes "maintitle", fields "title") ∷ (codes "mainsubtitle", fields "subtitle")
     ∷ (codes "maintitleaddon", fields "titleaddon") ∷ []
 
--- the names for which an entry, unless it offers one of the titles above, offers the first that it has of several fields with
--- the same meaning
+-- for some names, the fields with the same meaning, in order of preference. An entry offers the first of them that it has,
+-- unless it offers one of the titles above
 abbrev pub same_meaning : List (List ℕ × Names)
 same_meaning =
     (codes "address", fields "address location") ∷ (codes "institution", fields "institution school")

@@ -71,7 +71,7 @@ pub(crate) fn read_date(
     Ok(())
 }
 
-// Returns the date of the last of these entries that has one.
+// Returns the date of the last of these entries whose date can be inherited.
 pub(crate) fn last_date(
     alloc: Global,
     indices: &[usize],

@@ -132,6 +132,8 @@ fn date_errors(
 /// Each entry that refers to itself, directly or through others, is reported (`ReferenceCycle`, at the entry), and loses its
 /// `crossref` and `xdata`. Then each entry is reported that lacks a required date and refers to an entry whose date can't be
 /// parsed (`ResolutionError`). Such a date is not inherited. Both kinds of errors are in the order of the entries.
+///
+/// The only returned error is out of memory. Some entries may then have changed, and one may have lost its fields.
 pub fn resolve_readable(
     alloc: Global,
     spans: &[Span],

@@ -76,7 +76,8 @@ pub(crate) fn resolution_error(error: TypeError) -> ParseError
 ///
 /// The error is that of the first entry that refers to itself, directly or through others (`ReferenceCycle`, at the entry).
 /// If there is none, it is that of the first entry that lacks a required date and refers to an entry whose date can't be
-/// parsed (`ResolutionError`). Its span is then that of the first of the year, month and day that can't be parsed.
+/// parsed (`ResolutionError`). Its span is then that of the first of the year, month and day that can't be parsed. For a day
+/// after the month, it is that of the digits, in bytes of the month's text.
 ///
 /// After an error, some entries may be resolved. After out of memory, one entry may have lost its fields.
 pub fn resolve(

@@ -90,8 +90,8 @@ fn fields_at(
     Ok(fields)
 }
 
-// Returns the date that the entry at `index` inherits. It is that of the last reference that has one, if the entry lacks a
-// required date.
+// Returns the date that the entry at `index` inherits. It is that of the last reference whose date can be inherited, if the
+// entry lacks a required date.
 fn date_at(
     alloc: Global,
     indices: &[usize],

@@ -9,7 +9,7 @@ use Rattle.bib_json.specs.Chunks.{chunks_json}
 use Rattle.bib_json.specs.Objects.{Member, object_of}
 use Rattle.bib_json.specs.Values.{value_json}
 
--- a field of this name: its chunks and its parsed value
+-- a field of this name: its chunks and its parsed value, if it has one
 abbrev pub field_members : List ℕ → Value → List Member
 field_members name chunks =
     (codes "chunks", Some (chunks_json chunks)) ∷ (codes "value", value_json name chunks) ∷ []

@@ -8,12 +8,12 @@ use Rattle.serde_json.specs.View.{items_of}
 abbrev pub Member : Type 0
 Member = List ℕ × Option Data
 
--- members with a value of this name, if there is one
+-- members, and one more with this name and a value, if there is a value
 abbrev pub with_given : List ℕ → Option Data → Members → Members
 with_given name None members = members
 with_given name (Some value) members = put name value members
 
--- members, and more of them that have a value
+-- members, and those of a list that have a value
 abbrev pub with_members : Members → List Member → Members
 with_members members [] = members
 with_members members (m ∷ rest) = with_members (with_given m.0 m.1 members) rest

@@ -77,7 +77,7 @@ fn datetime_value(alloc: Global, datetime: Datetime) -> Result<Value, AllocError
     Ok(Value::from(members))
 }
 
-// Returns one end of a range, if the range has it.
+// Returns the only date or one end of a range, if there is one.
 fn end_value(alloc: Global, end: Option<Datetime>) -> Result<Option<Value>, AllocError>
     ensures { IfOk result (λ value. option_map view value ≡ option_map spec.datetime_json end) }
 {
@@ -109,7 +109,7 @@ fn start_of(value: DateValue) -> Option<Datetime>
     }
 }
 
-// Returns the end of a range.
+// Returns the end of a range, if it has one.
 fn end_of(value: DateValue) -> Option<Datetime>
     ensures { result ≡ spec.date_end value }
 {

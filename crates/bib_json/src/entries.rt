@@ -23,7 +23,8 @@ fn type_name(entry_type: &EntryType) -> &str
     }
 }
 
-/// Returns an entry as a JSON object: its type, its key, and its fields by their names, each with its chunks and its parsed value.
+/// Returns an entry as a JSON object: its type, its key, and its fields by their names. Each field has its chunks and, if it
+/// could be parsed, its value.
 pub fn entry_json(alloc: Global, entry: &Entry) -> Result<Value, AllocError>
     ensures { IfOk result (λ value. view value ≡ spec.entry_object entry.now) }
 {
@@ -35,7 +36,7 @@ pub fn entry_json(alloc: Global, entry: &Entry) -> Result<Value, AllocError>
     Ok(Value::from(members))
 }
 
-/// Returns the text of that object, on one line. A JSON parser returns the same object for it.
+/// Returns the JSON object of an entry as a text, on one line. A JSON parser returns the same object for it.
 pub fn entry_text(alloc: Global, entry: &Entry) -> Result<String, AllocError>
     ensures text { IfOk result (λ text. string_bytes text ≡ spec.json_text_of entry.now) }
     ensures reads_back { IfOk result (λ _. IsReadBack entry.now) }

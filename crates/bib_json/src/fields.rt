@@ -12,7 +12,7 @@ use bib_collections::text_map::TextMap;
 use serde_json::{Map, Value};
 use std::alloc::{AllocError, Global};
 
-// Returns the object of a field: its chunks and its parsed value.
+// Returns the object of a field: its chunks and its parsed value, if it has one.
 fn field_object(alloc: Global, name: &str, chunks: ChunksRef<'_>) -> Result<Value, AllocError>
     ensures { IfOk result (λ value. view value ≡ field_json name.now chunks.now) }
 {

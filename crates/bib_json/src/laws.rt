@@ -12,18 +12,18 @@ ghost use Rattle.bib_json.specs.Entries.{entry_object, json_text_of, IsReadBack}
 ghost use Rattle.bib_json.specs.Fields.{field_json};
 ghost use Rattle.bib_json.specs.Objects.{array_of};
 
-/// The JSON of an entry has each of its fields under the name of the field, and no other.
+/// States that the JSON of an entry has each of its fields under the name of the field, and no other.
 pub fn fields_are_found()
     ensures { (entry : Entry) (name : List ℕ) → option_and_then (get name) (get (codes "fields") (entry_object entry)) ≡
         option_map (field_json name) (by_name.get entry.fields name) }
 {}
 
-/// Elements, each after the text before it, and the end after them, are the array.
+/// States that the elements of an array, each after the text before it, and the text after the last one are the whole array.
 pub fn pieces_make_the_array()
     ensures { (elements : List (List ℕ)) → in_pieces true elements ≡ array_text elements }
 {}
 
-/// An array of entries that are each parsed back is parsed as the array of their objects.
+/// States that, if the text of each entry parses back to its object, the array of these texts parses to the array of the objects.
 pub fn array_is_read()
     ensures { (entries : List Entry) → AllByRecursion IsReadBack entries →
         read (array_text (map json_text_of entries)) ≡ Some (array_of entry_object entries) }

@@ -24,7 +24,7 @@ use bib_values::ranges::read_ranges;
 use serde_json::Value;
 use std::alloc::{AllocError, Global};
 
-// Returns people.
+// Returns the people in a list with `and` between them.
 fn people(alloc: Global, chunks: ChunksRef<'_>) -> Result<Option<Value>, AllocError>
     ensures { IfOk result (λ value. option_map view value ≡ typed_json type.People chunks.now) }
 {

@@ -22,7 +22,7 @@ abbrev pub authors_in_key : Case → Option ℕ → Entry → List ℕ
 authors_in_key case count entry =
     option_map_or (λ people. flat_map (in_case case) (names_in_key count people)) (field_or entry (codes "author") (codes "editor")) []
 
--- the first words of the field `title`, one word if there is no number
+-- the first significant words of the field `title`; one word if there is no number
 abbrev pub title_in_key : Case → Option ℕ → Entry → List ℕ
 title_in_key case count entry =
     option_map_or (λ title. flat_map (in_case case) (take (unwrap_or count 1) (significant_words (text title))))
@@ -44,7 +44,7 @@ part_text entry ShortYear = year_in_key true entry
 abbrev pub is_kept : ℕ → ℕ → Bool
 is_kept last c = is_in_keys c && not (last == char.hyphen && c == char.hyphen)
 
--- a text without the characters that don't stay in a key; `last` is the character before it
+-- a text without the characters that don't stay in a key; `last` is the last character before it that stays
 abbrev pub cleaned_after : ℕ → List ℕ → List ℕ
 cleaned_after last [] = []
 cleaned_after last (c ∷ text) = if is_kept last c then c ∷ cleaned_after c text else cleaned_after last text
@@ -57,7 +57,8 @@ cleaned text = cleaned_after char.space text
 abbrev pub has_letter_or_digit : List ℕ → Bool
 has_letter_or_digit text = list_any is_ascii_alphanumeric text
 
--- the text that a pattern gives for an entry: the texts of its parts, one after another, or `nokey` if they have no letter and no digit
+-- the text that a pattern gives for an entry: the texts of its parts, one after another, without the characters that don't stay
+-- in a key. If no letter and no digit stays, it is `nokey`
 abbrev pub pattern_text : List Part → Entry → List ℕ
 pattern_text pattern entry =
     let text = cleaned (flat_map (part_text entry) pattern) in

@@ -48,11 +48,11 @@ for_capital c =
 abbrev pub letters_for : ℕ → List ℕ
 letters_for c = for_small c ++ for_capital c
 
--- a character as plain text: a letter or a digit, a space, or nothing
+-- a character as plain text: one letter or more, a digit, a space, or nothing
 abbrev pub key_letter : ℕ → List ℕ
 key_letter c = if is_ascii_alphanumeric c then c ∷ [] else if is_word_gap c then char.space ∷ [] else letters_for c
 
--- a text as plain text: letters lose their marks (by Unicode's compatibility decomposition, NFKD), and all characters but letters,
--- digits and gaps are left out
+-- a text as plain text: letters lose their marks (by Unicode's compatibility decomposition, NFKD), and each gap becomes a space.
+-- All other characters are left out, except ASCII letters, ASCII digits and the letters that `letters_for` replaces
 abbrev pub key_letters : List ℕ → List ℕ
 key_letters text = flat_map key_letter (nfkd (chars text))

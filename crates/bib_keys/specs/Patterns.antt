@@ -10,12 +10,12 @@ use Rattle.bib_keys.specs.declared.pattern.Part.TheVariants.{Literal, Author, Ti
 use Rattle.bib_keys.specs.declared.errors.PatternError.{PatternError}
 use Rattle.bib_keys.specs.declared.errors.PatternError.TheVariants.{NotInKeys, NoPlaceholder, OutOfMemory}
 
--- the part of a year with this number: four digits without a number, and two with the number 2
+-- the part of a year with this number: four digits without a number, and two with the number 2; there is none with other numbers
 abbrev pub year_part : Option ℕ → Option Part
 year_part None = Some Year
 year_part (Some n) = if n == 2 then Some ShortYear else None
 
--- the part that a name and a number mean; the case of the name is that of the words
+-- the part that a name and a number mean; its words are written in the case of the name
 abbrev pub part_meant : List ℕ → Option ℕ → Option Part
 part_meant name count =
     if bytes_eq name (codes "author") then Some (Author Lower count)
@@ -58,7 +58,7 @@ pub data IsPattern : List Part → List ℕ → Type 0 where
   next : {part : Part} {parts : List Part} {text rest : List ℕ} → IsPart part text → IsPattern parts rest
       → IsPattern (part ∷ parts) (text ++ rest)
 
--- the text before the offset `at` is a pattern, and no part begins there, where the text goes on
+-- the text before the offset `at` is a pattern, the text doesn't end there, and no part begins there
 pub record IsStuckAt (text : List ℕ) (at : ℕ) : Type 0 where
   pub parts : List Part
   pub before : IsPattern parts (take at text)

@@ -4,7 +4,7 @@ use Rattle.std.specs.Prelude.{◌≡◌, ℕ, ◌<◌, Bool, true, false, ◌||�
 use Rattle.std.specs.Str.{str_eq_ignore_ascii_case, str_to_ascii_lowercase}
 use Rattle.bib_keys.specs.Keys.{HasSuffix}
 
--- the numbers by names
+-- the number of each name in the map; the names are keys in lower case
 abbrev pub Numbers : Type 0
 Numbers = List ℕ → Option ℕ
 
@@ -31,7 +31,7 @@ pub record IsFirstFree (taken : Numbers) (text : List ℕ) (number : ℕ) (key :
   pub new : is_key_taken taken key ≡ false
   pub first : AreTakenBelow taken text number
 
--- a text gets the first new key, which is taken then
+-- a text gets the first new key; afterwards, only this key is taken in addition
 pub record TakesKey (old new : Numbers) (text key : List ℕ) : Type 0 where
   pub number : ℕ
   pub free : IsFirstFree old text number key

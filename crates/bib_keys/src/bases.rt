@@ -43,7 +43,7 @@ fn push_authors(
     push_words(alloc, out, case, &names)
 }
 
-// Appends the first words of the title.
+// Appends the first `count` significant words of the title, or the first one if there is no `count`.
 fn push_title(
     alloc: Global,
     out: &mut String,

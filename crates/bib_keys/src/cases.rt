@@ -9,7 +9,7 @@ use crate::pattern::Case;
 use bib_text::text::Text;
 use std::alloc::{AllocError, Global};
 
-// Appends a word with its first character in upper case.
+// Appends a word with its first character in ASCII upper case.
 fn push_capital(out: &mut String, word: &str) -> Result<(), AllocError>
     ensures { OnOk result (string_bytes out.new ≡ string_bytes out.old ++ in_case Capital word.now) }
 {
@@ -22,7 +22,7 @@ fn push_capital(out: &mut String, word: &str) -> Result<(), AllocError>
     Ok(())
 }
 
-// Appends a word in a case.
+// Appends a word in the letter case `case`.
 fn push_in_case(alloc: Global, out: &mut String, case: Case, word: &str) -> Result<(), AllocError>
     ensures { OnOk result (string_bytes out.new ≡ string_bytes out.old ++ in_case case word.now) }
 {

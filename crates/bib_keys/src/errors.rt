@@ -1,4 +1,4 @@
-//! The reasons why a text isn't a pattern.
+//! The errors of parsing a pattern.
 
 ghost use Rattle.std.specs.Prelude.{◌≡◌};
 ghost use Rattle.bib_keys.specs.declared.errors.PatternError.TheVariants.{OutOfMemory};
@@ -6,7 +6,7 @@ ghost use Rattle.bib_keys.specs.declared.errors.PatternError.TheVariants.{OutOfM
 use std::alloc::{AllocError, AllocFailed};
 use thiserror::Error;
 
-/// The reason why a text isn't a pattern. The number is an offset in bytes.
+/// The reason why parsing a pattern failed. The number is an offset in bytes.
 #[derive(Debug, Clone, Copy, PartialEq, Eq, Error)]
 pub enum PatternError {
     /// The character at this offset isn't allowed in a key.

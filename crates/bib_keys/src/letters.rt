@@ -13,7 +13,7 @@ fn is_word_gap(c: char) -> bool
     c.is_whitespace() || matches!(c, '/' | '–' | '—')
 }
 
-// Returns the letters for a small letter that doesn't decompose.
+// Returns the letters for one of these small letters, which don't decompose, or else an empty text.
 fn for_small(c: char) -> &'static str
     ensures { result.now ≡ spec.for_small c }
 {
@@ -34,7 +34,7 @@ fn for_small(c: char) -> &'static str
     }
 }
 
-// Returns the letters for a capital that doesn't decompose.
+// Returns the letters for one of these capitals, which don't decompose, or else an empty text.
 fn for_capital(c: char) -> &'static str
     ensures { result.now ≡ spec.for_capital c }
 {

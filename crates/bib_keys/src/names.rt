@@ -13,7 +13,7 @@ use std::alloc::{AllocError, Global};
 // The words for the authors that aren't named.
 const OTHERS: &str = "EtAl";
 
-// Returns the family name of a person as plain text.
+// Returns the family name of a person as plain text, or `EtAl` for the family name `others`.
 fn shown_family_name(alloc: Global, person: &Person) -> Result<Text, AllocError>
     ensures { IfOk result (λ name. name ≡ spec.shown_family_name person.now) }
 {
@@ -34,7 +34,8 @@ fn family_names(alloc: Global, people: &[Person]) -> Result<Vec<Text>, AllocErro
     Ok(names)
 }
 
-// Returns the names that are written in a key: the first name, or `count` names, and `EtAl` if there are more.
+// Returns the names that are written in a key. Without `count`, that is the first name; otherwise at most `count` names, and
+// `EtAl` if there are more.
 fn shown(alloc: Global, count: Option<u8>, mut names: Vec<Text>) -> Result<Vec<Text>, AllocError>
     ensures { IfOk result (λ shown. shown.items ≡ spec.shown_names count names.items) }
 {

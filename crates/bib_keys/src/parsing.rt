@@ -24,7 +24,7 @@ fn digit(text: &str) -> Option<u8>
     }
 }
 
-// Splits a placeholder into its name and its number.
+// Splits a placeholder into its name and its number. Returns `None` if a colon isn't followed by exactly one digit from 1 to 9.
 fn name_and_count(text: &str) -> Option<(&str, Option<u8>)>
     ensures { MatchOption result
         ((name : List ℕ) (count : Option ℕ) → HasNameAndCount text.now name count → ⊥)

@@ -29,7 +29,7 @@ pub enum Case {
 /// A part of a pattern.
 #[derive(Debug, Clone, Copy, PartialEq, Eq)]
 pub enum Part {
-    /// A character, which is copied to the key.
+    /// A character, which is copied to the key, except for a hyphen after a hyphen.
     Literal(char),
     /// The family name of the first author, or with a number up to this many names, and `EtAl` if there are more. The field is
     /// `editor` if there is no `author`.
@@ -60,8 +60,8 @@ impl Model for KeyPattern {
 impl KeyPattern {
     /// Parses a pattern. A placeholder is `{author}`, `{title}` or `{year}`; the first two also in the forms `{Author}` and
     /// `{AUTHOR}`, and with a number from 1 to 9, as `{author:3}`; the year also as `{year:2}`. All other characters are copied
-    /// to the key. The error is the first character that isn't allowed in a key, or the first opening brace that doesn't begin
-    /// a placeholder, or out of memory.
+    /// to the key, except for a hyphen after a hyphen. The error is the first character that isn't allowed in a key, or the first
+    /// opening brace that doesn't begin a placeholder, or out of memory.
     pub fn parse(alloc: Global, text: &str) -> Result<KeyPattern, PatternError>
         ensures found { IfOk result (λ pattern. IsPattern pattern text.now) }
         ensures refused { IfErr result (IsPatternError text.now) }

@@ -111,7 +111,8 @@ without_comma chunks = person_of_words (words_of (letters chunks))
 abbrev pub is_space_byte : ℕ → Bool
 is_space_byte b = b == char.space
 
--- the person of a name whose given name is empty: the text before the comma is cut at its last space
+-- the person of a name whose given name is empty: the text before the comma is cut at its last space. Without a space,
+-- all of it is the family name.
 abbrev pub at_last_space : List ℕ → List ℕ → Person
 at_last_space text suffix =
     if list_any is_space_byte text
@@ -137,7 +138,8 @@ with_comma first second suffix =
     if formats_to_nothing second then at_last_space (encode_utf8_all (formatted_chars first)) suffix
     else before_comma_person (words_of (letters first)) (trimmed_text second) suffix
 
--- the person of a name with a comma, given the chunks before and after the first one, and their cut at a second one
+-- the person of a name with a comma, given the chunks before the first comma, the chunks after it, and the cut of these
+-- at the next comma
 abbrev pub with_commas : List (Spanned Chunk) → List (Spanned Chunk) → Option (List (Spanned Chunk) × List (Spanned Chunk)) → Person
 with_commas first second None = with_comma first second []
 with_commas first second (Some cut) = with_comma first cut.1 (trimmed_text cut.0)

@@ -28,7 +28,8 @@ abbrev pub begins_capital : List ℕ → Bool
 begins_capital [] = false
 begins_capital (c ∷ cs) = is_uppercase c
 
--- the chunks of such a person: one normal chunk, with a verbatim one before it for a prefix that begins in upper case
+-- the chunks of a person with only the four parts of BibTeX: one normal chunk, with a verbatim one before it for a
+-- prefix that begins in upper case
 abbrev pub plain_chunks : Person → Value
 plain_chunks p =
     if length p.prefix == 0 then nowhere (Normal (after_prefix p)) ∷ []

@@ -15,7 +15,7 @@ is_of Capital = is_capital
 is_of Lower = is_lower
 is_of Low = is_low
 
--- where the program cuts a name
+-- the cuts of the program as those of the definitions
 abbrev pub cuts_of : TheCuts → Cuts
 cuts_of cuts = record { given = cuts.given; prefix = cuts.prefix }
 

@@ -1,5 +1,5 @@
 -- The byte offsets of definitions in a text.
-use Rattle.std.proofs.Common.{◌≡◌, ◌≤◌, ℕ, Bool, List, refl, sym, ap, subst, ◌∙◌, arith}
+use Rattle.std.proofs.Common.{◌≡◌, ◌≤◌, ℕ, Bool, false, List, refl, sym, ap, subst, ◌∙◌, arith}
 use Rattle.std.specs.List.{AllByRecursion}
 use Rattle.std.specs.Str.{IsUtf8, IsCharBoundary}
 use Rattle.bib_text.specs.Places.{Place, place, CharAt, Run}
@@ -13,11 +13,12 @@ use Rattle.bib_syntax.specs.Grammar.{Fields as fields}
 use Rattle.bib_syntax.specs.Grammar.Number.{whole, broken}
 use Rattle.bib_syntax.specs.Reading.{FieldReading, FileReading, Part, Piece}
 use Rattle.bib_syntax.specs.Recovery.{Recovered}
+use Rattle.bib_syntax.specs.Recovery.{Keeps as keep}
 use Rattle.bib_syntax.specs.Recovery.{Recovered as recovered}
 use Rattle.bib_syntax.specs.declared.raw.recovery.SkippedBlock.{SkippedBlock}
 use Rattle.bib_syntax.proofs.FieldFacts.{ahead_field, ahead_gap, ahead_parts, ahead_quoted_parts}
 use Rattle.bib_syntax.proofs.FileFacts.{ahead_block, ahead_head, ahead_line_comment}
-use Rattle.bib_syntax.proofs.RecoveryFacts.{ahead_passed}
+use Rattle.bib_syntax.proofs.KeptFacts.{ahead_passed}
 use Rattle.bib_queries.specs.Standing.{IsFieldIn}
 use Rattle.bib_text.proofs.ListFacts.{all_append}
 use Rattle.bib_text.proofs.BoundaryFacts.{char_boundary}
@@ -106,12 +107,12 @@ in_body text same (body.entry v key white comma gap fs close) = _
 
 -- each definition that is recovered from a text is at its offset in the text
 pub definitions_stand : {u : Place} {says : FileReading} {errors : List SkippedBlock} (text : List ℕ) → u.text ≡ text
-    → Recovered u says errors → AllByRecursion (IsFieldIn text) says.abbreviations
+    → Recovered false u says errors → AllByRecursion (IsFieldIn text) says.abbreviations
 definitions_stand text same (recovered.end end) = _
 definitions_stand text same (recovered.skipped char passes x) = definitions_stand text (char.same ∙ same) x
 definitions_stand text same (recovered.line_comment m x) = definitions_stand text ((ahead_line_comment m).text ∙ same) x
 definitions_stand text same (recovered.block {first = first} {rest = rest} b x) =
     all_append (IsFieldIn text) first.abbreviations rest.abbreviations
     (in_body text ((ahead_head b.head).text ∙ same) b.body) (definitions_stand text ((ahead_block b).text ∙ same) x)
-definitions_stand text same (recovered.unread sign none on x) =
+definitions_stand text same (recovered.unread sign none on keep.nothing x) =
     definitions_stand text ((ahead_passed on.passed).text ∙ (sign.same ∙ same)) x

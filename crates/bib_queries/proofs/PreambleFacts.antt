@@ -17,6 +17,7 @@ use Rattle.bib_syntax.specs.Grammar.{Body as body}
 use Rattle.bib_syntax.specs.Grammar.{QuotedParts as quotes}
 use Rattle.bib_syntax.specs.Reading.{FileReading, Part, joined_preambles}
 use Rattle.bib_syntax.specs.Recovery.{Recovered}
+use Rattle.bib_syntax.specs.Recovery.{Keeps as keep}
 use Rattle.bib_syntax.specs.Recovery.{Recovered as recovered}
 use Rattle.bib_syntax.specs.declared.raw.recovery.SkippedBlock.{SkippedBlock}
 use Rattle.bib_queries.specs.Lines.{text_after_prefix}
@@ -174,13 +175,13 @@ block_preambles rest (body.strings fs close) others = others
 block_preambles rest (body.entry v key white comma gap fs close) others = others
 
 -- the preambles that are recovered from a text are texts in quotes
-pub preambles_stand : {u : Place} {says : FileReading} {errors : List SkippedBlock} → Recovered u says errors
+pub preambles_stand : {u : Place} {says : FileReading} {errors : List SkippedBlock} → Recovered false u says errors
     → (insides : List (List ℕ)) × ArePreambles says.preamble insides
 preambles_stand (recovered.end end) = ([], none_joined)
 preambles_stand (recovered.skipped char passes x) = preambles_stand x
 preambles_stand (recovered.line_comment m x) = preambles_stand x
 preambles_stand (recovered.block {rest = rest} b x) = block_preambles rest.preamble b.body (preambles_stand x)
-preambles_stand (recovered.unread sign none on x) = preambles_stand x
+preambles_stand (recovered.unread sign none on keep.nothing x) = preambles_stand x
 
 -- ---- the quote that closes a text
 

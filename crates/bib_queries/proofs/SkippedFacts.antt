@@ -12,7 +12,7 @@ use Rattle.bib_syntax.specs.Recovery.{Recovered as recovered}
 use Rattle.bib_syntax.specs.Reading.{FileReading}
 use Rattle.bib_syntax.specs.declared.raw.recovery.SkippedBlock.{SkippedBlock}
 use Rattle.bib_syntax.proofs.FileFacts.{ahead_block, ahead_line_comment}
-use Rattle.bib_syntax.proofs.RecoveryFacts.{ahead_passed}
+use Rattle.bib_syntax.proofs.KeptFacts.{ahead_passed}
 use Rattle.std.proofs.Math.Bool.{or-true}
 use Rattle.bib_queries.specs.Standing.{IsSkippedIn}
 use Rattle.bib_queries.proofs.MarkFacts.{any_push}
@@ -25,12 +25,12 @@ cut_on {u} {w} text same on =
 
 -- the skipped blocks that are recovered from a text can be cut out of it
 pub skipped_stand : {u : Place} {says : FileReading} {errors : List SkippedBlock} (text : List ℕ) → u.text ≡ text
-    → Recovered u says errors → AllByRecursion (IsSkippedIn text) errors
+    → Recovered false u says errors → AllByRecursion (IsSkippedIn text) errors
 skipped_stand text same (recovered.end end) = _
 skipped_stand text same (recovered.skipped char passes x) = skipped_stand text (char.same ∙ same) x
 skipped_stand text same (recovered.line_comment m x) = skipped_stand text ((ahead_line_comment m).text ∙ same) x
 skipped_stand text same (recovered.block b x) = skipped_stand text ((ahead_block b).text ∙ same) x
-skipped_stand {u} text same (recovered.unread {w = w} sign none on x) =
+skipped_stand {u} text same (recovered.unread {w = w} sign none on held x) =
     let there : w.text ≡ text = (ahead_passed on.passed).text ∙ (sign.same ∙ same) in (
       record {
         ordered = (ahead_then (ahead_char sign) (ahead_passed on.passed)).at;

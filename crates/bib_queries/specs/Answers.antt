@@ -38,7 +38,7 @@ passing_lines test text entries = flat_map (λ e. if test e then entry_line text
 abbrev pub has_key : List (List ℕ) → EntryReading → Bool
 has_key keys e = is_listed keys e.key.text
 
--- whether an entry has a field with this name whose value contains this text
+-- whether an entry has a field with this name, in any ASCII case, and a piece of its value contains this text
 abbrev pub is_found_in : List ℕ → List ℕ → EntryReading → Bool
 is_found_in name part e = list_any (is_found name part) e.fields
 

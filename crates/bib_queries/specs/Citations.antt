@@ -38,7 +38,7 @@ cites_all cites = list_any (λ c. bytes_eq c.key (codes "*")) cites
 abbrev pub add_citation : List Citation → Citation → List Citation
 add_citation keys c = if bytes_eq c.key (codes "*") || list_any (λ k. bytes_eq k.key c.key) keys then keys else keys ++ c ∷ []
 
--- the first citation of each key
+-- the first citation of each key, except the key `*`
 abbrev pub first_citations : List Citation → List Citation
 first_citations cites = fold add_citation [] cites
 

@@ -19,7 +19,7 @@ with_line_feed text = text ++ codes "\n"
 abbrev pub excerpt : List ℕ → EntryReading → List ℕ
 excerpt text e = slice_range text e.start (e.end + 1)
 
--- the source text of a definition, from its name to the end of its value
+-- the source text of a definition, from its name to the end of its value, without the white space at its end
 abbrev pub definition_text : List ℕ → FieldReading → List ℕ
 definition_text text f = trim_end (slice_range text f.name.start f.value.end)
 

@@ -92,7 +92,7 @@ fn used_definitions(
     Ok(marks)
 }
 
-// Returns the source text of a definition, from its name to the end of its value.
+// Returns the source text of a definition, from its name to the end of its value, without the white space at its end.
 fn definition<'s>(text: &'s str, pair: &Pair<'_>) -> &'s str
     requires { IsFieldIn text.now (field_of pair.now) }
     ensures { result.now ≡ definition_text text.now (field_of pair.now) }

@@ -26,7 +26,7 @@ fn hides_next(is_hidden: bool, byte: u8) -> bool
     !is_hidden && byte == b'\\'
 }
 
-// Returns the offset of the quote that closes the text from its start, or the length of the text without one.
+// Returns the byte offset of the first quote that no backslash escapes, or the length of the text without one.
 fn closing_quote(text: &str) -> usize
     ensures found { (inside rest : List ℕ) → CanBeQuoted inside → text.now ≡ inside ++ char.quote ∷ rest → result ≡ length inside }
     ensures boundary { IsCharBoundary text.now result }

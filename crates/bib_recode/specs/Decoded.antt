@@ -29,12 +29,12 @@ IsDecoded Utf16BigEndian bytes text = IsUtf16Text true (after_mark Utf16BigEndia
 IsDecoded Windows1252 bytes text = text ≡ windows_1252_text bytes
 IsDecoded Latin1 bytes text = text ≡ encode_utf8_all bytes
 
--- bytes from the offset `start` have an odd number, and `at` is the offset of the last of them
+-- the number of bytes from the offset `start` is odd, and `at` is the offset of the last of them
 pub record IsOddByte (start : ℕ) (bytes : List ℕ) (at : ℕ) : Type 0 where
   pub odd : length bytes % 2 ≡ 1
   pub last : at + 1 ≡ start + length bytes
 
--- bytes from the offset `start` have an even number, and `at` is the offset of the first surrogate without a partner
+-- the number of bytes from the offset `start` is even, and `at` is the offset of the first surrogate without a partner
 pub record IsUnpairedAt (is_big_endian : Bool) (start : ℕ) (bytes : List ℕ) (at : ℕ) : Type 0 where
   pub index : ℕ
   pub even : length bytes % 2 ≡ 0

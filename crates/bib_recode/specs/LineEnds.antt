@@ -17,8 +17,8 @@ abbrev pub end_of_line : LineEnds → List ℕ
 end_of_line Lf = char.line_feed ∷ []
 end_of_line CrLf = char.carriage_return ∷ char.line_feed ∷ []
 
--- a character in UTF-8, or the line end if a line ends at it. The flag says whether the character before it is a carriage return. A line
--- feed after a carriage return ends no line, because that line has ended.
+-- a character in UTF-8, or the line end if a line ends at it. The flag says whether the character before it is a carriage
+-- return. For a line feed after a carriage return it is nothing, because that line has ended.
 abbrev pub ended_bytes : LineEnds → Bool → ℕ → List ℕ
 ended_bytes ends is_after_return c =
     if c == char.carriage_return then end_of_line ends

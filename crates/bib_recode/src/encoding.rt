@@ -57,7 +57,7 @@ impl Encoding {
         }
     }
 
-    // Returns the length in bytes of the byte order mark at the start of a file, or 0 if it has none.
+    // Returns the length in bytes of the mark of this encoding at the start of a file, or 0 if the file doesn't begin with it.
     pub(crate) fn mark_length(self, bytes: &[u8]) -> usize
         ensures is { result ≡ length_of_mark self bytes.now }
         ensures within { result ≤ length bytes.now }

@@ -39,8 +39,8 @@ impl LineEnds {
     }
 }
 
-// Appends a character, or a line end if a line ends at it. A line feed after a carriage return ends no line, because that line has
-// ended.
+// Appends a character, or a line end if a line ends at it. For a line feed after a carriage return, appends nothing, because that
+// line has ended.
 fn push_ended(
     out: &mut String,
     ends: LineEnds,

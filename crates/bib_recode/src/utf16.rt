@@ -33,14 +33,14 @@ pub(crate) fn units_of(
     Ok(units)
 }
 
-// Returns whether a unit is the first one of a pair.
+// Returns whether a unit is a high surrogate: whether it can be the first one of a pair.
 fn is_high(unit: u16) -> bool
     ensures { result ≡ is_high_surrogate unit }
 {
     0xD800 <= unit && unit < 0xDC00
 }
 
-// Returns whether a unit is the second one of a pair.
+// Returns whether a unit is a low surrogate: whether it can be the second one of a pair.
 fn is_low(unit: u16) -> bool
     ensures { result ≡ is_low_surrogate unit }
 {

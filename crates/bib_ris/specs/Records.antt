@@ -29,7 +29,7 @@ abbrev pub first_field : Entry → List (List ℕ) → Option Value
 first_field entry [] = None
 first_field entry (name ∷ names) = option_or (entry_field entry name) (first_field entry names)
 
--- a line with the text of the first of these fields that the entry has
+-- a line with the text of the first of these fields that the entry has; nothing if it has none of them
 abbrev pub ris_field : Entry → List ℕ → List (List ℕ) → List ℕ
 ris_field entry tag names = line_if_given tag (option_map text (first_field entry names))
 
@@ -107,7 +107,7 @@ first_date (After d) = d
 first_date (Before d) = d
 first_date (Between d e) = d
 
--- a month or a day, counted from 1, in two digits, or nothing if it is unknown
+-- a month or a day, counted from 1, in at least two digits, or nothing if it is unknown
 abbrev pub two_digits : Option ℕ → List ℕ
 two_digits None = []
 two_digits (Some index) = if nat_lt index 9 then codes "0" ++ decimal (index + 1) else decimal (index + 1)
@@ -130,12 +130,12 @@ ris_date (Some d) = datetime_lines (first_date d.value)
 
 -- ---- numbers
 
--- the first and the last page of a range, or the text if it is no range
+-- the first and the last page of a range, or the text if there is no range
 abbrev pub range_lines : Value → Option (Range ℕ) → List ℕ
 range_lines chunks None = ris_line (codes "SP") (text chunks)
 range_lines chunks (Some range) = ris_line (codes "SP") (decimal range.start) ++ ris_line (codes "EP") (decimal range.end)
 
--- the first range of pages, or the text if that is no range
+-- the first range of pages, or the text if the list has no range or a part that is no range
 abbrev pub pages_lines : Option Value → List ℕ
 pages_lines None = []
 pages_lines (Some chunks) = range_lines chunks (range_read chunks)

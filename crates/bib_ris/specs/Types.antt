@@ -6,14 +6,14 @@ use Rattle.bib_chunks.specs.Values.{Value, text}
 use Rattle.bib_tables.specs.declared.mechanics.EntryType.{EntryType}
 use Rattle.bib_tables.specs.declared.mechanics.EntryType.TheVariants.{Article, Book, Booklet, InBook, InCollection, InProceedings, Manual, MastersThesis, PhdThesis, Misc, Proceedings, TechReport, Unpublished, MvBook, BookInBook, SuppBook, Periodical, SuppPeriodical, Collection, MvCollection, SuppCollection, Reference, MvReference, InReference, MvProceedings, Report, Patent, Thesis, Online, Software, Dataset, Set, XData, Unknown}
 
--- the type of an article, by the text of its `entrysubtype`: in a magazine, in a newspaper, or in a journal
+-- the type of an article, by the text of its `entrysubtype` in any ASCII case: in a magazine, in a newspaper, or in a journal
 abbrev pub periodical_type : List ℕ → List ℕ
 periodical_type subtype =
     if str_eq_ignore_ascii_case subtype (codes "magazine") then codes "MGZN"
     else if str_eq_ignore_ascii_case subtype (codes "newspaper") then codes "NEWS"
     else codes "JOUR"
 
--- the type of an article, by its field `entrysubtype`, if it has this field
+-- the type of an article, by its field `entrysubtype`; an article without this field is in a journal
 abbrev pub article_type : Option Value → List ℕ
 article_type None = codes "JOUR"
 article_type (Some subtype) = periodical_type (text subtype)

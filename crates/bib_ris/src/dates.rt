@@ -74,7 +74,7 @@ fn first_date(value: DateValue) -> Datetime
     }
 }
 
-// Returns a month or a day, counted from 1, in two digits, or an empty text if it is unknown.
+// Returns a month or a day, counted from 1, in at least two digits, or an empty text if it is unknown.
 fn two_digits(alloc: Global, index: Option<u8>) -> Result<String, AllocError>
     ensures { IfOk result (λ text. string_bytes text ≡ spec.two_digits index) }
 {

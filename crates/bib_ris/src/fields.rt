@@ -22,7 +22,7 @@ fn first_field<'e>(entry: &'e Entry, names: &[&str]) -> Option<ChunksRef<'e>>
     None
 }
 
-/// Appends a line with the text of the first of these fields that the entry has.
+/// Appends a line with the text of the first of these fields that the entry has, or nothing if it has none of them.
 pub(crate) fn push_field(
     out: &mut String,
     alloc: Global,

@@ -11,7 +11,7 @@ use bib_values::ranges::read_range;
 use std::alloc::{AllocError, Global};
 use std::ops::Range;
 
-// Appends the lines of the first and the last page of a range, or a line with the text if it is no range.
+// Appends the lines of the first and the last page of a range, or a line with the text of `chunks` if there is no range.
 fn push_range(
     out: &mut String,
     alloc: Global,
@@ -30,7 +30,7 @@ fn push_range(
     push_line(out, "EP", last.as_str())
 }
 
-/// Appends the lines of the first range of pages, or a line with the text if that is no range.
+/// Appends the lines of the first range of pages, or a line with the text if the list has no range or a part that is no range.
 pub(crate) fn push_pages(out: &mut String, alloc: Global, entry: &Entry) -> Result<(), AllocError>
     ensures { OnOk result (string_bytes out.new ≡ string_bytes out.old ++
         spec.pages_lines (spec.entry_field entry.now (codes "pages"))) }

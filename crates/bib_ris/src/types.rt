@@ -8,7 +8,7 @@ use bib_chunks::chunk::{ChunksRef, format_verbatim};
 use bib_tables::mechanics::EntryType;
 use std::alloc::{AllocError, Global};
 
-// Returns the type of an article, by the text of its `entrysubtype`.
+// Returns the type of an article, by the text of its `entrysubtype`, in any ASCII case.
 fn periodical_type(subtype: &str) -> &'static str
     ensures { result.now ≡ spec.periodical_type subtype.now }
 {
@@ -21,7 +21,7 @@ fn periodical_type(subtype: &str) -> &'static str
     }
 }
 
-// Returns the type of an article, by its field `entrysubtype`, if it has this field.
+// Returns the type of an article, by its field `entrysubtype`. An article without this field is in a journal.
 fn article_type(alloc: Global, subtype: Option<ChunksRef<'_>>) -> Result<&'static str, AllocError>
     ensures { IfOk result (λ name. name.now ≡ spec.article_type (option_copied subtype.entry)) }
 {

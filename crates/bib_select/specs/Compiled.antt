@@ -52,7 +52,7 @@ pub record IsTermOf (reading : TermReading) (term : Term) : Type 0 where
 abbrev pub HasText : List ℕ → ℕ → List ℕ → ℕ → Type 0
 HasText text place source at = (text ≡ source) × (place ≡ at)
 
--- the text of a test is a regular expression; `source` is the text, and `at` its byte offset
+-- the text of a test is a regular expression; `source` is the text, and `at` the byte offset of its token
 abbrev pub HasTextExpression : TextReading → List ℕ → ℕ → Type 0
 HasTextExpression reading source at = (reading.operator ≡ operator.Matches) × HasText reading.text reading.at source at
 

@@ -21,7 +21,7 @@ pub record TextReading : Type 0 where
   pub text : List ℕ
   pub at : ℕ
 
--- a test as it is written: `has` a field, a type, no such type, the key, a field, or the year
+-- a test as it is written: whether the entry has a field, is of a type or isn't, or how its key, a field or its year compares
 pub data TestReading : Type 0 where
   has : List ℕ → TestReading
   of_type : List ℕ → TestReading
@@ -74,7 +74,7 @@ signed_value rows (word text) = None
 signed_value rows (quoted text) = None
 signed_value rows (sign text) = value_named rows text
 
--- the comparison of a token that is a sign, or `None` for any other token
+-- the comparison of a token that is the sign of one, or `None` for any other token
 abbrev pub comparison_at : Placed → Option Comparison
 comparison_at placed = signed_value comparison_signs placed.token
 

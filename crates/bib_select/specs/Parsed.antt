@@ -17,7 +17,7 @@ use Rattle.bib_select.specs.declared.selection.Selection.{Selection}
 abbrev pub whole_text : List ℕ → List Placed → Segment
 whole_text text tokens = record { tokens = tokens; end = length text }
 
--- the text is this condition: so are its tokens
+-- the tokens of the text are this condition
 pub record IsConditionText (text : List ℕ) (condition : List (List TermReading)) : Type 0 where
   pub tokens : List Placed
   pub cut : AreTokens (place text 0) (Ok tokens)
@@ -29,7 +29,7 @@ pub record IsNoCondition (text : List ℕ) (error : SelectionError) : Type 0 whe
   pub cut : AreTokens (place text 0) (Ok tokens)
   pub reads : alternatives_reading (whole_text text tokens) ≡ Err error
 
--- the selection is the condition that the text is
+-- the text is a condition, and the selection has its compiled tests
 pub record IsParsed (text : List ℕ) (selection : Selection) : Type 0 where
   pub condition : List (List TermReading)
   pub is : IsConditionText text condition

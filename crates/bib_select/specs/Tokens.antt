@@ -34,8 +34,8 @@ is_quote c = (c == char.quote) || (c == char.apostrophe)
 abbrev pub is_word_character : ℕ → Bool
 is_word_character c = not (is_whitespace c) && not (is_sign_character c) && not (is_quote c)
 
--- the token between two places. A word and a run of signs are as long as possible. Between two equal quotes each other character
--- stands for itself
+-- the token between two places. A word and a run of signs are as long as possible. The text between two equal quotes can contain
+-- any other character
 pub data IsToken : Place → Token → Place → Type 0 where
   a_word : {u v w : Place} {c : ℕ} → CharAt u c w → is_word_character c ≡ true → Longest is_word_character u v
       → IsToken u (word (between u v)) v

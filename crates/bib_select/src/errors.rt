@@ -62,8 +62,8 @@ pub enum SelectionError {
     Malformed {
         /// The kind of the error.
         kind: SelectionErrorKind,
-        /// The byte offset of the token that doesn't fit, of the quote that isn't closed, or of the malformed regular expression.
-        /// If the text ends too early, its length.
+        /// The byte offset of the token that doesn't fit, of the quote that isn't closed, or of the token with the malformed
+        /// regular expression. If the text ends too early, its length.
         at: usize,
     },
     /// Out of memory.

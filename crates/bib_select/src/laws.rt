@@ -9,8 +9,8 @@ ghost use Rattle.bib_select.specs.Segments.{Segment};
 ghost use Rattle.bib_select.specs.Tokens.{Placed, AreTokens};
 ghost use Rattle.bib_select.specs.declared.errors.SelectionError.{SelectionError};
 
-/// A text has at most one list of tokens, or at most one first quote that isn't closed, and not both. It is at most one condition.
-/// If it is a condition, parsing it has no error except those of its regular expressions and out of memory.
+/// States that a text has at most one list of tokens, or at most one first quote that isn't closed, and not both. It is at most
+/// one condition. If it is a condition, parsing it has no error except those of its regular expressions and out of memory.
 pub fn a_text_is_one_condition()
     ensures tokens { (place : Place) (tokens others : Result (List Placed) ℕ) → AreTokens place tokens →
         AreTokens place others → tokens ≡ others }
@@ -20,7 +20,7 @@ pub fn a_text_is_one_condition()
         IsConditionText text condition → IsParseError text error → IsErrorOfText error → ⊥ }
 {}
 
-/// The tokens that are parsed as a condition are exactly those of the grammar.
+/// States that the tokens that are parsed as a condition are exactly those of the grammar.
 pub fn conditions_have_a_grammar()
     ensures { (segment : Segment) (condition : List (List TermReading)) →
         (alternatives_reading segment ≡ Ok condition) ↔ IsCondition segment.tokens condition }

@@ -107,7 +107,7 @@ fn subject_at<'s>(placed: &Placed<'s>) -> Option<Subject<'s>>
     Some(Subject::Field(name))
 }
 
-// Returns the comparison of a token that is a sign, or `None` for any other token.
+// Returns the comparison of a token that is the sign of one, or `None` for any other token.
 fn comparison_at(placed: &Placed<'_>) -> Option<Comparison>
     ensures { result ≡ conditions.comparison_at (placed_of placed.now) }
 {

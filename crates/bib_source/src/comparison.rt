@@ -51,7 +51,8 @@ fn push_added<'t>(compared: &mut Vec<Line<'t>>, lines: &[&'t str]) -> Result<(),
     Ok(())
 }
 
-// Appends lines of the old text as removed and lines of the new text as added, except their common start and end.
+// Appends lines of the old text as removed and lines of the new text as added. Appends their common start and their common
+// end as lines of both texts.
 fn push_run<'t>(
     compared: &mut Vec<Line<'t>>,
     old: &[&'t str],

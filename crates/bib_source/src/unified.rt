@@ -11,7 +11,7 @@ use crate::hunks::{Hunk, hunks, new_count, old_count};
 use crate::lines::lines;
 use std::alloc::{AllocError, Global};
 
-// Appends `sign` and a line.
+// Appends `sign` and a line. If no line feed ends the line, also appends one and a line that reports this.
 fn push_line_after(diff: &mut String, sign: &str, line: &str) -> Result<(), AllocError>
     ensures { OnOk result (string_bytes diff.new ≡ string_bytes diff.old ++ line_after sign.now line.now) }
 {

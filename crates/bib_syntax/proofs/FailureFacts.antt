@@ -167,7 +167,7 @@ value_place name white sign more name' white' sign' more' =
 pub missing_clash : {u v w : Place} (test : ℕ → Bool) (c : ℕ) → test c ≡ true → Stops test u → u ≡ v → CharAt v c w → ⊥
 missing_clash {u} {v} {w} test c passes stops same char = test_clash (test c) passes (stops c w (subst (λ x. CharAt x c w) (sym same) char))
 
-field_unread : {u v w : Place} {k : ParseErrorKind} {f : FieldReading} → FieldFails u k v → Field longest u f w → ⊥
+pub field_unread : {u v w : Place} {k : ParseErrorKind} {f : FieldReading} → FieldFails u k v → Field longest u f w → ⊥
 field_unread (field_fail.equals name white stops) x =
     missing_clash (λ c. c == 61) 61 refl stops (sign_place name white x.name x.white) x.sign
 field_unread {w = w} {f = f} (field_fail.value name white sign more fails) x =
@@ -189,7 +189,7 @@ fail_named : {u v : Place} {k : ParseErrorKind} → FieldFails u k v → Stops i
 fail_named (field_fail.equals name white stops) none = test_clash _ name.starts (none _ _ name.here)
 fail_named (field_fail.value name white sign more f) none = test_clash _ name.starts (none _ _ name.here)
 
-field_named : {u v : Place} {f : FieldReading} → Field longest u f v → Stops is_id_start u → ⊥
+pub field_named : {u v : Place} {f : FieldReading} → Field longest u f v → Stops is_id_start u → ⊥
 field_named x none = test_clash _ x.name.starts (none _ _ x.name.here)
 
 name_not_closed : {u a v w : Place} {p : Part} → Identifier longest u p a → Longest is_whitespace u v → CharAt v 125 w → ⊥

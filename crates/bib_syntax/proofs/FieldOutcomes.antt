@@ -49,7 +49,7 @@ abbrev FieldAt : Place → Place → Type 0
 FieldAt u v = (f : FieldReading) × Field longest u f v
 
 -- a field whose name matches either matches or fails
-field_outcome : {n : ℕ} {u : Place} → RuleEnd n (NameAt u) → Outcome n (FieldAt u) (FieldFails u)
+pub field_outcome : {n : ℕ} {u : Place} → RuleEnd n (NameAt u) → Outcome n (FieldAt u) (FieldFails u)
 field_outcome {u = u} name =
     let white = run_found is_whitespace name.rest in
     elim (sign 61 white.rest) [

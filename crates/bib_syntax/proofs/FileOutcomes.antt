@@ -1,15 +1,15 @@
 -- Each text has a raw reading or an error, and has a recovery.
-use Rattle.std.proofs.Common.{◌≡◌, ◌⊎◌, ℕ, zero, suc, ◌<◌, arith, Bool, true, false, List, [], inl, inr, refl}
+use Rattle.std.proofs.Common.{◌≡◌, ◌⊎◌, ℕ, zero, suc, ◌<◌, arith, Bool, true, false, List, [], ◌∷◌, ◌∙◌, inl, inr, refl, sym, subst}
 use Rattle.std.specs.Prelude.{not, ◌==◌, take}
 use Rattle.std.specs.Char.{is_whitespace}
 use Rattle.std.proofs.lemmas.Bool.{cases_Bool}
-use Rattle.bib_text.specs.Places.{Place, CharAt, AtEnd}
+use Rattle.bib_text.specs.Places.{Place, place, CharAt, AtEnd}
 use Rattle.bib_text.proofs.PlaceFacts.{char_clash, test_clash}
 use Rattle.bib_syntax.specs.declared.raw.ParseErrorKind.{ParseErrorKind}
 use Rattle.bib_syntax.specs.declared.raw.ParseError.{ParseError}
 use Rattle.bib_syntax.specs.declared.raw.recovery.SkippedBlock.{SkippedBlock}
 use Rattle.bib_syntax.specs.Characters.{is_key}
-use Rattle.bib_syntax.specs.Reading.{Part, FileReading, empty_reading, then}
+use Rattle.bib_syntax.specs.Reading.{Part, FieldReading, FileReading, empty_reading, then}
 use Rattle.bib_syntax.specs.Grammar.{LineComment, BlockKind, block_kind, Head, Body, Block, File, longest}
 use Rattle.bib_syntax.specs.Grammar.{Body as body}
 use Rattle.bib_syntax.specs.Grammar.{File as file}
@@ -18,13 +18,21 @@ use Rattle.bib_syntax.specs.SyntaxErrors.{HeadFails as head_fail}
 use Rattle.bib_syntax.specs.SyntaxErrors.{BodyFails as body_fail}
 use Rattle.bib_syntax.specs.SyntaxErrors.{BlockFails as block_fail}
 use Rattle.bib_syntax.specs.SyntaxErrors.{FileFails as file_fail}
-use Rattle.bib_syntax.specs.Recovery.{ends_blank, BeginsLine, GoesOnAt, Recovered}
+use Rattle.bib_syntax.specs.Kept.{Comments, CompleteFields, Kept, KeptBody, Opening, opens_block}
+use Rattle.bib_syntax.specs.Kept.{Comments as comments}
+use Rattle.bib_syntax.specs.Kept.{CompleteFields as complete}
+use Rattle.bib_syntax.specs.Kept.{Kept as kept}
+use Rattle.bib_syntax.specs.Kept.{KeptBody as kept_body}
+use Rattle.bib_syntax.specs.Recovery.{ends_blank, BeginsLine, GoesOnAt, Keeps, Recovered}
+use Rattle.bib_syntax.specs.Recovery.{Keeps as keep}
 use Rattle.bib_syntax.specs.Recovery.{Passed as passed}
 use Rattle.bib_syntax.specs.Recovery.{Recovered as recovered}
 use Rattle.bib_syntax.proofs.LeftFacts.{Left, end_or_char, RuleEnd, found_at, found_as, Outcome, run_found, First, first, Sign, sign, is_sign}
 use Rattle.bib_syntax.proofs.WordOutcomes.{name_outcome, quoted_outcome}
-use Rattle.bib_syntax.proofs.FieldOutcomes.{line_comment_found, gap_found, fields_outcome}
+use Rattle.bib_syntax.proofs.FailureFacts.{identifier_unread, field_unread}
+use Rattle.bib_syntax.proofs.FieldOutcomes.{line_comment_found, gap_found, field_outcome, fields_outcome}
 use Rattle.bib_syntax.proofs.FileFacts.{is_skipped, closes_preamble, opens_body}
+use Rattle.bib_syntax.proofs.KeptFacts.{ahead_passed, char_cut, in_text, left_cut, unbracketed, unnamed}
 
 -- ---- blocks
 
@@ -234,28 +242,135 @@ goes_on_found {u = u} (Left.more {c = c} char rest) =
           found_as (omega arith) following later
     ]
 
+-- ---- what is kept of a skipped block
+
+-- an opening from one place to the other
+abbrev OpeningAt : Place → Place → Type 0
+OpeningAt u v = (p : Part) × Opening u p v
+
+-- white space and line comments match at each place
+comments_found : (bound : ℕ) {n : ℕ} {u : Place} → n < bound → Left n u → RuleEnd n (Comments u)
+comments_found zero below left = absurd (omega (arith, below))
+comments_found (suc bound) below left =
+    let white = run_found is_whitespace left in
+    elim (sign 37 white.rest) [
+      | Sign.missing stops ↦ found_as (omega arith) white (comments.white white.rule stops)
+      | Sign.here percent rest less ↦
+          let line = line_comment_found percent rest in
+          let more = comments_found bound (omega (arith, below, white.fits, less, line.fits)) line.rest in
+          found_as (omega (arith, white.fits, less, line.fits)) more (comments.more white.rule line.rule more.rule)
+    ]
+
+-- the opening of a block is complete or not
+opening_found : {n : ℕ} {u v : Place} → CharAt u 64 v → Left n v
+    → RuleEnd n (OpeningAt u) ⊎ ((kind : Part) (w : Place) → Opening u kind w → ⊥)
+opening_found char left = elim (name_outcome left) [
+  | Outcome.fails f ↦ inr (unnamed char f)
+  | Outcome.read name ↦
+      let white = run_found is_whitespace name.rest in
+      elim (first opens_block white.rest) [
+        | First.stops stops ↦ inr (unbracketed char name.rule white.rule stops)
+        | First.passes bracket opens rest less ↦
+            let white' = run_found is_whitespace rest in
+            inl (found_as (omega (arith, name.fits, white.fits, less)) white' (
+              _,
+              record {
+                name_start = _;
+                name_end = name.place;
+                before = white.place;
+                after = _;
+                bracket = _;
+                sign = char;
+                name = name.rule;
+                white = white.rule;
+                opens = bracket;
+                is_bracket = opens;
+                white' = white'.rule;
+              },
+            ))
+      ]
+]
+
+-- complete fields match at each place
+fields_kept : (bound : ℕ) {n : ℕ} {u : Place} → n < bound → Left n u → (fs : List FieldReading) × (v : Place) × CompleteFields u fs v
+fields_kept zero below left = absurd (omega (arith, below))
+fields_kept (suc bound) {u = u} below left = elim (name_outcome left) [
+  | Outcome.fails none ↦ ([], u, complete.none (λ f v field. identifier_unread none field.name))
+  | Outcome.read name ↦ elim (field_outcome name) [
+    | Outcome.fails failed ↦ ([], u, complete.none (λ f v field. field_unread failed field))
+    | Outcome.read f ↦
+        let g = comments_found (suc f.left) (omega arith) f.rest in
+        elim (sign 44 g.rest) [
+          | Sign.missing stops ↦ (f.rule.0 ∷ [], g.place, complete.last f.rule.1 g.rule stops)
+          | Sign.here {m = m} comma rest less ↦
+              let h = comments_found (suc m) (omega arith) rest in
+              let more = fields_kept bound (omega (arith, below, f.fits, g.fits, less, h.fits)) h.rest in
+              (f.rule.0 ∷ more.0, more.1, complete.more f.rule.1 g.rule comma h.rule more.2)
+        ]
+  ]
+]
+
+-- one reading is kept of the rest of a block of any kind
+body_kept : (start : Place) (p : Part) (k : BlockKind) {n : ℕ} {u : Place} → Left n u → (says : FileReading) × KeptBody start p k u says
+body_kept start p BlockKind.comment left = (empty_reading, kept_body.comment)
+body_kept start p BlockKind.preamble left = (empty_reading, kept_body.preamble)
+body_kept start p BlockKind.strings {n} left = let fs = fields_kept (suc n) (omega arith) left in (_, kept_body.strings fs.2)
+body_kept start p BlockKind.entry left =
+    let key = run_found is_key left in
+    let white = run_found is_whitespace key.rest in
+    elim (sign 44 white.rest) [
+      | Sign.missing stops ↦ (_, kept_body.key key.rule white.rule stops)
+      | Sign.here {m = m} comma rest less ↦
+          let g = comments_found (suc m) (omega arith) rest in
+          let fs = fields_kept (suc g.left) (omega arith) g.rest in
+          (_, kept_body.entry key.rule white.rule comma g.rule fs.2)
+    ]
+
+-- one reading is kept of a block at an at sign
+block_kept : {n : ℕ} {u v : Place} → CharAt u 64 v → Left n v → (says : FileReading) × Kept u says
+block_kept {u = u} char left = elim (opening_found char left) [
+  | inr absent ↦ (empty_reading, kept.unopened absent)
+  | inl opening ↦
+      let name : Part = opening.rule.0 in
+      let body = body_kept u name (block_kind name.text) opening.rest in
+      (body.0, kept.block opening.rule.1 body.1)
+]
+
+-- one reading is kept of a skipped block
+keeps_found : (keeps : Bool) {u v w : Place} → CharAt u 64 v → GoesOnAt v w → (says : FileReading) × Keeps keeps u w says
+keeps_found false char on = (empty_reading, keep.nothing)
+keeps_found true {u} {v} {w} char on =
+    let passed = left_cut on.passed (in_text char) in
+    let same : w.text ≡ u.text = (ahead_passed on.passed).text ∙ char.same in
+    let sign : CharAt (place (take w.at w.text) u.at) 64 (place (take w.at w.text) v.at) =
+    subst (λ t. CharAt (place (take w.at t) u.at) 64 (place (take w.at t) v.at)) (sym same)
+    (char_cut w.at char (ahead_passed on.passed).at) in
+    let found = block_kept sign passed.1 in
+    (found.0, keep.parts found.1)
+
 -- a recovery from a place on
-abbrev RecoveredFrom : Place → Type 0
-RecoveredFrom u = (says : FileReading) × (errors : List SkippedBlock) × Recovered u says errors
+abbrev RecoveredFrom : Bool → Place → Type 0
+RecoveredFrom keeps u = (says : FileReading) × (errors : List SkippedBlock) × Recovered keeps u says errors
 
 -- there is a recovery from each place on
-pub recovery_found : (bound : ℕ) {n : ℕ} {u : Place} → n < bound → Left n u → RecoveredFrom u
-recovery_found zero below left = absurd (omega (arith, below))
-recovery_found (suc bound) below left = elim (next_step left) [
+pub recovery_found : (keeps : Bool) (bound : ℕ) {n : ℕ} {u : Place} → n < bound → Left n u → RecoveredFrom keeps u
+recovery_found keeps zero below left = absurd (omega (arith, below))
+recovery_found keeps (suc bound) below left = elim (next_step left) [
   | Step.ended end ↦ (empty_reading, [], recovered.end end)
   | Step.skipped char passes rest less ↦
-      let found = recovery_found bound (omega (arith, below, less)) rest in
+      let found = recovery_found keeps bound (omega (arith, below, less)) rest in
       (found.0, found.1, recovered.skipped char passes found.2)
   | Step.line_comment line rest less ↦
-      let found = recovery_found bound (omega (arith, below, less)) rest in
+      let found = recovery_found keeps bound (omega (arith, below, less)) rest in
       (found.0, found.1, recovered.line_comment line found.2)
   | Step.at_sign char rest less ↦ elim (block_outcome char rest) [
     | Outcome.read b ↦
-        let found = recovery_found bound (omega (arith, below, less, b.fits)) b.rest in
+        let found = recovery_found keeps bound (omega (arith, below, less, b.fits)) b.rest in
         (_, found.1, recovered.block b.rule.1 found.2)
     | Outcome.fails f ↦
         let on = goes_on_found rest in
-        let found = recovery_found bound (omega (arith, below, less, on.fits)) on.rest in
-        (found.0, _, recovered.unread char (record { kind = _; place = _; fails = f; is = refl }) on.rule found.2)
+        let held = keeps_found keeps char on.rule in
+        let found = recovery_found keeps bound (omega (arith, below, less, on.fits)) on.rest in
+        (_, _, recovered.unread char (record { kind = _; place = _; fails = f; is = refl }) on.rule held.1 found.2)
   ]
 ]

@@ -3,7 +3,8 @@ use Rattle.std.proofs.Common.{◌≡◌, ◌≢◌, ◌⊎◌, ⊎_elim, ℕ, ze
 use Rattle.std.specs.Prelude.{not, ◌==◌, take}
 use Rattle.std.specs.List.{AllByRecursion, Contains}
 use Rattle.std.proofs.lemmas.List.Elements.{Contains-append_left, Contains-append_right}
-use Rattle.std.proofs.lemmas.Str.{byte_from_char, len_utf8_bounds}
+use Rattle.std.specs.Str.{IsCharBoundary}
+use Rattle.std.proofs.lemmas.Str.{IsCharBoundary-before_ascii, byte_from_char, len_utf8_bounds}
 use Rattle.std.proofs.lemmas.Bool.{eqb-true}
 use Rattle.bib_text.specs.Places.{Place, place, CharAt, Run, Longest, AtEnd, EndsOr}
 use Rattle.bib_text.specs.Places.Run.{stop, step}
@@ -15,7 +16,9 @@ use Rattle.bib_syntax.specs.Grammar.{LineComment, BlockKind, Body, Block, File, 
 use Rattle.bib_syntax.specs.Grammar.{Body as body}
 use Rattle.bib_syntax.specs.Grammar.{File as file}
 use Rattle.bib_syntax.specs.Recovering.{RecoveredTo}
-use Rattle.bib_syntax.specs.Recovery.{ends_blank, BeginsLine, Passed, GoesOnAt, IsUnreadBlock, Recovered, skipped_block, entry_alone, IsBlockOf, Reached, LiesInside, IsPassedOver}
+use Rattle.bib_syntax.specs.Kept.{Kept, entry_alone}
+use Rattle.bib_syntax.specs.Recovery.{ends_blank, BeginsLine, Passed, GoesOnAt, IsUnreadBlock, IsKeptPart, Keeps, Recovered, skipped_block, IsBlockOf, Reached, LiesInside, IsPassedOver}
+use Rattle.bib_syntax.specs.Recovery.{Keeps as keep}
 use Rattle.bib_syntax.specs.Recovery.{Passed as passed}
 use Rattle.bib_syntax.specs.Recovery.{Recovered as recovered}
 use Rattle.bib_syntax.specs.declared.raw.ParseError.{ParseError}
@@ -24,6 +27,7 @@ use Rattle.bib_syntax.proofs.LawFacts.{line_comment_same}
 use Rattle.bib_syntax.proofs.FileFailureFacts.{block_unread, block_error}
 use Rattle.bib_syntax.proofs.StretchFacts.{order, first_byte, byte_in}
 use Rattle.bib_syntax.proofs.FileFacts.{ahead_block, ahead_line_comment, block_same, is_skipped, then-then, then-empty_reading}
+use Rattle.bib_syntax.proofs.KeptFacts.{ahead_passed, char_cut, kept_same, kept_entries}
 use Rattle.bib_text.proofs.ListFacts.{all_append}
 
 -- ---- where recovery continues
@@ -36,10 +40,6 @@ passed_then (passed.step char other rest) more = passed.step char other (passed_
 pub other_passed : {u v : Place} → Run (λ c. not (c == 64)) u v → Passed u v
 other_passed stop = passed.stop
 other_passed (step char other rest) = passed.step char (λ line. pass_clash (λ c. not (c == 64)) char other line.1 refl) (other_passed rest)
-
-pub ahead_passed : {u v : Place} → Passed u v → Ahead u v
-ahead_passed passed.stop = ahead_here _
-ahead_passed (passed.step char other rest) = ahead_then (ahead_char char) (ahead_passed rest)
 
 -- recovery continues at exactly one place
 no_step : {u v : Place} {c : ℕ} → AtEnd u ⊎ BeginsLine u → CharAt u c v → (BeginsLine u → ⊥) → ⊥
@@ -60,45 +60,46 @@ goes_on_same first second = passed_same first.passed first.stands second.passed 
 -- ---- the recovery up to a place
 
 -- at the start nothing is recovered
-pub nothing_recovered : (start : Place) → RecoveredTo start empty_reading [] start
-nothing_recovered start more others x = x
+pub nothing_recovered : (keeps : Bool) (start : Place) → RecoveredTo keeps start empty_reading [] start
+nothing_recovered keeps start more others x = x
 
-run_recovered : {u v : Place} {r : FileReading} {errors : List SkippedBlock} → Run is_skipped u v → Recovered v r errors
-    → Recovered u r errors
+run_recovered : {keeps : Bool} {u v : Place} {r : FileReading} {errors : List SkippedBlock} → Run is_skipped u v
+    → Recovered keeps v r errors → Recovered keeps u r errors
 run_recovered stop x = x
 run_recovered (step char passes rest) x = recovered.skipped char passes (run_recovered rest x)
 
 -- skipped characters add nothing
-pub skip_recovered : {start u v : Place} (says : FileReading) (errors : List SkippedBlock)
-    → RecoveredTo start says errors u → Longest is_skipped u v → RecoveredTo start says errors v
+pub skip_recovered : {keeps : Bool} {start u v : Place} (says : FileReading) (errors : List SkippedBlock)
+    → RecoveredTo keeps start says errors u → Longest is_skipped u v → RecoveredTo keeps start says errors v
 skip_recovered says errors read run more others x = read more others (run_recovered run.run x)
 
 -- a line comment adds nothing
-pub comment_recovered : {start u v : Place} (says : FileReading) (errors : List SkippedBlock)
-    → RecoveredTo start says errors u → LineComment u v → RecoveredTo start says errors v
+pub comment_recovered : {keeps : Bool} {start u v : Place} (says : FileReading) (errors : List SkippedBlock)
+    → RecoveredTo keeps start says errors u → LineComment u v → RecoveredTo keeps start says errors v
 comment_recovered says errors read m more others x = read more others (recovered.line_comment m x)
 
 -- a block adds its content
-pub block_recovered : {start u v : Place} (says : FileReading) {first : FileReading} (errors : List SkippedBlock)
-    → RecoveredTo start says errors u → Block longest u first v → RecoveredTo start (then says first) errors v
-block_recovered {start} says {first} errors read b more others x =
-    subst (λ r. Recovered start r (errors ++ others)) (sym (then-then says first more))
+pub block_recovered : {keeps : Bool} {start u v : Place} (says : FileReading) {first : FileReading} (errors : List SkippedBlock)
+    → RecoveredTo keeps start says errors u → Block longest u first v → RecoveredTo keeps start (then says first) errors v
+block_recovered {keeps} {start} says {first} errors read b more others x =
+    subst (λ r. Recovered keeps start r (errors ++ others)) (sym (then-then says first more))
     (read (then first more) others (recovered.block b x))
 
--- a skipped block adds its error
-pub unread_recovered : {start u v w : Place} {e : ParseError} (says : FileReading) (errors : List SkippedBlock)
-    → RecoveredTo start says errors u → CharAt u 64 v → IsUnreadBlock u e → GoesOnAt v w
-    → RecoveredTo start says (errors ++ skipped_block e u w ∷ []) w
-unread_recovered {start} {u} {w = w} {e = e} says errors read sign none on more others x =
-    subst (λ es. Recovered start (then says more) es) (sym (append_assoc errors (skipped_block e u w ∷ []) others))
-    (read more (skipped_block e u w ∷ others) (recovered.unread sign none on x))
+-- a skipped block adds its error and what is kept of it
+pub unread_recovered : {keeps : Bool} {start u v w : Place} {e : ParseError} {kept : FileReading} (says : FileReading)
+    (errors : List SkippedBlock) → RecoveredTo keeps start says errors u → CharAt u 64 v → IsUnreadBlock u e → GoesOnAt v w
+    → Keeps keeps u w kept → RecoveredTo keeps start (then says kept) (errors ++ skipped_block e u w ∷ []) w
+unread_recovered {keeps} {start} {u} {w = w} {e = e} {kept = kept} says errors read sign none on held more others x =
+    subst (λ r. Recovered keeps start r ((errors ++ skipped_block e u w ∷ []) ++ others)) (sym (then-then says kept more))
+    (subst (λ es. Recovered keeps start (then says (then kept more)) es) (sym (append_assoc errors (skipped_block e u w ∷ []) others))
+    (read (then kept more) (skipped_block e u w ∷ others) (recovered.unread sign none on held x)))
 
 -- at the end of the text the recovery is complete
-pub all_recovered : {start u : Place} (says : FileReading) (errors : List SkippedBlock)
-    → RecoveredTo start says errors u → AtEnd u → Recovered start says errors
-all_recovered {start} says errors read end =
-    subst (λ r. Recovered start r errors) (then-empty_reading says)
-    (subst (λ es. Recovered start (then says empty_reading) es) (append-nil errors)
+pub all_recovered : {keeps : Bool} {start u : Place} (says : FileReading) (errors : List SkippedBlock)
+    → RecoveredTo keeps start says errors u → AtEnd u → Recovered keeps start says errors
+all_recovered {keeps} {start} says errors read end =
+    subst (λ r. Recovered keeps start r errors) (then-empty_reading says)
+    (subst (λ es. Recovered keeps start (then says empty_reading) es) (append-nil errors)
     (read empty_reading [] (recovered.end end)))
 
 -- fewer bytes are left after a skipped block
@@ -108,14 +109,14 @@ unread_smaller {u} char on = left_smaller (ahead_here u) char (ahead_passed on.p
 -- ---- a text has a raw reading if no block is skipped
 
 -- a raw reading is a recovery without skipped blocks
-pub kept : {u : Place} {says : FileReading} → File longest u says → Recovered u says []
-kept (file.end end) = recovered.end end
-kept (file.skipped char other rest) = recovered.skipped char other (kept rest)
-kept (file.line_comment line rest) = recovered.line_comment line (kept rest)
-kept (file.block block rest) = recovered.block block (kept rest)
+pub all_parsed : {keeps : Bool} {u : Place} {says : FileReading} → File longest u says → Recovered keeps u says []
+all_parsed (file.end end) = recovered.end end
+all_parsed (file.skipped char other rest) = recovered.skipped char other (all_parsed rest)
+all_parsed (file.line_comment line rest) = recovered.line_comment line (all_parsed rest)
+all_parsed (file.block block rest) = recovered.block block (all_parsed rest)
 
 -- a recovery without skipped blocks is a raw reading
-pub all_read : {u : Place} {says : FileReading} → Recovered u says [] → File longest u says
+pub all_read : {keeps : Bool} {u : Place} {says : FileReading} → Recovered keeps u says [] → File longest u says
 all_read (recovered.end end) = file.end end
 all_read (recovered.skipped char other rest) = file.skipped char other (all_read rest)
 all_read (recovered.line_comment line rest) = file.line_comment line (all_read rest)
@@ -185,106 +186,153 @@ pub all_ok : {E P Q R S : Type 0} (r : Result (Unit {0}) E) → OnOk r P → OnO
 all_ok (Ok done) p q r f = f p q r
 all_ok (Err e) p q r f = p
 
-pub at_sign_taken : {u v w : Place} (taken : Option ℕ) → CharAt u 64 w
-    → MatchOption taken (AtEnd u × (v ≡ u)) (λ c. CharAt u c v) → CharAt u 64 v
-at_sign_taken None sign ended = absurd (no_char_at_end ended.0 sign)
-at_sign_taken {u} {v} (Some c) sign char = subst (λ x. CharAt u x v) (same_char char sign).0 char
+-- the character that was taken is the one that was there
+pub char_taken : {u v w : Place} {c : ℕ} (taken : Option ℕ) → CharAt u c w
+    → MatchOption taken (AtEnd u × (v ≡ u)) (λ d. CharAt u d v) → CharAt u c v
+char_taken None char ended = absurd (no_char_at_end ended.0 char)
+char_taken {u} {v} (Some d) char taken = subst (λ x. CharAt u x v) (same_char taken char).0 taken
 
 pub unread_from : {u : Place} {e : ParseError} → Refuses u.text e (IsUnreadBlock u e) → e.kind ≢ OutOfMemory → IsUnreadBlock u e
 unread_from (inl no_room) some = absurd (some (ap (λ error. error.kind) no_room))
 unread_from (inr refused) some = refused.1
 
-pub block_found : {u v : Place} {first : FileReading} (says all : FileReading) (errors : List SkippedBlock)
-    → Block longest u first v → all ≡ then says first → (start : Place) → RecoveredTo start says errors u
-    → RecoveredTo start all errors v
-block_found {u} {v} {first} says all errors b same start read =
-    subst (λ r. RecoveredTo start r errors v) (sym same) (block_recovered says errors read b)
+pub block_found : {keeps : Bool} {u v : Place} {first : FileReading} (says all : FileReading) (errors : List SkippedBlock)
+    → Block longest u first v → all ≡ then says first → (start : Place) → RecoveredTo keeps start says errors u
+    → RecoveredTo keeps start all errors v
+block_found {keeps} {u} {v} {first} says all errors b same start read =
+    subst (λ r. RecoveredTo keeps start r errors v) (sym same) (block_recovered says errors read b)
 
-pub unread_found : {u w : Place} {e : ParseError} (says all : FileReading) (errors more : List SkippedBlock)
-    → IsUnreadBlock u e → ((v : Place) × CharAt u 64 v × GoesOnAt v w) → all ≡ says
+pub unread_found : {keeps : Bool} {u w : Place} {e : ParseError} (says all : FileReading) (errors more : List SkippedBlock)
+    → IsUnreadBlock u e → ((v : Place) × CharAt u 64 v × GoesOnAt v w)
+    → ((kept : FileReading) × Keeps keeps u w kept × (all ≡ then says kept))
     → more ≡ errors ++ skipped_block e u w ∷ []
-    → (start : Place) → RecoveredTo start says errors u → RecoveredTo start all more w
-unread_found {u} {w} {e} says all errors more none (v, sign, on) same grown start read =
-    subst (λ r. RecoveredTo start r more w) (sym same)
-    (subst (λ es. RecoveredTo start says es w) (sym grown) (unread_recovered says errors read sign none on))
+    → (start : Place) → RecoveredTo keeps start says errors u → RecoveredTo keeps start all more w
+unread_found {keeps} {u} {w} {e} says all errors more none (v, sign, on) (kept, held, same) grown start read =
+    subst (λ r. RecoveredTo keeps start r more w) (sym same)
+    (subst (λ es. RecoveredTo keeps start (then says kept) es w) (sym grown) (unread_recovered says errors read sign none on held))
+
+-- ---- the parts that are kept of a skipped block
+
+pub go_on_text : {u v w : Place} → CharAt u 64 v → GoesOnAt v w → w.text ≡ u.text
+go_on_text sign on = (ahead_passed on.passed).text ∙ sign.same
+
+-- the at sign of a skipped block is in the text up to the end of the block
+pub sign_in_cut : {v : Place} {text cut : List ℕ} {start end : ℕ} → CharAt (place text start) 64 v → GoesOnAt v (place text end)
+    → cut ≡ take end text → (x : Place) × CharAt (place cut start) 64 x
+sign_in_cut {v} {text} {cut} {start} {end} sign on is =
+    let char : CharAt (place (take end text) start) 64 (place (take end text) v.at) = char_cut end sign (ahead_passed on.passed).at in
+    (place (take end text) v.at, subst (λ t. CharAt (place t start) 64 (place (take end text) v.at)) (sym is) char)
+
+-- a character boundary is at an at sign
+pub sign_boundary : {u v : Place} → CharAt u 64 v → IsCharBoundary u.text u.at
+sign_boundary {u} {v} sign =
+    let byte : get_or u.text u.at 0 ≡ 64 =
+    sym (first_byte u.text u.at) ∙ byte_from_char (drop u.at u.text) (drop v.at u.text) 64 sign.here (lit< tt) in
+    let left = char_left sign in
+    IsCharBoundary-before_ascii u.text u.at (omega (arith, left, (len_utf8_bounds 64).0)) (subst (λ b. b < 128) (sym byte) (lit< tt))
+
+-- what is kept of the text up to the end of a skipped block is what recovery keeps
+pub parts_kept : {text cut : List ℕ} {start end : ℕ} {says : FileReading} → cut ≡ take end text → Kept (place cut start) says
+    → Keeps true (place text start) (place text end) says
+parts_kept {start = start} {says = says} is kept = keep.parts (subst (λ t. Kept (place t start) says) is kept)
 
 -- ---- a text has at most one recovery
 
 -- the recovery of the rest after a skipped character, after a line comment and after a block
-skipped_left : {u v : Place} {c : ℕ} {r : FileReading} {errors : List SkippedBlock} → CharAt u c v → is_skipped c ≡ true
-    → Recovered u r errors → Recovered v r errors
+skipped_left : {keeps : Bool} {u v : Place} {c : ℕ} {r : FileReading} {errors : List SkippedBlock} → CharAt u c v
+    → is_skipped c ≡ true → Recovered keeps u r errors → Recovered keeps v r errors
 skipped_left char passes (recovered.end end) = absurd (no_char_at_end end char)
-skipped_left {r = r} {errors = errors} char passes (recovered.skipped char' passes' x) =
-    subst (λ y. Recovered y r errors) (same_char char' char).1 x
+skipped_left {keeps} {r = r} {errors = errors} char passes (recovered.skipped char' passes' x) =
+    subst (λ y. Recovered keeps y r errors) (same_char char' char).1 x
 skipped_left char passes (recovered.line_comment m x) = absurd (pass_clash is_skipped char passes m.sign refl)
 skipped_left char passes (recovered.block b x) = absurd (pass_clash is_skipped char passes b.head.sign refl)
-skipped_left char passes (recovered.unread sign none on x) = absurd (pass_clash is_skipped char passes sign refl)
+skipped_left char passes (recovered.unread sign none on held x) = absurd (pass_clash is_skipped char passes sign refl)
 
-comment_left : {u v : Place} {r : FileReading} {errors : List SkippedBlock} → LineComment u v → Recovered u r errors → Recovered v r errors
+comment_left : {keeps : Bool} {u v : Place} {r : FileReading} {errors : List SkippedBlock} → LineComment u v
+    → Recovered keeps u r errors → Recovered keeps v r errors
 comment_left m (recovered.end end) = absurd (no_char_at_end end m.sign)
 comment_left m (recovered.skipped char passes x) = absurd (pass_clash is_skipped char passes m.sign refl)
-comment_left {r = r} {errors = errors} m (recovered.line_comment m' x) = subst (λ y. Recovered y r errors) (line_comment_same m' m) x
+comment_left {keeps} {r = r} {errors = errors} m (recovered.line_comment m' x) =
+    subst (λ y. Recovered keeps y r errors) (line_comment_same m' m) x
 comment_left m (recovered.block b x) = absurd (char_clash m.sign b.head.sign refl)
-comment_left m (recovered.unread sign none on x) = absurd (char_clash m.sign sign refl)
+comment_left m (recovered.unread sign none on held x) = absurd (char_clash m.sign sign refl)
 
 -- the recovery of the rest after a block
-record BlockLeft (u v : Place) (first says : FileReading) (errors : List SkippedBlock) : Type 0 where
+record BlockLeft (keeps : Bool) (u v : Place) (first says : FileReading) (errors : List SkippedBlock) : Type 0 where
   rest : FileReading
-  left : Recovered v rest errors
+  left : Recovered keeps v rest errors
   whole : says ≡ then first rest
 
-block_left : {u v : Place} {first says : FileReading} {errors : List SkippedBlock} → Block longest u first v
-    → Recovered u says errors → BlockLeft u v first says errors
+block_left : {keeps : Bool} {u v : Place} {first says : FileReading} {errors : List SkippedBlock} → Block longest u first v
+    → Recovered keeps u says errors → BlockLeft keeps u v first says errors
 block_left b (recovered.end end) = absurd (no_char_at_end end b.head.sign)
 block_left b (recovered.skipped char passes x) = absurd (pass_clash is_skipped char passes b.head.sign refl)
 block_left b (recovered.line_comment m x) = absurd (char_clash b.head.sign m.sign refl)
-block_left {errors = errors} b (recovered.block {rest = rest} b' x) =
+block_left {keeps} {errors = errors} b (recovered.block {rest = rest} b' x) =
     let same = block_same b' b in
-    record { rest = rest; left = subst (λ y. Recovered y rest errors) same.1 x; whole = ap (λ q. then q rest) same.0 }
-block_left b (recovered.unread sign none on x) = absurd (block_unread none.fails b)
+    record { rest = rest; left = subst (λ y. Recovered keeps y rest errors) same.1 x; whole = ap (λ q. then q rest) same.0 }
+block_left b (recovered.unread sign none on held x) = absurd (block_unread none.fails b)
 
 -- the recovery of the rest after a skipped block
-record UnreadLeft (u w : Place) (says : FileReading) (errors : List SkippedBlock) : Type 0 where
+record UnreadLeft (keeps : Bool) (u w : Place) (says : FileReading) (errors : List SkippedBlock) : Type 0 where
   error : ParseError
+  kept : FileReading
+  others : FileReading
   rest : List SkippedBlock
   none : IsUnreadBlock u error
-  left : Recovered w says rest
+  held : Keeps keeps u w kept
+  left : Recovered keeps w others rest
+  reading : says ≡ then kept others
   whole : errors ≡ skipped_block error u w ∷ rest
 
-unread_left : {u v w : Place} {e : ParseError} {says : FileReading} {errors : List SkippedBlock} → CharAt u 64 v
-    → IsUnreadBlock u e → GoesOnAt v w → Recovered u says errors → UnreadLeft u w says errors
+unread_left : {keeps : Bool} {u v w : Place} {e : ParseError} {says : FileReading} {errors : List SkippedBlock} → CharAt u 64 v
+    → IsUnreadBlock u e → GoesOnAt v w → Recovered keeps u says errors → UnreadLeft keeps u w says errors
 unread_left sign none on (recovered.end end) = absurd (no_char_at_end end sign)
 unread_left sign none on (recovered.skipped char passes x) = absurd (pass_clash is_skipped char passes sign refl)
 unread_left sign none on (recovered.line_comment m x) = absurd (char_clash sign m.sign refl)
 unread_left sign none on (recovered.block b x) = absurd (block_unread none.fails b)
-unread_left {u} {w = w} {says = says} sign none on (recovered.unread {w = w'} {e = e} {errors = errors} sign' none' on' x) =
+unread_left {keeps} {u} {w = w} sign none on
+    (recovered.unread {w = w'} {e = e} {kept = kept} {says = says} {errors = errors} sign' none' on' held x) =
     let same : w' ≡ w = goes_on_same (subst (λ y. GoesOnAt y w') (same_char sign' sign).1 on') on in
     record {
       error = e;
+      kept = kept;
+      others = says;
       rest = errors;
       none = none';
-      left = subst (λ y. Recovered y says errors) same x;
+      held = subst (λ y. Keeps keeps u y kept) same held;
+      left = subst (λ y. Recovered keeps y says errors) same x;
+      reading = refl;
       whole = ap (λ y. skipped_block e u y ∷ errors) same;
     }
 
+-- recovery keeps only one reading of a skipped block
+keeps_same : {keeps : Bool} {u w : Place} {r s : FileReading} → Keeps keeps u w r → Keeps keeps u w s → r ≡ s
+keeps_same keep.nothing keep.nothing = refl
+keeps_same (keep.parts kept) (keep.parts kept') = kept_same kept kept'
+
 -- a text has only one recovery
-pub recovery_same : {u : Place} {r s : FileReading} {f g : List SkippedBlock} → Recovered u r f → Recovered u s g → (r ≡ s) × (f ≡ g)
+pub recovery_same : {keeps : Bool} {u : Place} {r s : FileReading} {f g : List SkippedBlock} → Recovered keeps u r f
+    → Recovered keeps u s g → (r ≡ s) × (f ≡ g)
 recovery_same (recovered.end end) (recovered.end end') = (refl, refl)
 recovery_same (recovered.end end) (recovered.skipped char passes x) = absurd (no_char_at_end end char)
 recovery_same (recovered.end end) (recovered.line_comment m x) = absurd (no_char_at_end end m.sign)
 recovery_same (recovered.end end) (recovered.block b x) = absurd (no_char_at_end end b.head.sign)
-recovery_same (recovered.end end) (recovered.unread sign none on x) = absurd (no_char_at_end end sign)
+recovery_same (recovered.end end) (recovered.unread sign none on held x) = absurd (no_char_at_end end sign)
 recovery_same (recovered.skipped char passes x) second = recovery_same x (skipped_left char passes second)
 recovery_same (recovered.line_comment m x) second = recovery_same x (comment_left m second)
 recovery_same (recovered.block {first = first} b x) second =
     let following = block_left b second in
     let left = recovery_same x following.left in
     (ap (then first) left.0 ∙ sym following.whole, left.1)
-recovery_same {u} (recovered.unread {w = w} {e = e} sign none on x) second =
+recovery_same {u = u} (recovered.unread {w = w} {e = e} {says = says} sign none on held x) second =
     let following = unread_left sign none on second in
     let left = recovery_same x following.left in
     let error : e ≡ following.error = block_error none following.none in
-    (left.0, ap (λ l. skipped_block e u w ∷ l) left.1 ∙ ap (λ y. skipped_block y u w ∷ following.rest) error ∙ sym following.whole)
+    let kept = keeps_same held following.held in (
+      ap (λ r. then r says) kept ∙ ap (then following.kept) left.0 ∙ sym following.reading,
+      ap (λ l. skipped_block e u w ∷ l) left.1 ∙ ap (λ y. skipped_block y u w ∷ following.rest) error ∙ sym following.whole,
+    )
 
 -- ---- each recovered entry is a block of the file grammar
 
@@ -295,9 +343,9 @@ entry_block (body.preamble quoted white close is_close) b = _
 entry_block (body.strings fields close) b = _
 entry_block (body.entry v key white comma gap fields close) b = ((_, b), _)
 
--- each recovered entry is the only content of a block at its start
+-- each entry of a recovery that keeps no parts is the only content of a block at its start
 pub entries_stand : {u : Place} {says : FileReading} {errors : List SkippedBlock} (text : List ℕ) → u.text ≡ text
-    → Recovered u says errors → AllByRecursion (IsBlockOf text) says.entries
+    → Recovered false u says errors → AllByRecursion (IsBlockOf text) says.entries
 entries_stand text same (recovered.end end) = _
 entries_stand text same (recovered.skipped char passes x) = entries_stand text (char.same ∙ same) x
 entries_stand text same (recovered.line_comment m x) = entries_stand text ((ahead_line_comment m).text ∙ same) x
@@ -305,7 +353,68 @@ entries_stand text same (recovered.block {first = first} {rest = rest} b x) =
     all_append (IsBlockOf text) first.entries rest.entries
     (subst (λ t. AllByRecursion (IsBlockOf t) first.entries) same (entry_block b.body b))
     (entries_stand text ((ahead_block b).text ∙ same) x)
-entries_stand text same (recovered.unread sign none on x) = entries_stand text ((ahead_passed on.passed).text ∙ (sign.same ∙ same)) x
+entries_stand text same (recovered.unread sign none on keep.nothing x) =
+    entries_stand text ((ahead_passed on.passed).text ∙ (sign.same ∙ same)) x
+
+-- if one fact implies another, a list of elements for which the first is true is one for which the second is
+all_weaker : {A : Type 0} (P Q : A → Type 0) → ((x : A) → P x → Q x) → (xs : List A) → AllByRecursion P xs → AllByRecursion Q xs
+all_weaker P Q weaker [] all = _
+all_weaker P Q weaker (x ∷ xs) all = (weaker x all.0, all_weaker P Q weaker xs all.1)
+
+-- a cut entry of some skipped blocks is one of these blocks and another one before them
+cut_later : (text : List ℕ) (block : SkippedBlock) (errors : List SkippedBlock) (e : EntryReading)
+    → IsBlockOf text e ⊎ IsKeptPart text errors e → IsBlockOf text e ⊎ IsKeptPart text (block ∷ errors) e
+cut_later text block errors e (inl stands) = inl stands
+cut_later text block errors e (inr (k, s, below, is, cut)) = inr (suc k, s, omega (arith, below), is, cut)
+
+-- what is kept of a skipped block is cut at its start
+kept_cut : (text : List ℕ) (u w : Place) (error : ParseError) (errors : List SkippedBlock) (e : EntryReading) → w.text ≡ text
+    → (e.start ≡ u.at) × Kept (place (take w.at w.text) u.at) (entry_alone e)
+    → IsBlockOf text e ⊎ IsKeptPart text (skipped_block error u w ∷ errors) e
+kept_cut text u w error errors e same (start, kept) =
+    let at : Kept (place (take w.at text) e.start) (entry_alone e) =
+    subst (λ n. Kept (place (take w.at text) n) (entry_alone e)) (sym start)
+    (subst (λ t. Kept (place (take w.at t) u.at) (entry_alone e)) same kept) in
+    inr (zero, skipped_block error u w, omega arith, refl, (sym start, at))
+
+-- each recovered entry is the only content of a block at its start, or what is kept of a skipped block
+pub full_entries_stand : {u : Place} {says : FileReading} {errors : List SkippedBlock} (text : List ℕ) → u.text ≡ text
+    → Recovered true u says errors → AllByRecursion (λ e. IsBlockOf text e ⊎ IsKeptPart text errors e) says.entries
+full_entries_stand text same (recovered.end end) = _
+full_entries_stand text same (recovered.skipped char passes x) = full_entries_stand text (char.same ∙ same) x
+full_entries_stand text same (recovered.line_comment m x) = full_entries_stand text ((ahead_line_comment m).text ∙ same) x
+full_entries_stand {errors = errors} text same (recovered.block {first = first} {rest = rest} b x) =
+    all_append (λ e. IsBlockOf text e ⊎ IsKeptPart text errors e) first.entries rest.entries
+    (all_weaker (IsBlockOf text) (λ e. IsBlockOf text e ⊎ IsKeptPart text errors e) (λ e stands. inl stands) first.entries
+    (subst (λ t. AllByRecursion (IsBlockOf t) first.entries) same (entry_block b.body b)))
+    (full_entries_stand text ((ahead_block b).text ∙ same) x)
+full_entries_stand {u} text same
+    (recovered.unread {w = w} {e = error} {kept = kept} {says = says} {errors = errors} sign none on (keep.parts parts) x) =
+    let there : w.text ≡ text = (ahead_passed on.passed).text ∙ (sign.same ∙ same) in
+    all_append (λ e. IsBlockOf text e ⊎ IsKeptPart text (skipped_block error u w ∷ errors) e) kept.entries says.entries
+    (all_weaker _ (λ e. IsBlockOf text e ⊎ IsKeptPart text (skipped_block error u w ∷ errors) e)
+    (λ e cut. kept_cut text u w error errors e there cut) kept.entries (kept_entries parts))
+    (all_weaker (λ e. IsBlockOf text e ⊎ IsKeptPart text errors e)
+    (λ e. IsBlockOf text e ⊎ IsKeptPart text (skipped_block error u w ∷ errors) e)
+    (cut_later text (skipped_block error u w) errors) says.entries (full_entries_stand text there x))
+
+-- ---- the skipped blocks are the same whether their parts are kept or not
+
+pub same_skipped : {keeps others : Bool} {u : Place} {r s : FileReading} {f g : List SkippedBlock} → Recovered keeps u r f
+    → Recovered others u s g → f ≡ g
+same_skipped (recovered.end end) (recovered.end end') = refl
+same_skipped (recovered.end end) (recovered.skipped char passes x) = absurd (no_char_at_end end char)
+same_skipped (recovered.end end) (recovered.line_comment m x) = absurd (no_char_at_end end m.sign)
+same_skipped (recovered.end end) (recovered.block b x) = absurd (no_char_at_end end b.head.sign)
+same_skipped (recovered.end end) (recovered.unread sign none on held x) = absurd (no_char_at_end end sign)
+same_skipped (recovered.skipped char passes x) second = same_skipped x (skipped_left char passes second)
+same_skipped (recovered.line_comment m x) second = same_skipped x (comment_left m second)
+same_skipped (recovered.block b x) second = same_skipped x (block_left b second).left
+same_skipped {u = u} (recovered.unread {w = w} {e = e} sign none on held x) second =
+    let following = unread_left sign none on second in
+    let error : e ≡ following.error = block_error none following.none in
+    ap (λ l. skipped_block e u w ∷ l) (same_skipped x following.left)
+    ∙ ap (λ y. skipped_block y u w ∷ following.rest) error ∙ sym following.whole
 
 -- ---- each entry that could be parsed is recovered, or it is inside a block, a line comment or a skipped block
 
@@ -358,37 +467,38 @@ at_not_skipped : (c : ℕ) → is_skipped c ≡ true → c ≡ 64 → ⊥
 at_not_skipped c passes is = let fails : is_skipped 64 ≡ true = subst (λ d. is_skipped d ≡ true) is passes in cc
 
 -- recovery from a reached place on finds each entry that could be parsed and doesn't begin before it
-pub nothing_lost : {w : Place} {says : FileReading} {errors : List SkippedBlock} (text : List ℕ) (e : EntryReading)
-    → Reached (place text 0) w → w.text ≡ text → w.at ≤ e.start → IsBlockOf text e → Recovered w says errors
+pub nothing_lost : {keeps : Bool} {w : Place} {says : FileReading} {errors : List SkippedBlock} (text : List ℕ) (e : EntryReading)
+    → Reached (place text 0) w → w.text ≡ text → w.at ≤ e.start → IsBlockOf text e → Recovered keeps w says errors
     → Found errors (place text e.start) says e
-nothing_lost {w} text e onward same before at (recovered.end end) =
+nothing_lost {w = w} text e onward same before at (recovered.end end) =
     let left = char_left at.1.head.sign in
     absurd (omega (arith, before, left, end, ap length same, (len_utf8_bounds 64).0))
-nothing_lost {w} text e onward same before at (recovered.skipped {v = v} {c = c} char passes x) =
+nothing_lost {w = w} text e onward same before at (recovered.skipped {v = v} {c = c} char passes x) =
     elim (next w v (place text e.start) same (ahead_char char) before) [
       | Next.reached here ↦ absurd
           (pass_clash is_skipped char passes (subst (λ y. CharAt y 64 at.1.head.name_start) (sym here) at.1.head.sign) refl)
       | Next.begun below inside ↦ absurd (at_not_skipped c passes (in_character char at.1.head.sign (sym same) before inside))
       | Next.ended later text' ↦ nothing_lost text e (Reached.skipped onward char passes) text' later at x
     ]
-nothing_lost {w} text e onward same before at (recovered.line_comment {v = v} m x) =
+nothing_lost {w = w} text e onward same before at (recovered.line_comment {v = v} m x) =
     elim (next w v (place text e.start) same (ahead_line_comment m) before) [
       | Next.reached here ↦ absurd (char_clash m.sign (subst (λ y. CharAt y 64 at.1.head.name_start) (sym here) at.1.head.sign) refl)
       | Next.begun below inside ↦ inr
           (inl (record { start = w; end = v; reached = onward; is = inr m; before = below; following = inside }))
       | Next.ended later text' ↦ nothing_lost text e (Reached.line_comment onward m) text' later at x
     ]
-nothing_lost {w} {errors = errors} text e onward same before at (recovered.block {v = v} {first = first} {rest = rest} b x) =
+nothing_lost {w = w} {errors = errors} text e onward same before at (recovered.block {v = v} {first = first} {rest = rest} b x) =
     elim (next w v (place text e.start) same (ahead_block b) before) [
       | Next.reached here ↦ inl (Contains-append_left first.entries rest.entries e (same_entry text e here b at))
       | Next.begun below inside ↦ inr
           (inl (record { start = w; end = v; reached = onward; is = inl (first, b); before = below; following = inside }))
       | Next.ended later text' ↦ found_later first rest errors e (nothing_lost text e (Reached.block onward b) text' later at x)
     ]
-nothing_lost {w} {says = says} text e onward same before at (recovered.unread {w = z} {e = error} {errors = errors} sign none on x) =
+nothing_lost {w = w} text e onward same before at
+    (recovered.unread {w = z} {e = error} {kept = kept} {says = says} {errors = errors} sign none on held x) =
     elim (next w z (place text e.start) same (ahead_then (ahead_char sign) (ahead_passed on.passed)) before) [
       | Next.reached here ↦ absurd (block_unread none.fails (subst (λ y. Block longest y (entry_alone e) at.0) (sym here) at.1))
       | Next.begun below inside ↦ inr (inr (zero, skipped_block error w z, omega arith, refl, (below, inside)))
-      | Next.ended later text' ↦ found_past _ says (skipped_block error w z) errors e
-          (nothing_lost text e (Reached.unread onward sign none on) text' later at x)
+      | Next.ended later text' ↦ found_past _ (then kept says) (skipped_block error w z) errors e
+          (found_later kept says errors e (nothing_lost text e (Reached.unread onward sign none on) text' later at x))
     ]

@@ -4,6 +4,7 @@ pub mod Closings
 pub mod Errors
 pub mod Failures
 pub mod Grammar
+pub mod Kept
 pub mod Views
 pub mod OpenBraces
 pub mod Reading

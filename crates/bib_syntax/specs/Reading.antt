@@ -30,7 +30,8 @@ pub record FieldReading : Type 0 where
   pub name : Part
   pub value : ValueReading
 
--- an entry; it starts at its @ and ends before its closing brace
+-- An entry. It starts at its @ and ends before its closing brace. An entry that is kept of a block with an error ends after
+-- its last complete field and the comma, white space and line comments after it.
 pub record EntryReading : Type 0 where
   pub key : Part
   pub kind : Part

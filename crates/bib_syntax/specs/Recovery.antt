@@ -1,11 +1,12 @@
 -- Meaning: words of public contracts.
 -- Recovery: the reading of a text some of whose blocks can't be parsed. BibTeX reports an error, skips the rest of the block
 -- and continues. Recovery continues at the next at sign that begins a line, so an unclosed brace costs only one block.
-use Rattle.std.specs.Prelude.{◌≡◌, ◌⊎◌, ℕ, ◌<◌, Bool, true, not, ◌&&◌, ◌||◌, ◌==◌, List, [], ◌∷◌, length, take, drop}
+use Rattle.std.specs.Prelude.{◌≡◌, ◌⊎◌, ℕ, ◌<◌, Bool, true, false, not, ◌&&◌, ◌||◌, ◌==◌, List, [], ◌∷◌, length, take, drop}
 use Rattle.std.specs.List.{list_any, Any}
 use Rattle.std.specs.Str.{trim_end}
 use Rattle.bib_text.specs.Places.{Place, place, CharAt, AtEnd}
 use Rattle.bib_syntax.specs.Grammar.{Block, LineComment, longest}
+use Rattle.bib_syntax.specs.Kept.{Kept, entry_alone}
 use Rattle.bib_syntax.specs.Reading.{EntryReading, FileReading, empty_reading, then}
 use Rattle.bib_syntax.specs.SyntaxErrors.{BlockFails, Reports}
 use Rattle.bib_syntax.specs.declared.raw.ParseError.{ParseError}
@@ -46,32 +47,44 @@ IsUnreadBlock u e = Reports (BlockFails u) e
 abbrev pub skipped_block : ParseError → Place → Place → SkippedBlock
 skipped_block e u w = record { error = e; span = record { start = u.at; end = w.at } }
 
+-- What recovery keeps of the skipped block from `u` to `w`: nothing, or its complete parts if `keeps_parts` is true. They are
+-- the parts of the text that ends at `w`.
+pub data Keeps : Bool → Place → Place → FileReading → Type 0 where
+  nothing : {u w : Place} → Keeps false u w empty_reading
+  parts : {u w : Place} {kept : FileReading} → Kept (place (take w.at w.text) u.at) kept → Keeps true u w kept
+
 -- The rest of a file from a place, by the rules of the raw reading and one more rule. If no block begins at an at sign, its
 -- error is kept, and recovery continues at the next at sign that begins a line.
-pub data Recovered : Place → FileReading → List SkippedBlock → Type 0 where
-  end : {u : Place} → AtEnd u → Recovered u empty_reading []
+pub data Recovered (keeps_parts : Bool) : Place → FileReading → List SkippedBlock → Type 0 where
+  end : {u : Place} → AtEnd u → Recovered keeps_parts u empty_reading []
   skipped : {u v : Place} {c : ℕ} {says : FileReading} {errors : List SkippedBlock} → CharAt u c v
       → not (c == char.at) && not (c == char.percent) ≡ true
-      → Recovered v says errors → Recovered u says errors
+      → Recovered keeps_parts v says errors → Recovered keeps_parts u says errors
   line_comment : {u v : Place} {says : FileReading} {errors : List SkippedBlock} → LineComment u v
-      → Recovered v says errors → Recovered u says errors
-  block : {u v : Place} {first rest : FileReading} {errors : List SkippedBlock} → Block longest u first v → Recovered v rest errors
-      → Recovered u (then first rest) errors
-  unread : {u v w : Place} {e : ParseError} {says : FileReading} {errors : List SkippedBlock} → CharAt u char.at v
-      → IsUnreadBlock u e → GoesOnAt v w
-      → Recovered w says errors → Recovered u says (skipped_block e u w ∷ errors)
+      → Recovered keeps_parts v says errors → Recovered keeps_parts u says errors
+  block : {u v : Place} {first rest : FileReading} {errors : List SkippedBlock} → Block longest u first v
+      → Recovered keeps_parts v rest errors → Recovered keeps_parts u (then first rest) errors
+  unread : {u v w : Place} {e : ParseError} {kept says : FileReading} {errors : List SkippedBlock} → CharAt u char.at v
+      → IsUnreadBlock u e → GoesOnAt v w → Keeps keeps_parts u w kept
+      → Recovered keeps_parts w says errors → Recovered keeps_parts u (then kept says) (skipped_block e u w ∷ errors)
 
--- the recovery of `text` has the reading `says` and the skipped blocks `errors`
+-- the blocks of `text` that can be parsed have the reading `says`, and `errors` are the others
 abbrev pub IsRecovery : List ℕ → FileReading → List SkippedBlock → Type 0
-IsRecovery text says errors = Recovered (place text 0) says errors
+IsRecovery text says errors = Recovered false (place text 0) says errors
 
--- the reading of a block that is the entry `e`
-abbrev pub entry_alone : EntryReading → FileReading
-entry_alone e = record { preamble = []; entries = e ∷ []; abbreviations = [] }
+-- the same with the complete parts of the blocks that can't be parsed
+abbrev pub IsFullRecovery : List ℕ → FileReading → List SkippedBlock → Type 0
+IsFullRecovery text says errors = Recovered true (place text 0) says errors
 
 -- a block at the start of the entry `e` has exactly this entry as its raw reading
 abbrev pub IsBlockOf : List ℕ → EntryReading → Type 0
 IsBlockOf text e = (v : Place) × Block longest (place text e.start) (entry_alone e) v
+
+-- the entry `e` begins at the start of a skipped block, and is what is kept of this block
+abbrev pub IsKeptPart : List ℕ → List SkippedBlock → EntryReading → Type 0
+IsKeptPart text errors e = Any
+    (λ block. (block.span.start ≡ e.start) × Kept (place (take block.span.end text) e.start) (entry_alone e))
+    errors
 
 -- Recovery that begins at `start` reaches a place: `start` itself, or the end of a step from a place that it reaches. A step
 -- is a skipped character, a line comment, a block or a skipped block.

@@ -7,7 +7,7 @@ ghost use Rattle.bib_text.specs.Places.{place};
 ghost use Rattle.bib_syntax.specs.Errors.{IsSyntaxError};
 ghost use Rattle.bib_syntax.specs.Grammar.{IsFile, IsRawReading};
 ghost use Rattle.bib_syntax.specs.Reading.{EntryReading, FileReading};
-ghost use Rattle.bib_syntax.specs.Recovery.{IsBlockOf, IsPassedOver, IsRecovery, LiesInside};
+ghost use Rattle.bib_syntax.specs.Recovery.{IsBlockOf, IsKeptPart, IsFullRecovery, IsPassedOver, IsRecovery, LiesInside};
 ghost use Rattle.bib_syntax.specs.Slices.{ReadingStandsIn};
 ghost use Rattle.bib_syntax.specs.SyntaxErrors.{IsReported};
 ghost use Rattle.bib_syntax.specs.declared.raw.ParseError.{ParseError};
@@ -53,36 +53,52 @@ pub fn has_reading_or_error()
         ((says : FileReading) × IsRawReading text says) ⊎ ((e : ParseError) × IsReported text e) }
 {}
 
-/// Each UTF-8 text has a recovery. By `one_recovery`, it has exactly one.
+/// Each UTF-8 text has a recovery, and a full recovery. By `one_recovery`, it has exactly one of each.
 pub fn has_recovery()
-    ensures { (text : List ℕ) → IsUtf8 text →
+    ensures recovery { (text : List ℕ) → IsUtf8 text →
         (says : FileReading) × (errors : List SkippedBlock) × IsRecovery text says errors }
+    ensures full { (text : List ℕ) → IsUtf8 text →
+        (says : FileReading) × (errors : List SkippedBlock) × IsFullRecovery text says errors }
 {}
 
-/// Recovery skips no block if and only if the text has a raw reading, and then it has this reading.
+/// A recovery or a full recovery skips no block if and only if the text has a raw reading, and then it has this reading.
 pub fn recovered_is_read()
-    ensures { (text : List ℕ) (says : FileReading) → IsRawReading text says ↔
+    ensures recovery { (text : List ℕ) (says : FileReading) → IsRawReading text says ↔
         IsRecovery text says [] }
+    ensures full { (text : List ℕ) (says : FileReading) → IsRawReading text says ↔
+        IsFullRecovery text says [] }
 {}
 
-/// A text has at most one recovery: one reading and one list of skipped blocks with their errors.
+/// A text has at most one recovery and one full recovery: one reading and one list of skipped blocks with their errors. Both
+/// have the same skipped blocks.
 pub fn one_recovery()
-    ensures { (text : List ℕ) (says tells : FileReading) (errors others : List SkippedBlock) →
+    ensures recovery { (text : List ℕ) (says tells : FileReading) (errors others : List SkippedBlock) →
         IsRecovery text says errors → IsRecovery text tells others →
         (says ≡ tells) × (errors ≡ others) }
+    ensures full { (text : List ℕ) (says tells : FileReading) (errors others : List SkippedBlock) →
+        IsFullRecovery text says errors → IsFullRecovery text tells others →
+        (says ≡ tells) × (errors ≡ others) }
+    ensures both { (text : List ℕ) (says tells : FileReading) (errors others : List SkippedBlock) →
+        IsRecovery text says errors → IsFullRecovery text tells others → errors ≡ others }
 {}
 
-/// Each recovered entry is a block of the file grammar at its start.
+/// Each recovered entry is a block of the file grammar at its start. In a full recovery, it may instead be what is kept of a
+/// skipped block.
 pub fn recovered_entries_stand()
-    ensures { (text : List ℕ) (says : FileReading) (errors : List SkippedBlock) →
+    ensures recovery { (text : List ℕ) (says : FileReading) (errors : List SkippedBlock) →
         IsRecovery text says errors → AllByRecursion (IsBlockOf text) says.entries }
+    ensures full { (text : List ℕ) (says : FileReading) (errors : List SkippedBlock) →
+        IsFullRecovery text says errors → AllByRecursion (λ e. IsBlockOf text e ⊎ IsKeptPart text errors e) says.entries }
 {}
 
-/// Recovery has each entry that the file grammar can parse at some place of the text, with two exceptions. The place is
-/// inside a block or a line comment that recovery parses, or it is in a skipped block. A block that recovery doesn't reach
-/// isn't an exception.
+/// A recovery and a full recovery have each entry that the file grammar can parse at some place of the text, with two
+/// exceptions. The place is inside a block or a line comment that recovery parses, or it is in a skipped block. A block that
+/// recovery doesn't reach isn't an exception.
 pub fn nothing_is_lost()
-    ensures { (text : List ℕ) (says : FileReading) (errors : List SkippedBlock) (e : EntryReading) →
+    ensures recovery { (text : List ℕ) (says : FileReading) (errors : List SkippedBlock) (e : EntryReading) →
         IsRecovery text says errors → IsBlockOf text e → Contains says.entries e ⊎
+        LiesInside (place text e.start) ⊎ IsPassedOver errors (place text e.start) }
+    ensures full { (text : List ℕ) (says : FileReading) (errors : List SkippedBlock) (e : EntryReading) →
+        IsFullRecovery text says errors → IsBlockOf text e → Contains says.entries e ⊎
         LiesInside (place text e.start) ⊎ IsPassedOver errors (place text e.start) }
 {}

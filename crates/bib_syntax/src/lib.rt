@@ -8,7 +8,7 @@
 //!
 //! `specs/SyntaxErrors.antt` states for each rule of the grammar how it fails: with which error and at which place. `laws`
 //! proves, from the definitions only, that each UTF-8 text has exactly one raw reading or exactly one error, but not both.
-//! It also proves that each UTF-8 text has exactly one recovery.
+//! It also proves that each UTF-8 text has exactly one recovery and one full recovery, with the same skipped blocks.
 //!
 //! `recovery` parses a file even if some of its blocks can't be parsed. If a block fails, its error is kept, and parsing
 //! continues at the next at sign that begins a line. The text of a failed block may therefore be parsed again. To avoid
@@ -16,7 +16,8 @@
 //! closing brace follows. `reader`, the scanner of all these functions, jumps to these offsets. `memo` also has
 //! the error of each field that a failed block after the first one began to parse; `failing` finds these fields when
 //! the block has failed. Whether and how parsing fields fails depends only on the offset. A later block that reaches such
-//! a field therefore returns the known error without parsing it.
+//! a field therefore returns the known error without parsing it. `kept` parses the complete parts of a failed block, in the
+//! text up to the place where parsing continues.
 //!
 //! The grammar is written once and has two modes. In the mode `any`, a run of characters may end anywhere. This is the file
 //! grammar, which accepts or rejects a text. In the mode `longest`, each run is as long as possible. This is the raw reading,

@@ -4,7 +4,7 @@ ghost use Rattle.std.specs.Prelude.{◌≡◌, ◌≢◌, ◌⊎◌, [], ◌∷�
 ghost use Rattle.bib_syntax.specs.Characters as characters;
 ghost use Rattle.bib_syntax.specs.Errors.{token_text, kind_text, error_text, out_of_memory, Refuses};
 ghost use Rattle.bib_syntax.specs.Grammar.{IsFile, IsRawReading};
-ghost use Rattle.bib_syntax.specs.Recovery.{IsRecovery};
+ghost use Rattle.bib_syntax.specs.Recovery.{IsFullRecovery, IsRecovery};
 ghost use Rattle.bib_syntax.specs.SyntaxErrors.{IsReported};
 ghost use Rattle.bib_syntax.specs.Views.{file_of};
 ghost use Rattle.bib_syntax.specs.declared.raw.ParseErrorKind.TheVariants.{OutOfMemory};
@@ -14,6 +14,7 @@ mod failing;
 mod failures;
 mod fields;
 mod file;
+mod kept;
 mod memo;
 mod reader;
 mod recovery;
@@ -69,7 +70,16 @@ impl<'s> RawBibliography<'s> {
     pub fn recover(alloc: Global, src: &'s str) -> Result<RawRecovery<'s>, AllocError>
         ensures { IfOk result (λ found. IsRecovery src.now (file_of found.raw) found.skipped.items) }
     {
-        recover(alloc, src)
+        recover(alloc, src, false)
+    }
+
+    /// Parses a file as `recover` does, and keeps the complete parts of the skipped blocks too: the key and the fields of an
+    /// entry, and the definitions of abbreviations. Keeps each field before the first one that isn't complete, or before a
+    /// missing comma. An entry that is kept begins where its skipped block begins. Returns an error only if out of memory.
+    pub fn recover_parts(alloc: Global, src: &'s str) -> Result<RawRecovery<'s>, AllocError>
+        ensures { IfOk result (λ found. IsFullRecovery src.now (file_of found.raw) found.skipped.items) }
+    {
+        recover(alloc, src, true)
     }
 }
 

@@ -1,5 +1,5 @@
 -- Meaning: words of public contracts.
--- The roles of editors, from the BibLaTeX manual's list of values for `editortype`.
+-- The roles of editors, which are the values of `editortype`, as the Rust crate `biblatex` lists them.
 use Rattle.std.specs.Prelude.{ℕ, List, [], ◌∷◌, Option, codes, unwrap_or}
 use Rattle.bib_tables.specs.declared.types.EditorType.{EditorType}
 use Rattle.bib_tables.specs.declared.types.EditorType.TheVariants.{Editor, Compiler, Founder, Continuator, Redactor, Reviser, Collaborator, Organizer, Director, Unknown}

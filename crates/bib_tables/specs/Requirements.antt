@@ -1,6 +1,6 @@
 -- Meaning: words of public contracts.
--- The fields that each entry type requires, allows and forbids, from the BibLaTeX manual's tables of entry types. By these
--- lists, entries are checked and inherit fields.
+-- The fields that each entry type requires, allows and forbids, as in the Rust crate `biblatex`, which spells `titleaddon` as
+-- `titleadddon`. Entries are checked and inherit fields by these lists.
 use Rattle.std.specs.Prelude.{ℕ, Bool, true, false, not, ◌&&◌, ◌||◌, List, [], ◌∷◌, ◌++◌, bytes_eq, codes, map}
 use Rattle.std.specs.List.{list_any}
 use Prim.Native.String.{String}
@@ -37,7 +37,7 @@ base = codes "note" ∷ codes "location" ∷ core
 abbrev pub base_without_location : Names
 base_without_location = codes "note" ∷ core
 
--- people who annotated or translated a work, and texts added to it
+-- people who annotated or translated a work, its original language, and texts added to it
 abbrev pub annotators : Names
 annotators = fields "annotator commentator translator origlanguage afterword foreword introduction"
 
@@ -45,7 +45,7 @@ annotators = fields "annotator commentator translator origlanguage afterword for
 abbrev pub main_title : Names
 main_title = fields "maintitle mainsubtitle maintitleaddon"
 
--- the rest of the title of the book that contains a part
+-- the title of the book that contains a work, without `booktitle`
 abbrev pub book_title : Names
 book_title = fields "booksubtitle booktitleaddon"
 

@@ -1,10 +1,10 @@
 -- Meaning: words of public contracts.
--- Verbatim fields: the fields that BibLaTeX declares as verbatim or as a URI.
+-- Verbatim fields, as the Rust crate `biblatex` lists them.
 use Rattle.std.specs.Prelude.{ℕ, Bool, List, [], ◌∷◌, codes, bytes_eq}
 use Rattle.std.specs.List.{list_any}
 
--- The fields that BibLaTeX lists as verbatim. In their values only hyphens, white space, braces, and a backslash before a
--- brace, a backslash or a colon have a meaning.
+-- The names of the verbatim fields. In their values only hyphens, white space, braces, and a backslash before a brace, a
+-- backslash or a colon have a meaning.
 abbrev pub verbatim_fields : List (List ℕ)
 verbatim_fields =
     codes "file" ∷ codes "doi" ∷ codes "uri" ∷ codes "eprint" ∷ codes "verba" ∷ codes "verbb" ∷ codes "verbc" ∷ codes "pdf" ∷ codes "url"

@@ -27,7 +27,7 @@ impl Dialect {
     }
 }
 
-/// Returns BibLaTeX's name of a field.
+/// Returns BibLaTeX's name of a field. Only BibTeX's names in lowercase are replaced. Any other name is returned unchanged.
 pub fn biblatex_name(name: &str) -> &str
     ensures { result.now ≡ biblatex_name name.now }
 {
@@ -39,7 +39,7 @@ pub fn biblatex_name(name: &str) -> &str
     }
 }
 
-// Returns BibTeX's name of a field, for any type of its entry.
+// Returns BibTeX's name of a field of an entry that isn't a thesis.
 fn plain_name(name: &str) -> &str
     ensures { result.now ≡ unwrap_or (value_named bibtex_names name.now) name.now }
 {
@@ -60,7 +60,8 @@ fn thesis_name(name: &str) -> &str
     }
 }
 
-/// Returns BibTeX's name of a field of an entry of type `kind`: the `institution` of a thesis is its `school`.
+/// Returns BibTeX's name of a field of an entry of type `kind`: the `institution` of a thesis is its `school`. Only BibLaTeX's
+/// names in lowercase are replaced. Any other name is returned unchanged.
 pub fn bibtex_name<'n>(kind: &EntryType, name: &'n str) -> &'n str
     ensures { result.now ≡ bibtex_name kind.now name.now }
 {

@@ -4,7 +4,7 @@ ghost use Rattle.std.specs.Prelude.{◌≡◌};
 ghost use Rattle.bib_tables.specs.ReferenceFields as references;
 ghost use Rattle.bib_tables.specs.VerbatimFields as names;
 
-/// Returns whether the field `key` is verbatim: whether commands and math have no meaning in its value.
+/// Returns whether `key` is exactly the name of a verbatim field, in whose value commands and math have no meaning.
 pub fn is_verbatim_field(key: &str) -> bool
     ensures { result ≡ names.is_verbatim_field key.now }
 {

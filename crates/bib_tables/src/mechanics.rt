@@ -83,7 +83,7 @@ pub enum EntryType {
     Set,
     /// A container of fields that other entries inherit.
     XData,
-    /// Another type; the text is its name in lowercase letters.
+    /// Another type; the text is its name in ASCII lowercase.
     Unknown(Text),
 }
 

@@ -29,7 +29,7 @@ pub enum TypeErrorKind {
     DayOutOfRange,
     /// A month isn't from 1 to 12.
     MonthOutOfRange,
-    /// A text isn't a number or a list of numbers, or a number of a time is out of range.
+    /// A text isn't a number, a range or a list of ranges, or a number of a time is out of range.
     InvalidNumber,
     /// A number is missing.
     MissingNumber,

@@ -1,6 +1,6 @@
 -- Meaning: words of public contracts.
 -- Texts with balanced braces, such as the text between two braces in a file. A backslash escapes the character after it.
--- Each opening brace that isn't escaped has a closing brace, and each closing brace an opening one.
+-- Each brace that isn't escaped belongs to a pair of an opening and a closing brace.
 use Rattle.std.specs.Prelude.{◌≡◌, ℕ, Bool, true, not, ◌&&◌, ◌==◌, List, length}
 use Rattle.bib_text.specs.Places.{Place, CharAt, place}
 use Rattle.bib_text.specs.Characters as char

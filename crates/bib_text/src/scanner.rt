@@ -218,8 +218,8 @@ impl<'s> Scanner<'s> {
         &self.text[start..at]
     }
 
-    /// Moves past characters until `test` accepts one, and returns the text of the characters before it. It is the
-    /// longest rejected run if `test` always returns the same result for the same character.
+    /// Moves past characters while `test` rejects them, and returns the text of these characters. It is the longest
+    /// rejected run if `test` always returns the same result for the same character.
     pub fn eat_until<F: Fn(char) -> bool>(&mut self, test: F) -> &'s str
         requires { F.IsAlwaysCallable test }
         ensures longest { (p : ℕ → Bool) → Answers (F.post test) p →
@@ -244,7 +244,7 @@ impl<'s> Scanner<'s> {
         self.from(start)
     }
 
-    /// Moves to the next `end`, an ASCII character, or to the end of the text if there is none. Returns the text before it.
+    /// Moves to the next `end`, an ASCII character, or to the end of the text if there is none. Returns the text passed.
     pub fn eat_until_byte(&mut self, end: u8) -> &'s str
         requires ascii { end < 128 }
         ensures longest { Longest (λ x. not (x == end)) self.old self.new }
@@ -257,8 +257,7 @@ impl<'s> Scanner<'s> {
         self.eat_bytes(count)
     }
 
-    /// Moves to the next `a` or `b`, which are ASCII, or to the end of the text if there is none. Returns the text before
-    /// it.
+    /// Moves to the next `a` or `b`, which are ASCII, or to the end of the text if there is none. Returns the text passed.
     pub fn eat_until_either(&mut self, a: u8, b: u8) -> &'s str
         requires ascii { (a < 128) × (b < 128) }
         ensures longest { Longest (λ x. not (x == a) && not (x == b)) self.old self.new }
@@ -272,7 +271,7 @@ impl<'s> Scanner<'s> {
     }
 
     /// Moves to the next `a`, `b` or `c`, which are ASCII, or to the end of the text if there is none. Returns the text
-    /// before it.
+    /// passed.
     pub fn eat_until_any(&mut self, a: u8, b: u8, c: u8) -> &'s str
         requires ascii { (a < 128) × (b < 128) × (c < 128) }
         ensures longest { Longest (λ x. not (x == a) && not (x == b) && not (x == c)) self.old self.new }

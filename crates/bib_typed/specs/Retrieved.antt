@@ -15,7 +15,8 @@ use Rattle.bib_chunks.specs.Values.{Value}
 use Rattle.bib_typed.specs.declared.retrieval.RetrievalError.{RetrievalError}
 use Rattle.bib_typed.specs.declared.retrieval.RetrievalError.TheVariants.{Missing, TypeError, OutOfMemory}
 
--- the text of an error: it contains the name of the missing field, or is the text of the chunks' error
+-- the text of an error: it contains the name of the missing field, is the text of the chunks' error, or says that memory ran
+-- out
 abbrev pub retrieval_text : RetrievalError → List ℕ
 retrieval_text (Missing name) = codes "field " ++ name ++ codes " is missing"
 retrieval_text (TypeError e) = type_error_text e

@@ -102,8 +102,8 @@ impl Type for Language {
     }
 }
 
-/// Parses a name, in any ASCII case. Any other text is an unknown editor type, in lowercase letters. Written as one normal
-/// chunk.
+/// Parses a name, in any ASCII case. Any other text is an unknown editor type, with its ASCII letters in lowercase. Written as
+/// one normal chunk.
 impl Type for EditorType {
     ghost use Rattle.bib_tables.specs.declared.types.EditorType.{EditorType as Role};
 

@@ -27,7 +27,7 @@ pub trait ChunksExt {
         ensures place { LiesAt (whole_span (contents self.now)) result };
 
     /// Returns the text of the chunks. Math is written between dollar signs. A line break in normal text becomes a space, or
-    /// nothing after white space.
+    /// nothing if the last character written before it, outside math, is white space.
     fn format_verbatim(&self, alloc: Global) -> Result<String, AllocError>
         ensures { IfOk result (λ text. string_bytes text ≡
             encode_utf8_all (formatted_chars (contents self.now))) };

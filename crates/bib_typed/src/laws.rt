@@ -38,78 +38,78 @@ use bib_tables::types::lang::Language;
 use bib_tables::types::{EditorType, Gender, Pagination};
 use std::ops::Range;
 
-/// A `String` is parsed as the plain text of its chunks, and written as one verbatim chunk.
+/// States that a `String` is parsed as the plain text of its chunks, and written as one verbatim chunk.
 pub fn texts_are_read_and_written(string: &String)
     ensures meaning { ⟦<String as Type>⟧.meaning string.now ≡ string_bytes string.now }
     ensures reads { (chunks : Value) → ⟦<String as Type>⟧.reads chunks ≡ Some (Values.text chunks) }
     ensures writes { (text : List ℕ) → ⟦<String as Type>⟧.writes text ≡ Values.alone (Verbatim text) }
 {}
 
-/// An `i64` is parsed from digits or a roman numeral, and written in digits.
+/// States that an `i64` is parsed from digits or a roman numeral, and written in digits.
 pub fn numbers_are_read_and_written(number: i64)
     ensures meaning { ⟦<i64 as Type>⟧.meaning number ≡ number }
     ensures reads { (chunks : Value) → ⟦<i64 as Type>⟧.reads chunks ≡ number_read chunks }
     ensures writes { (z : ℤ) → ⟦<i64 as Type>⟧.writes z ≡ number_written z }
 {}
 
-/// A `Pagination` is parsed from its name, and written as its name.
+/// States that a `Pagination` is parsed from its name, and written as its name.
 pub fn paginations_are_read_and_written(pagination: Pagination)
     ensures meaning { ⟦<Pagination as Type>⟧.meaning pagination ≡ pagination }
     ensures reads { (chunks : Value) → ⟦<Pagination as Type>⟧.reads chunks ≡ pagination_read chunks }
     ensures writes { (scheme : AScheme) → ⟦<Pagination as Type>⟧.writes scheme ≡ pagination_written scheme }
 {}
 
-/// A `Gender` is parsed from its code, and written as its code.
+/// States that a `Gender` is parsed from its code, and written as its code.
 pub fn genders_are_read_and_written(gender: Gender)
     ensures meaning { ⟦<Gender as Type>⟧.meaning gender ≡ gender }
     ensures reads { (chunks : Value) → ⟦<Gender as Type>⟧.reads chunks ≡ gender_read chunks }
     ensures writes { (g : AGender) → ⟦<Gender as Type>⟧.writes g ≡ gender_written g }
 {}
 
-/// A `Language` is parsed from one of its names, and written as its display name.
+/// States that a `Language` is parsed from one of its names, and written as its display name.
 pub fn languages_are_read_and_written(language: Language)
     ensures meaning { ⟦<Language as Type>⟧.meaning language ≡ language }
     ensures reads { (chunks : Value) → ⟦<Language as Type>⟧.reads chunks ≡ language_read chunks }
     ensures writes { (l : ALanguage) → ⟦<Language as Type>⟧.writes l ≡ language_written l }
 {}
 
-/// An `EditorType` is parsed from its name; any other text is an unknown type. It is written as its name.
+/// States that an `EditorType` is parsed from its name; any other text is an unknown type. It is written as its name.
 pub fn editor_types_are_read_and_written(role: &EditorType)
     ensures meaning { ⟦<EditorType as Type>⟧.meaning role.now ≡ role.now }
     ensures reads { (chunks : Value) → ⟦<EditorType as Type>⟧.reads chunks ≡ Some (editor_type_read chunks) }
     ensures writes { (r : ARole) → ⟦<EditorType as Type>⟧.writes r ≡ editor_type_written r }
 {}
 
-/// A `Range<u32>` is parsed as the first range of a comma-separated list of ranges, and written with a hyphen.
+/// States that a `Range<u32>` is parsed as the first range of a comma-separated list of ranges, and written with a hyphen.
 pub fn ranges_are_read_and_written(range: &Range<u32>)
     ensures meaning { ⟦<Range<u32> as Type>⟧.meaning range.now ≡ range.now }
     ensures reads { (chunks : Value) → ⟦<Range<u32> as Type>⟧.reads chunks ≡ range_read chunks }
     ensures writes { (r : ARange ℕ) → ⟦<Range<u32> as Type>⟧.writes r ≡ range_written r }
 {}
 
-/// A `Vec<Range<u32>>` is parsed from a comma-separated list of ranges, and written as one.
+/// States that a `Vec<Range<u32>>` is parsed from a comma-separated list of ranges, and written as one.
 pub fn lists_of_ranges_are_read_and_written(ranges: &Vec<Range<u32>>)
     ensures meaning { ⟦<Vec<Range<u32>> as Type>⟧.meaning ranges.now ≡ ranges.now.items }
     ensures reads { (chunks : Value) → ⟦<Vec<Range<u32>> as Type>⟧.reads chunks ≡ ranges_read chunks }
     ensures writes { (list : List (ARange ℕ)) → ⟦<Vec<Range<u32>> as Type>⟧.writes list ≡ ranges_written list }
 {}
 
-/// A `Vec<String>` is parsed as the texts of a comma-separated list, and written as one.
+/// States that a `Vec<String>` is parsed as the texts of a comma-separated list, and written as one.
 pub fn lists_of_texts_are_read_and_written(strings: &Vec<String>)
     ensures meaning { ⟦<Vec<String> as Type>⟧.meaning strings.now ≡ map (λ s. string_bytes s) strings.now.items }
     ensures reads { (chunks : Value) → ⟦<Vec<String> as Type>⟧.reads chunks ≡ Some (strings_read chunks) }
     ensures writes { (list : List (List ℕ)) → ⟦<Vec<String> as Type>⟧.writes list ≡ strings_written list }
 {}
 
-/// A `Vec<Chunks>` is parsed as the items of an `and` list, and written as one.
+/// States that a `Vec<Chunks>` is parsed as the items of an `and` list, and written as one.
 pub fn lists_of_parts_are_read_and_written(parts: &Vec<Chunks>)
     ensures meaning { ⟦<Vec<Chunks> as Type>⟧.meaning parts.now ≡ parts.now.items }
     ensures reads { (chunks : Value) → ⟦<Vec<Chunks> as Type>⟧.reads chunks ≡ Some (and_list chunks) }
     ensures writes { (list : List Value) → ⟦<Vec<Chunks> as Type>⟧.writes list ≡ parts_written list }
 {}
 
-/// A `Vec<PermissiveType<Language>>` is parsed as the items of an `and` list, each a language or else its chunks. It is
-/// written as one.
+/// States that a `Vec<PermissiveType<Language>>` is parsed as the items of an `and` list, each a language or else its chunks.
+/// It is written as one.
 pub fn lists_of_languages_are_read_and_written(languages: &Vec<PermissiveType<Language>>)
     ensures meaning { ⟦<Vec<PermissiveType<Language>> as Type>⟧.meaning languages.now ≡
         map (permissive_meaning (λ language. language)) languages.now.items }
@@ -119,22 +119,22 @@ pub fn lists_of_languages_are_read_and_written(languages: &Vec<PermissiveType<La
         ⟦<Vec<PermissiveType<Language>> as Type>⟧.writes list ≡ languages_written list }
 {}
 
-/// A `Vec<Person>` is parsed as the people of an `and` list, and written as one.
+/// States that a `Vec<Person>` is parsed as the people of an `and` list, and written as one.
 pub fn lists_of_people_are_read_and_written(people: &Vec<Person>)
     ensures meaning { ⟦<Vec<Person> as Type>⟧.meaning people.now ≡ people.now.items }
     ensures reads { (chunks : Value) → ⟦<Vec<Person> as Type>⟧.reads chunks ≡ Some (people_of chunks) }
     ensures writes { (list : List APerson) → ⟦<Vec<Person> as Type>⟧.writes list ≡ people_chunks list }
 {}
 
-/// A `Date` is parsed from the plain text of its chunks as a date or a range, and written without times.
+/// States that a `Date` is parsed from the plain text of its chunks as a date or a range, and written without times.
 pub fn dates_are_read_and_written(date: Date)
     ensures meaning { ⟦<Date as Type>⟧.meaning date ≡ date }
     ensures reads { (chunks : Value) → ⟦<Date as Type>⟧.reads chunks ≡ date_read chunks }
     ensures writes { (d : ADate) → ⟦<Date as Type>⟧.writes d ≡ date_written d }
 {}
 
-/// A `PermissiveType<T>` is parsed as a `T` if possible, and otherwise as its chunks. It is written as the `T` or as the
-/// chunks.
+/// States that a `PermissiveType<T>` is parsed as a `T` if possible, and otherwise as its chunks. It is written as the `T` or
+/// as the chunks.
 pub fn permissive_values_are_read_and_written<T: Type + Drop>(value: &PermissiveType<T>)
     ensures meaning { ⟦<PermissiveType<T> as Type>⟧.meaning value.now ≡ permissive_meaning T.meaning value.now }
     ensures reads { (chunks : Value) →
@@ -143,17 +143,17 @@ pub fn permissive_values_are_read_and_written<T: Type + Drop>(value: &Permissive
         ⟦<PermissiveType<T> as Type>⟧.writes m ≡ permissive_written T.Type.writes m }
 {}
 
-/// Each text is kept.
+/// States that each text is kept.
 pub fn texts_are_kept(text: &String)
     ensures { ⟦<String as Type>⟧.kept (⟦<String as Type>⟧.meaning text.now) }
 {}
 
-/// Each number is kept.
+/// States that each number is kept.
 pub fn numbers_are_kept(number: i64)
     ensures { ⟦<i64 as Type>⟧.kept (⟦<i64 as Type>⟧.meaning number) }
 {}
 
-/// Each value of an enumeration is kept, except for an unknown editor type.
+/// States that each value of an enumeration is kept, except for an unknown editor type.
 pub fn enumerations_are_kept(
     language: Language,
     pagination: Pagination,
@@ -167,43 +167,43 @@ pub fn enumerations_are_kept(
         ⟦<EditorType as Type>⟧.kept (⟦<EditorType as Type>⟧.meaning role.now) }
 {}
 
-/// Each range of 32-bit numbers is kept.
+/// States that each range of 32-bit numbers is kept.
 pub fn ranges_are_kept(start: u32, end: u32)
     ensures { ⟦<Range<u32> as Type>⟧.kept (record { start = start; end = end }) }
 {}
 
-/// Each list of at least one range of 32-bit numbers is kept.
+/// States that each list of at least one range of 32-bit numbers is kept.
 pub fn lists_of_ranges_are_kept()
     ensures { (ranges : List (ARange ℕ)) → RangesKept ranges →
         ⟦<Vec<Range<u32>> as Type>⟧.kept ranges }
 {}
 
-/// Each list of texts is kept if it has at least one text, and no text contains a comma, CR or LF.
+/// States that a list of texts is kept if it has at least one text, and no text contains a comma, CR or LF.
 pub fn lists_of_texts_are_kept()
     ensures { (texts : List (List ℕ)) → StringsKept texts → ⟦<Vec<String> as Type>⟧.kept texts }
 {}
 
-/// Each list of languages is kept if it has at least one item, and each item is a language.
+/// States that a list of languages is kept if it has at least one item, and each item is a language.
 pub fn lists_of_languages_are_kept()
     ensures { (languages : List (Permissive ALanguage)) → LanguagesKept languages →
         ⟦<Vec<PermissiveType<Language>> as Type>⟧.kept languages }
 {}
 
-/// Each list of people is kept if it has at least one person, and each person satisfies the following. The family name and
-/// the given name are not empty. All names consist of words with single spaces between them. A word consists of ASCII
-/// letters, points and hyphens, and is not `and`. The words of a family name begin with an uppercase letter, and those of a
-/// prefix with a lowercase letter. Only family name, given name, prefix and suffix are set.
+/// States that a list of people is kept if it has at least one person, and each person satisfies the following. The family
+/// name and the given name are not empty. These two, the prefix and the suffix consist of words with single spaces between
+/// them. A word consists of ASCII letters, points and hyphens, and is not `and`. The words of a family name begin with an
+/// uppercase letter, and those of a prefix with a lowercase letter. The other fields are `None`.
 pub fn lists_of_people_are_kept()
     ensures { (people : List APerson) → ArePeople people → ⟦<Vec<Person> as Type>⟧.kept people }
 {}
 
-/// Each date is kept if its year is from -9999 to 9999, and its month and day exist. It must have no day without a month, and
-/// no time. For a range, this must hold for each side.
+/// States that a date is kept if its year is from -9999 to 9999, and its month and day exist. It must have no day without a
+/// month, and no time. For a range, this must hold for each side.
 pub fn dates_are_kept()
     ensures { (date : ADate) → IsKeptDate date → ⟦<Date as Type>⟧.kept date }
 {}
 
-/// `PermissiveType<T>` keeps a value exactly if `T` keeps it, and chunks exactly if `T` can't parse them.
+/// States that `PermissiveType<T>` keeps a value exactly if `T` keeps it, and chunks exactly if `T` can't parse them.
 pub fn permissive_values_are_kept<T: Type + Drop>(value: &T, chunks: &Chunks)
     ensures value { T.Type.kept (T.meaning value.now) →
         ⟦<PermissiveType<T> as Type>⟧.kept (⟦<PermissiveType<T> as Type>⟧.meaning (Typed value.now)) }
@@ -215,7 +215,7 @@ pub fn permissive_values_are_kept<T: Type + Drop>(value: &T, chunks: &Chunks)
         T.Type.reads chunks.now ≡ None }
 {}
 
-/// Parsing each of these types has only these kinds of errors, except for out of memory.
+/// States that parsing each of these types has only these kinds of errors, except for out of memory.
 pub fn types_have_few_kinds()
     ensures number { (chunks : Value) (kind : AKind) → ⟦<i64 as Type>⟧.may_refuse chunks kind →
         (kind ≡ InvalidNumber) ⊎ (kind ≡ MissingNumber) }
@@ -233,7 +233,7 @@ pub fn types_have_few_kinds()
         ⟦<Date as Type>⟧.may_refuse chunks kind → IsDateKind kind }
 {}
 
-/// Parsing any of the other types accepts any chunks, so its only error is out of memory.
+/// States that parsing any of the other types accepts any chunks, so its only error is out of memory.
 pub fn others_read_any_chunks<T: Type + Drop>()
     ensures text { (chunks : Value) (kind : AKind) → ⟦<String as Type>⟧.may_refuse chunks kind → ⊥ }
     ensures texts { (chunks : Value) (kind : AKind) →

@@ -5,7 +5,7 @@
 //! errors that parsing may return. `writes` is the chunks that a value is written as, and `kept` the values that survive
 //! both. Its law `survives` states that the chunks written for a kept value parse back to the same value. So `get_as` and
 //! `set_as` are proved once for any type, and so is `PermissiveType`. The impls are short, because the parsers and their
-//! lemmas are in the crates of the types. Written chunks have no span in a file.
+//! lemmas are in the crates of the types. Written chunks have no span in a file, except for chunks that are part of the value.
 //!
 //! `retrieval` defines the errors of getting a field, `reading` parses a field of a map as a typed value, and `setting` sets
 //! a field to one.

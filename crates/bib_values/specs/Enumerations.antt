@@ -1,6 +1,6 @@
 -- Meaning: words of public contracts.
--- Enumerations, each by its names: the values of `pagination`, `editortype` and `langid` in the BibLaTeX manual, and
--- its codes for `gender`. Only a language is parsed in the exact case of its name.
+-- Enumerations, each by its names: the values of `pagination`, `editortype` and `langid` and the codes of `gender`, as
+-- the Rust crate `biblatex` lists them. Only a language is parsed in the exact case of its name.
 use Rattle.std.specs.Prelude.{ℕ, ⊤, List, [], ◌∷◌, Option, codes}
 use Rattle.bib_chunks.specs.declared.chunk.Chunk.TheVariants.{Normal, Verbatim}
 use Rattle.bib_text.specs.Enums.{value_named, by_name}

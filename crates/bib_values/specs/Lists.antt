@@ -1,6 +1,6 @@
 -- Meaning: words of public contracts.
--- Lists of texts with commas between them, as in `keywords`. A list is written as normal text only, since that is cut
--- when it is parsed.
+-- Lists of texts with commas between them, as in `keywords`. A list is written as normal text, since the parser cuts a
+-- list only in normal text.
 use Rattle.std.specs.Prelude.{◌≡◌, ◌<◌, ℕ, length, Bool, true, not, ◌==◌, ◌&&◌, map, List, codes}
 use Rattle.std.specs.List.{list_all, AllByRecursion}
 use Rattle.std.specs.Str.{IsUtf8, chars}

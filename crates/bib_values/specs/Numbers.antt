@@ -1,5 +1,5 @@
 -- Meaning: words of public contracts.
--- Whole numbers, as in `volume` and `number`. The BibLaTeX manual requires digits there; to parse a roman numeral too
+-- Whole numbers, as in `volume` and `volumes`. The BibLaTeX manual requires digits there; to parse a roman numeral too
 -- is a rule of the Rust crate `biblatex`.
 use Rattle.std.specs.Prelude.{ℕ, ◌^◌, Bool, cond, ◌&&◌, nat_lt, ℤ, pos, List, length, Option, Some, None}
 use Rattle.std.specs.Option.{option_map, option_or}

@@ -49,8 +49,8 @@ pub record IsRange (text : List ℕ) (range : Range ℕ) : Type 0 where
 abbrev pub is_small : List ℕ → Bool
 is_small digits = nat_lt 0 (length digits) && nat_lt (digits_value 10 digits) (2 ^ 32)
 
--- the number at the start of a text, with all the digits there, and the text after it; none if it doesn't fit in 32
--- bits
+-- the number at the start of a text, with all the digits there, and the text after it; none if there is no digit or the
+-- number doesn't fit in 32 bits
 unfoldable pub leading_number : List ℕ → Option (ℕ × List ℕ)
 leading_number cs =
     if is_small (leading_run is_ascii_digit cs)

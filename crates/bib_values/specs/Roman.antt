@@ -4,9 +4,9 @@ use Rattle.std.specs.Prelude.{ℕ, ◌/◌, ◌%◌, ◌==◌, nat_le, if◌then
 use Rattle.std.specs.List.{repeat, find, range_with_len}
 use Rattle.std.specs.Str.{str_to_ascii_lowercase}
 
--- the letters of a decimal digit, given the letters that stand for one, five and ten of its power of ten: 4 and 9 are the
--- letter for one before that for five or ten; the others have the letter for five if they are at least 5, and one for each
--- unit above
+-- The letters of a decimal digit, given the letters for one, five and ten of its power of ten. 4 and 9 are the letter for
+-- one before that for five or ten. Any other digit is the letter for five if it is at least 5, and then the letter for one
+-- for each further unit.
 abbrev pub digit_letters : List ℕ → List ℕ → List ℕ → ℕ → List ℕ
 digit_letters one five ten digit =
     if digit == 4 then one ++ five

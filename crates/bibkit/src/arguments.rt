@@ -11,7 +11,7 @@ use bib_tables::dialects::Dialect;
 use bibkit_convert::target::Target;
 use bibkit_core::request::{Cited, Request};
 use bibkit_settings::commands::{command, is_editing};
-use bibkit_settings::settings::{Color, OutputFormat, Settings};
+use bibkit_settings::settings::{Color, OutputFormat, Settings, fail_on_named};
 use bibkit_settings::style_settings::{StyleSettings, delimiters_named, width_of};
 use clap::{ArgMatches, Error};
 use edit_orders::order::{Order, OrderError};
@@ -108,6 +108,7 @@ fn lint_asked<'a>(alloc: Global, matches: &ArgMatches<'a>) -> Result<Asked<'a>, 
         ignored: given_codes(alloc, matches, "ignore")?,
         color: matches.get_str("color").and_then(Color::from_name),
         format: matches.get_str("format").and_then(OutputFormat::from_name),
+        fail_on: matches.get_str("fail-on").and_then(fail_on_named),
     };
     let cited = matches.get_str("cited").map(|name| Cited {
         name,

@@ -10,7 +10,7 @@ use bibkit_edits::edit::Edit;
 use std::alloc::{AllocError, Global};
 use std::str::from_utf8;
 
-// Returns the message for a fault of a text that isn't an array of items.
+// Returns the message for a fault of a text whose items can't be converted.
 fn fault_text(fault: Fault) -> &'static str {
     match fault {
         Fault::NotJson => "expected JSON",
@@ -23,7 +23,7 @@ fn fault_text(fault: Fault) -> &'static str {
     }
 }
 
-// Returns the message and status 1 for a text that isn't an array of items. The message has the position of the fault.
+// Returns the message and status 1 for a text whose items can't be converted. The message contains the position of the fault.
 fn fault_stop(
     alloc: Global,
     name: &str,

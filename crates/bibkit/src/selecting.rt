@@ -69,15 +69,15 @@ pub fn parse_conditions(alloc: Global, conditions: &[&str]) -> Result<Vec<Select
     Ok(selections)
 }
 
-// Returns the text to print for a file's text, and whether an entry meets all conditions.
+// Returns the text to print for a file's text, and whether it has an entry or a key.
 fn selected_text(
     alloc: Global,
     selections: &[Selection],
     printed: Printed,
     text: &str,
 ) -> Result<(String, bool), AllocError> {
-    let found = Bibliography::recover(alloc, text)?;
-    let keys = selected_keys(alloc, selections, &found.bibliography)?;
+    let recovered = Bibliography::recover(alloc, text)?;
+    let keys = selected_keys(alloc, selections, &recovered.bibliography)?;
     if keys.is_empty() {
         return Ok((String::new(alloc), false));
     }
@@ -86,11 +86,12 @@ fn selected_text(
     } else {
         Excerpts::Get(keys)
     };
-    let entries = answer(alloc, &request, text)?.text;
+    let found = answer(alloc, &request, text)?;
     if printed.has_keys {
-        return Ok((answer(alloc, &Excerpts::Keys, &entries)?.text, true));
+        let keys = answer(alloc, &Excerpts::Keys, &found.text)?;
+        return Ok((keys.text, keys.has_entry));
     }
-    Ok((entries, true))
+    Ok((found.text, found.has_entry))
 }
 
 // Prints the entries of a file that meet all conditions. Returns whether there is one.

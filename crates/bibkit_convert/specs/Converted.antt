@@ -40,7 +40,7 @@ before_next Csl is_first = before_element is_first
 before_next Json is_first = before_element is_first
 before_next Ris is_first = []
 
--- the text after the last entry, by whether no entry is printed
+-- the text after the last entry; `is_empty` says whether no entry is printed
 abbrev pub end : Target → Bool → List ℕ
 end Csl is_empty = array_end is_empty
 end Json is_empty = array_end is_empty
@@ -50,16 +50,16 @@ end Ris is_empty = []
 abbrev pub text_after : Target → Bool → Entry → List ℕ
 text_after target is_first e = if is_written target e then before_next target is_first ++ exported_entry target e else []
 
--- whether no entry is printed yet after this one, by whether none was before it
+-- whether the output still has no entry after this one; `is_first` says whether it has none before
 abbrev pub is_still_first : Target → Bool → Entry → Bool
 is_still_first target is_first e = is_first && not (is_written target e)
 
--- the texts of entries one after another, by whether no entry is printed before them
+-- the texts of entries one after another; `is_first` says whether no entry is printed before them
 abbrev pub texts_after : Target → Bool → List Entry → List ℕ
 texts_after target is_first [] = []
 texts_after target is_first (e ∷ es) = text_after target is_first e ++ texts_after target (is_still_first target is_first e) es
 
--- whether no entry is printed yet after these, by whether none was before them
+-- whether the output still has no entry after these; `is_first` says whether it has none before
 abbrev pub is_first_after : Target → Bool → List Entry → Bool
 is_first_after target is_first [] = is_first
 is_first_after target is_first (e ∷ es) = is_first_after target (is_still_first target is_first e) es

@@ -53,7 +53,7 @@ impl Target {
         }
     }
 
-    /// Returns the text after the last entry, which depends on whether no entry is printed.
+    /// Returns the text after the last entry. `is_empty` says whether no entry is printed.
     pub fn end(self, is_empty: bool) -> &'static str
         ensures { result.now ≡ spec.end self is_empty }
     {

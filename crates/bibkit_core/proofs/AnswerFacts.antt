@@ -9,12 +9,13 @@ use Rattle.bib_findings.specs.declared.codes.Code.{Code}
 use Rattle.bibkit_core.specs.Answered.{AsksForCited, CantReadDocument, HasFailed, IsCallAnswer}
 use Rattle.bibkit_core.specs.Compared.{AreCitedBy, ReadsDocument}
 use Rattle.bibkit_core.specs.Outcomes.{HasPrinted}
-use Rattle.bibkit_core.specs.Printed.{is_clean}
+use Rattle.bibkit_core.specs.Printed.{has_failing}
 use Rattle.bibkit_core.specs.Running.{IsTaskPrinted}
 use Rattle.bibkit_core.specs.Selecting.{selecting_status}
 use Rattle.bibkit_core.specs.Steps.{AreComparedPrinted, AreEntriesPrinted, AreFindingsPrinted, AreSelectedPrinted, HasNoText, HasStopped, IsMeaningPrinted, ReadsText}
 use Rattle.bibkit_core.specs.Tasks.{entries_status, is_search, lint_status}
 use Rattle.bibkit_core.specs.declared.request.Cited.{Cited}
+use Rattle.bibkit_core.specs.declared.request.FailOn.{FailOn}
 use Rattle.bibkit_core.specs.declared.request.Lint.{Lint}
 use Rattle.bibkit_core.specs.declared.request.Request.{Request}
 use Rattle.bibkit_core.specs.declared.request.Request.TheVariants as request
@@ -112,8 +113,10 @@ bounded_if : (b : Bool) (status : ℕ) → status ≤ 2 → (if b then status el
 bounded_if true status bound = bound
 bounded_if false status bound = omega arith
 
-lint_bounded : (tally : Tally) → lint_status tally ≤ 2
-lint_bounded tally = elim (is_clean tally) as (λ b. (if b then 0 else 1) ≤ 2) [ true ↦ omega arith | false ↦ omega arith ]
+lint_bounded : (fail_on : FailOn) (tally : Tally) → lint_status fail_on tally ≤ 2
+lint_bounded fail_on tally =
+    elim (has_failing fail_on tally) as (λ b. (if b then 1 else 0) ≤ 2)
+    [ true ↦ omega arith | false ↦ omega arith ]
 
 entries_bounded : (asked : Excerpts) (is_found : Bool) → entries_status asked is_found ≤ 2
 entries_bounded asked is_found =
@@ -140,9 +143,9 @@ call_bounded : {F : Type 0} {reads : F → List ℕ → Option (List ℕ) → F 
     {asked : Request} {text : List ℕ} {status : Option ℕ} → IsCallAnswer reads files names asked text status
     → IfSome status (λ s. s ≤ 2)
 call_bounded (IsCallAnswer.findings task none begins printed) =
-    task_bounded (λ t last s e. subst (λ n. n ≤ 2) (sym e.1) (lint_bounded t.tally)) printed
+    task_bounded (λ t last s e. subst (λ n. n ≤ 2) (sym e.1) (lint_bounded t.lint.now.fail_on t.tally)) printed
 call_bounded (IsCallAnswer.compared cited found document files' some read printed) =
-    task_bounded (λ t last s e. subst (λ n. n ≤ 2) (sym e.status_is) (lint_bounded e.after)) printed
+    task_bounded (λ t last s e. subst (λ n. n ≤ 2) (sym e.status_is) (lint_bounded _ e.after)) printed
 call_bounded (IsCallAnswer.meaning text) = omega arith
 call_bounded IsCallAnswer.no_meaning = tt
 call_bounded (IsCallAnswer.entries task begins printed) =

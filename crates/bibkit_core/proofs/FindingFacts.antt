@@ -4,13 +4,12 @@ use Rattle.std.proofs.lemmas.Bool.Decides.{nat_tests}
 use Rattle.std.specs.Prelude.{string_bytes}
 use Rattle.std.proofs.lemmas.List.Elements.{filter-append}
 use Rattle.std.proofs.lemmas.List.Sums.{fold-append}
-use Rattle.bib_source.specs.Positions.{position_at}
-use Rattle.bib_source.specs.declared.positions.Position.{Position}
 use Rattle.bib_findings.specs.Codes.{severity_of}
 use Rattle.bib_findings.specs.declared.codes.Severity.{Severity}
 use Rattle.bib_findings.specs.declared.codes.Severity.TheVariants.{Error, Warning, Info}
 use Rattle.bib_findings.specs.declared.finding.Finding.{Finding}
 use Rattle.bibkit_core.specs.declared.lint.Printed.{Printed}
+use Rattle.bibkit_core.specs.declared.regions.Region.{Region}
 use Rattle.bibkit_core.specs.declared.request.Style.{Style}
 use Rattle.bibkit_core.specs.declared.selection.Selection.{Selection}
 use Rattle.bibkit_core.specs.declared.tally.Tally.{Tally}
@@ -22,6 +21,7 @@ use Rattle.bib_findings.specs.Findings.{AreFindings}
 use Rattle.bibkit_core.specs.declared.request.Lint.{Lint}
 use Rattle.bibkit_core.specs.Linted.{AreShown, ArePrinted, IsPrintedFile, tally_after, unread_findings}
 use Rattle.bibkit_core.specs.Linted.AreShown.{none, next}
+use Rattle.bibkit_core.specs.Regions.{region_at}
 use Rattle.bibkit_core.specs.Printed.{IsShown, is_none, one_more}
 use Rattle.std.proofs.Math.Bool.{and-false}
 
@@ -64,27 +64,27 @@ none_counted t (f ∷ rest) =
 -- the text of findings, followed by the text of one more finding, is the text of all of them
 shown_more : {style : Style} {name bytes : List ℕ} {is_first : Bool} {xs : List Finding} {t : List ℕ} (f : Finding)
     (u : List ℕ) → AreShown style name bytes is_first xs t
-    → IsShown style (is_first_after is_first xs) name (position_at bytes f.span.start) f u
+    → IsShown style (is_first_after is_first xs) name (region_at bytes f.span) f u
     → AreShown style name bytes is_first (xs ++ f ∷ []) (t ++ u)
 unfolding is_first_after
 shown_more {style} {name} {bytes} {is_first} f u none shown =
     subst (λ t. AreShown style name bytes is_first (f ∷ []) t) (append-nil u) (next u shown none)
 shown_more {style} {name} {bytes} {is_first} f u (next {f = g} {rest = rest} text {texts} s more) shown =
-    let later : IsShown style (is_first_after false rest) name (position_at bytes f.span.start) f u
-    = subst (λ b. IsShown style b name (position_at bytes f.span.start) f u) (sym (never_first rest)) shown in
+    let later : IsShown style (is_first_after false rest) name (region_at bytes f.span) f u
+    = subst (λ b. IsShown style b name (region_at bytes f.span) f u) (sym (never_first rest)) shown in
     subst (λ t. AreShown style name bytes is_first (g ∷ (rest ++ f ∷ [])) t) (sym (append_assoc text texts u))
     (next text s (shown_more f u more later))
 
 -- the output for findings, followed by the output for one more finding, is the output for all of them
 pub one_added : {style : Style} {name bytes : List ℕ} {xs : List Finding} {a b c : Printed} (f : Finding)
     → IsAdded (ArePrinted style name bytes xs) a b
-    → IsAdded (IsPrintedOne style name (position_at bytes f.span.start) f) b c → IsAdded (ArePrinted style name bytes (xs ++ f ∷ [])) a c
+    → IsAdded (IsPrintedOne style name (region_at bytes f.span) f) b c → IsAdded (ArePrinted style name bytes (xs ++ f ∷ [])) a c
 one_added {style} {name} {bytes} {xs} {a} {b} {c} f before one = record {
   text = before.text ++ one.text;
   are = record {
     shown =
         shown_more f one.text before.are.shown
-        (subst (λ d. IsShown style d name (position_at bytes f.span.start) f one.text)
+        (subst (λ d. IsShown style d name (region_at bytes f.span) f one.text)
         (ap is_none before.are.tally ∙ none_counted a.tally xs) one.are.shown);
     tally =
         one.are.tally ∙ ap (λ t. one_more t (severity_of f.code)) before.are.tally
@@ -111,10 +111,10 @@ asked_same s xs f isnt =
 
 -- after a turn of the loop with a selected code, the output is that for the selected findings including this one
 pub step_printed : {style : Style} {name bytes : List ℕ} (s : Selection) (xs more : List Finding) (f : Finding)
-    (place : Position) {a b c d : Printed} → more ≡ xs ++ f ∷ [] → is_asked s f.code ≡ true
-    → place ≡ position_at bytes f.span.start → IsAdded (ArePrinted style name bytes (selected_findings s xs)) a b
-    → IsAdded (IsPrintedOne style name place f) b c → d ≡ c → IsAdded (ArePrinted style name bytes (selected_findings s more)) a d
-step_printed {style} {name} {bytes} s xs more f place {a} {b} {c} {d} grows is at before one same =
+    (region : Region) {a b c d : Printed} → more ≡ xs ++ f ∷ [] → is_asked s f.code ≡ true
+    → region ≡ region_at bytes f.span → IsAdded (ArePrinted style name bytes (selected_findings s xs)) a b
+    → IsAdded (IsPrintedOne style name region f) b c → d ≡ c → IsAdded (ArePrinted style name bytes (selected_findings s more)) a d
+step_printed {style} {name} {bytes} s xs more f region {a} {b} {c} {d} grows is at before one same =
     subst (λ p. IsAdded (ArePrinted style name bytes (selected_findings s more)) a p) (sym same)
     (subst (λ ys. IsAdded (ArePrinted style name bytes ys) a c) (sym (ap (selected_findings s) grows ∙ asked_more s xs f is))
     (one_added f before (subst (λ p. IsAdded (IsPrintedOne style name p f) b c) at one)))

@@ -8,5 +8,8 @@ pub mod TableFacts
 mod TallyFacts
 mod Beside
 mod Outcomes
+mod RegionFacts
 mod Results
+mod SarifFacts
 mod Touching
+mod UriFacts

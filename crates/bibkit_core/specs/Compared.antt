@@ -16,7 +16,7 @@ use Rattle.bib_syntax.specs.declared.raw.recovery.SkippedBlock.{SkippedBlock}
 use Rattle.bibkit_core.specs.Asked.{selected_findings}
 use Rattle.bibkit_core.specs.Conditions.{AreReportedFindings, findings_of_no_entry}
 use Rattle.bibkit_core.specs.Linted.{ArePrinted}
-use Rattle.bibkit_core.specs.Tasks.{AreDecoded, PrintsFindings, closing, lint_status, opening}
+use Rattle.bibkit_core.specs.Tasks.{AreDecoded, PrintsFindings, closing, in_file, lint_status, opening}
 use Rattle.bibkit_core.specs.declared.request.Lint.{Lint}
 use Rattle.bibkit_core.specs.declared.tally.Tally.{Tally}
 
@@ -100,7 +100,7 @@ pub record PrintsCompared (lint : Lint) (has_unused : Bool) (found : Citations) 
   pub kept : List Finding
   pub reported : AreReportedFindings lint.conditions.items (string_bytes decoded.text) (unused_findings has_unused found says.entries) kept
   pub unused : ArePrinted lint.style name (string_bytes decoded.text) (selected_findings lint.selection kept) between second after.tally
-  pub is : text ≡ first ++ second
+  pub is : text ≡ in_file lint.style name (first ++ second)
   pub readings : after.readings ≡ before.readings ++ says ∷ []
 
 -- the output after all files, and the status: without conditions the findings of the citations for which no file has an entry, at
@@ -112,5 +112,5 @@ pub record EndsCompared (lint : Lint) (name document : List ℕ) (found : Citati
   pub missing : ArePrinted lint.style name document
       (selected_findings lint.selection (findings_of_no_entry lint.conditions.items (missing_findings before.readings found.keys.items)))
       before.tally first after
-  pub is : text ≡ first ++ closing lint.style after
-  pub status_is : status ≡ lint_status after
+  pub is : text ≡ in_file lint.style name first ++ closing lint.style after
+  pub status_is : status ≡ lint_status lint.fail_on after

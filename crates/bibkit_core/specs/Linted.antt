@@ -1,25 +1,25 @@
 -- Meaning: words of public contracts.
 -- The output for the findings of a file.
 use Rattle.std.specs.Prelude.{◌≡◌, ℕ, Bool, false, List, [], ◌∷◌, ◌++◌, Option, Some, None, codes, fold, string_bytes}
-use Rattle.bib_source.specs.Positions.{position_at}
 use Rattle.bib_findings.specs.Codes.{severity_of}
 use Rattle.bib_source.specs.declared.decoding.Decoded.{Decoded}
 use Rattle.bib_findings.specs.Findings.{AreFindings}
 use Rattle.bib_findings.specs.declared.codes.Code.TheVariants.{UnreadBytes}
 use Rattle.bib_findings.specs.declared.finding.Finding.{Finding}
 use Rattle.bibkit_core.specs.Asked.{selected_findings}
+use Rattle.bibkit_core.specs.Regions.{region_at}
 use Rattle.bibkit_core.specs.Conditions.{AreReportedFindings, findings_of_no_entry}
 use Rattle.bibkit_core.specs.declared.request.Lint.{Lint}
 use Rattle.bibkit_core.specs.declared.request.Style.{Style}
 use Rattle.bibkit_core.specs.declared.tally.Tally.{Tally}
 use Rattle.bibkit_core.specs.Printed.{IsShown, is_none, one_more}
 
--- the text of findings in the file with this name and these bytes, in turn, each at the position of its start; the Boolean says
+-- the text of findings in the file with this name and these bytes, in turn, each in the region of its span; the Boolean says
 -- whether the first of them is the first of all findings
 pub data AreShown (style : Style) (name bytes : List ℕ) : Bool → List Finding → List ℕ → Type 0 where
   none : {is_first : Bool} → AreShown style name bytes is_first [] []
   next : {is_first : Bool} {f : Finding} {rest : List Finding} (text : List ℕ) {texts : List ℕ}
-      → IsShown style is_first name (position_at bytes f.span.start) f text
+      → IsShown style is_first name (region_at bytes f.span) f text
       → AreShown style name bytes false rest texts → AreShown style name bytes is_first (f ∷ rest) (text ++ texts)
 
 -- the counts after these findings

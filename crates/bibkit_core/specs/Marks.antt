@@ -12,7 +12,7 @@ use Rattle.bibkit_core.specs.Asked.{selected_findings}
 use Rattle.bibkit_core.specs.Conditions.{AreReportedFindings, findings_of_no_entry}
 use Rattle.bibkit_core.specs.Compared.{AreCitedBy, cited_keys, missing_finding, unused_finding, unused_findings}
 use Rattle.bibkit_core.specs.Linted.{ArePrinted}
-use Rattle.bibkit_core.specs.Tasks.{AreDecoded, PrintsFindings, closing, lint_status, opening}
+use Rattle.bibkit_core.specs.Tasks.{AreDecoded, PrintsFindings, closing, in_file, lint_status, opening}
 use Rattle.bibkit_core.specs.declared.cited.Document.{Document}
 use Rattle.bibkit_core.specs.declared.comparing.Comparing.{Comparing}
 use Rattle.bibkit_core.specs.declared.tally.Tally.{Tally}
@@ -84,7 +84,7 @@ pub record PrintsComparing (old : Comparing) (name bytes text : List ℕ) (new :
   pub reported : AreReportedFindings old.linting.lint.now.conditions.items (string_bytes decoded.text) unused kept
   pub more : ArePrinted old.linting.lint.now.style name (string_bytes decoded.text)
       (selected_findings old.linting.lint.now.selection kept) between second new.linting.tally
-  pub is : text ≡ first ++ second
+  pub is : text ≡ in_file old.linting.lint.now.style name (first ++ second)
 
 -- the text of the comparing task after the files, and its status
 pub record EndsComparing (task : Comparing) (text : List ℕ) (status : ℕ) : Type 0 where
@@ -95,5 +95,5 @@ pub record EndsComparing (task : Comparing) (text : List ℕ) (status : ℕ) : T
       (findings_of_no_entry task.linting.lint.now.conditions.items
       (unmarked_findings task.document.citations.keys.items task.document.known.items))) task.linting.tally first
       after
-  pub is : text ≡ first ++ closing task.linting.lint.now.style after
-  pub status_is : status ≡ lint_status after
+  pub is : text ≡ in_file task.linting.lint.now.style task.document.name.now first ++ closing task.linting.lint.now.style after
+  pub status_is : status ≡ lint_status task.linting.lint.now.fail_on after

@@ -1,17 +1,22 @@
 -- Meaning: words of public contracts.
 -- The texts that are printed for findings.
-use Rattle.std.specs.Prelude.{◌≡◌, ℕ, ◌+◌, ◌-◌, ◌^◌, min, Bool, ◌&&◌, ◌==◌, if◌then◌else◌, List, [], ◌∷◌, ◌++◌, codes}
+use Rattle.std.specs.Prelude.{◌≡◌, ℕ, ◌+◌, ◌-◌, ◌^◌, min, Bool, false, not, ◌&&◌, ◌==◌, if◌then◌else◌, List, [], ◌∷◌, ◌++◌, codes}
 use Rattle.std.specs.Fmt.{decimal}
-use Rattle.serde_json.specs.Data.{Data}
-use Rattle.serde_json.specs.Written.{compact_text}
 use Rattle.bib_source.specs.declared.positions.Position.{Position}
 use Rattle.bib_text.specs.Characters as char
 use Rattle.bib_findings.specs.Codes.{code_name, severity_name, severity_of}
 use Rattle.bib_findings.specs.declared.codes.Severity.{Severity}
 use Rattle.bib_findings.specs.declared.codes.Severity.TheVariants.{Error, Warning, Info}
 use Rattle.bib_findings.specs.declared.finding.Finding.{Finding}
+use Rattle.bibkit_core.specs.Checkstyle.{error_element}
+use Rattle.bibkit_core.specs.Commands.{finding_command}
+use Rattle.bibkit_core.specs.Objects.{element, finding_object, object_line}
+use Rattle.bibkit_core.specs.Sarif.{result_object}
+use Rattle.bibkit_core.specs.declared.regions.Region.{Region}
+use Rattle.bibkit_core.specs.declared.request.FailOn.{FailOn}
+use Rattle.bibkit_core.specs.declared.request.FailOn.TheVariants as fail_on
 use Rattle.bibkit_core.specs.declared.request.Style.{Style}
-use Rattle.bibkit_core.specs.declared.request.Style.TheVariants.{Plain, Colored, Json}
+use Rattle.bibkit_core.specs.declared.request.Style.TheVariants.{Plain, Colored, Json, JsonLines, Github, Checkstyle, Sarif}
 use Rattle.bibkit_core.specs.declared.tally.Tally.{Tally}
 
 -- the line of a finding at this position of the file with this name: FILE:LINE:COLUMN: error|warning|info: TEXT [CODE]
@@ -19,34 +24,6 @@ abbrev pub finding_line : List ℕ → Position → Finding → List ℕ
 finding_line name place f =
     name ++ (codes ":" ++ (decimal place.line ++ (codes ":" ++ (decimal place.column ++ (codes ": " ++ (severity_name (severity_of f.code)
     ++ (codes ": " ++ (f.message ++ (codes " [" ++ (code_name f.code ++ codes "]\n"))))))))))
-
--- a text as a JSON string with its quotes
-abbrev pub json_text : List ℕ → List ℕ
-json_text text = compact_text (Data.string text)
-
--- the text before an object: a line feed, after a comma unless the object is the first
-abbrev pub separator : Bool → List ℕ
-separator is_first = if is_first then codes "\n" else codes ",\n"
-
--- the members for the line, the column, the severity and the code of a finding
-abbrev pub place_members : Position → Finding → List ℕ
-place_members place f =
-    codes "\"line\":" ++ (decimal place.line ++ (codes ",\"column\":" ++ (decimal place.column
-    ++ (codes ",\"severity\":\"" ++ (severity_name (severity_of f.code) ++ (codes "\",\"code\":\"" ++ (code_name f.code ++ codes "\"")))))))
-
--- the JSON object of a finding, on a new line, after a comma unless it is the first
-abbrev pub finding_object : Bool → List ℕ → Position → Finding → List ℕ
-finding_object is_first name place f =
-    separator is_first
-    ++
-    (codes "{\"file\":"
-    ++
-    (json_text name
-    ++
-    (codes ","
-    ++
-    (place_members place f
-    ++ (codes ",\"message\":" ++ (json_text f.message ++ codes "}"))))))
 
 -- the counts with one more finding of this severity; a count stays at its maximum
 abbrev pub one_more : Tally → Severity → Tally
@@ -61,6 +38,13 @@ is_clean tally = (tally.errors == 0) && (tally.warnings == 0)
 -- whether all counts are zero
 abbrev pub is_none : Tally → Bool
 is_none tally = is_clean tally && (tally.infos == 0)
+
+-- whether there are findings for which `lint` has the status 1: findings of at least this severity, or never
+abbrev pub has_failing : FailOn → Tally → Bool
+has_failing fail_on.Error tally = not (tally.errors == 0)
+has_failing fail_on.Warning tally = not (is_clean tally)
+has_failing fail_on.Info tally = not (is_none tally)
+has_failing fail_on.Never tally = false
 
 -- the count of findings that are information; empty if there is none
 abbrev pub infos_text : ℕ → List ℕ
@@ -118,9 +102,13 @@ colored_line name place f = colored_place name place ++ colored_text f
 abbrev pub IsFramed : List ℕ → Position → Finding → List ℕ → Type 0
 IsFramed name place f text = (frame : List ℕ) × (text ≡ colored_line name place f ++ frame)
 
--- the text of a finding: its line, or the line in colours and any text below it, or its JSON object; the object of the first
--- finding has no comma before it
-abbrev pub IsShown : Style → Bool → List ℕ → Position → Finding → List ℕ → Type 0
-IsShown Plain is_first name place f text = text ≡ finding_line name place f
-IsShown Colored is_first name place f text = IsFramed name place f text
-IsShown Json is_first name place f text = text ≡ finding_object is_first name place f
+-- the text of a finding: its line, the line in colours and any text below it, its JSON object in an array or on a line, its workflow
+-- command, its element for Checkstyle, or its result of SARIF; the first finding has no comma before it
+abbrev pub IsShown : Style → Bool → List ℕ → Region → Finding → List ℕ → Type 0
+IsShown Plain is_first name region f text = text ≡ finding_line name region.start f
+IsShown Colored is_first name region f text = IsFramed name region.start f text
+IsShown Json is_first name region f text = text ≡ element is_first (finding_object name region f)
+IsShown JsonLines is_first name region f text = text ≡ object_line name region f
+IsShown Github is_first name region f text = text ≡ finding_command name region f
+IsShown Checkstyle is_first name region f text = text ≡ error_element region.start f
+IsShown Sarif is_first name region f text = text ≡ element is_first (result_object name region f)

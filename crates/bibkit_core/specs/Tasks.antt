@@ -8,12 +8,15 @@ use Rattle.bib_queries.specs.Answers.{IsTextAnswer}
 use Rattle.bib_queries.specs.declared.request.Request.{Request}
 use Rattle.bib_queries.specs.declared.request.Request.TheVariants.{Keys}
 use Rattle.bibkit_core.specs.Linted.{IsPrintedFile}
-use Rattle.bibkit_core.specs.Printed.{counts_line, is_clean}
+use Rattle.bibkit_core.specs.Checkstyle.{checkstyle_head, checkstyle_tail, file_element}
+use Rattle.bibkit_core.specs.Printed.{counts_line, has_failing}
+use Rattle.bibkit_core.specs.Sarif.{sarif_head, sarif_tail}
 use Rattle.bibkit_core.specs.declared.entries.Entries.{Entries}
 use Rattle.bibkit_core.specs.declared.linting.Linting.{Linting}
+use Rattle.bibkit_core.specs.declared.request.FailOn.{FailOn}
 use Rattle.bibkit_core.specs.declared.request.Lint.{Lint}
 use Rattle.bibkit_core.specs.declared.request.Style.{Style}
-use Rattle.bibkit_core.specs.declared.request.Style.TheVariants.{Plain, Colored, Json}
+use Rattle.bibkit_core.specs.declared.request.Style.TheVariants.{Plain, Colored, Json, JsonLines, Github, Checkstyle, Sarif}
 use Rattle.bibkit_core.specs.declared.tally.Tally.{Tally}
 
 -- `decoded` is the text of the bytes: without a byte order mark if they are UTF-8, otherwise decoded as Windows-1252. `invalid` is the
@@ -23,23 +26,35 @@ pub record AreDecoded (bytes : List ℕ) (decoded : Decoded) : Type 0 where
   pub windows : ¬ (IsUtf8 (without_byte_order_mark bytes)) → string_bytes decoded.text ≡ windows_1252_text bytes
   pub invalid : MatchOption decoded.invalid (IsUtf8 (without_byte_order_mark bytes)) (IsFirstInvalid bytes)
 
--- the text before findings: the opening bracket of the array in JSON, otherwise none
+-- the text before findings: the start of the array in JSON, or of the document for Checkstyle and SARIF, otherwise none
 abbrev pub opening : Style → List ℕ
-opening Plain = []
-opening Colored = []
 opening Json = codes "["
+opening Checkstyle = checkstyle_head
+opening Sarif = sarif_head
+opening _ = []
 
--- the text after findings: the closing bracket of the array in JSON, otherwise the line with the counts
+-- the text after findings: the line with the counts after lines, the end of the array in JSON, or of the document for Checkstyle and
+-- SARIF; otherwise none
 abbrev pub closing : Style → Tally → List ℕ
 closing Plain tally = counts_line tally
 closing Colored tally = counts_line tally
 closing Json tally = codes "\n]\n"
+closing JsonLines tally = []
+closing Github tally = []
+closing Checkstyle tally = checkstyle_tail
+closing Sarif tally = sarif_tail
 
--- the status of `lint`: 1 if there are errors or warnings, otherwise 0
-abbrev pub lint_status : Tally → ℕ
-lint_status tally = if is_clean tally then 0 else 1
+-- the output for the file with this name, from the text of its findings: for Checkstyle the element of the file, otherwise
+-- the text itself
+abbrev pub in_file : Style → List ℕ → List ℕ → List ℕ
+in_file Checkstyle name text = file_element name text
+in_file _ name text = text
 
--- `text` is the output for the selected findings of a file with these bytes, with the counts before and after them
+-- the status of `lint`: 1 if there are findings of the severities that the setting names, otherwise 0
+abbrev pub lint_status : FailOn → Tally → ℕ
+lint_status fail_on tally = if has_failing fail_on tally then 1 else 0
+
+-- `text` is the text of the selected findings of a file with these bytes, with the counts before and after them
 pub record PrintsFindings (lint : Lint) (name bytes : List ℕ) (before : Tally) (text : List ℕ) (after : Tally) : Type 0 where
   pub decoded : Decoded
   pub of_bytes : AreDecoded bytes decoded
@@ -73,11 +88,13 @@ linting_begins task = opening task.lint.now.style
 
 -- the output of the lint task for a file, and the task afterwards
 abbrev pub linting_prints : Linting → List ℕ → List ℕ → List ℕ → Linting → Type 0
-linting_prints old name bytes text new = (new.lint.now ≡ old.lint.now) × PrintsFindings old.lint.now name bytes old.tally text new.tally
+linting_prints old name bytes text new =
+    (new.lint.now ≡ old.lint.now)
+    × ((found : List ℕ) × PrintsFindings old.lint.now name bytes old.tally found new.tally × (text ≡ in_file old.lint.now.style name found))
 
 -- the text of the lint task after the files, and its status
 abbrev pub linting_ends : Linting → List ℕ → ℕ → Type 0
-linting_ends task text status = (text ≡ closing task.lint.now.style task.tally) × (status ≡ lint_status task.tally)
+linting_ends task text status = (text ≡ closing task.lint.now.style task.tally) × (status ≡ lint_status task.lint.now.fail_on task.tally)
 
 -- the entries task before the first file
 pub record BeginsEntries (request : Request) (task : Entries) : Type 0 where

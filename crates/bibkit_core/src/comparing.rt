@@ -8,7 +8,7 @@ use crate::cited::Document;
 use crate::conditions::{findings_of_no_entry, reported_findings};
 use crate::decoding::decode_bytes;
 use crate::lint::Origin;
-use crate::linting::Linting;
+use crate::linting::{Linting, in_file};
 use crate::request::Lint;
 use crate::task::{End, Task};
 use std::alloc::{AllocError, Global};
@@ -46,7 +46,7 @@ impl<'r, 'a> Task for Comparing<'r, 'a> {
 
     fn file(&mut self, alloc: Global, name: &str, bytes: &[u8]) -> Result<String, AllocError> {
         let lint = self.linting.lint();
-        let mut text = self.linting.file(alloc, name, bytes)?;
+        let mut text = self.linting.print_file(alloc, name, bytes)?;
         let decoded = decode_bytes(alloc, bytes)?;
         let unused = self.document.compare(alloc, decoded.text.as_str())?;
         let kept = reported_findings(alloc, &lint.conditions, decoded.text.as_str(), unused)?;
@@ -56,13 +56,16 @@ impl<'r, 'a> Task for Comparing<'r, 'a> {
         };
         let more = self.linting.print(alloc, &origin, &kept)?;
         text.push_str(&more)?;
-        Ok(text)
+        let output = in_file(alloc, lint.style, name, text)?;
+        Ok(output)
     }
 
     fn end(&mut self, alloc: Global) -> Result<End, AllocError> {
         let missing = self.document.missing_findings(alloc)?;
         let kept = findings_of_no_entry(alloc, &self.linting.lint().conditions, missing);
-        let mut text = self.linting.print(alloc, &self.document.origin(), &kept)?;
+        let origin = self.document.origin();
+        let found = self.linting.print(alloc, &origin, &kept)?;
+        let mut text = in_file(alloc, self.linting.lint().style, origin.name, found)?;
         let end = self.linting.end(alloc)?;
         text.push_str(&end.text)?;
         Ok(End {

@@ -6,20 +6,25 @@
 //! files in turn and prints those texts.
 //!
 //! `selection` selects findings by their codes, and `conditions` by the conditions that entries meet. `decoding` decodes a file. `lint`
-//! prints the selected findings, each as a line (`lines`), as a line in colours (`frames`) or as a JSON object (`objects`), and counts
-//! them (`tally`). `tables` prints counts. `messages` prints messages and progress.
+//! prints the selected findings, and counts them (`tally`). It prints each as a line (`lines`), as a line in colours (`frames`), as a
+//! JSON object (`objects`), as a workflow command of GitHub Actions (`commands`), as an element for Checkstyle (`checkstyle`) or as a
+//! result of SARIF (`sarif`). `regions` finds the lines and columns of findings, and `escapes` and `uris` escape texts. `tables` prints
+//! counts. `messages` prints messages and progress.
 //!
 //! `folder` specifies each call on the files of a folder, and the contents that a crash may leave. `replacing` replaces the text
 //! of a file as a whole: it writes a new file beside the old one, and renames it. `laws` proves that the contracts of `folder`,
 //! except that of `remove`, can be met: it has disks on which each of these calls succeeds.
 #![tactic(auto)]
 
+mod checkstyle;
 mod cited;
+mod commands;
 mod comparing;
 pub mod conditions;
 mod counting;
 mod decoding;
 mod entries;
+mod escapes;
 pub mod files;
 pub mod folder;
 mod frames;
@@ -29,11 +34,15 @@ mod lint;
 pub mod linting;
 mod messages;
 mod objects;
+mod regions;
 pub mod replacing;
 pub mod request;
 pub mod run;
+mod sarif;
 mod selecting;
 pub mod selection;
 mod tables;
 mod tally;
 pub mod task;
+mod uris;
+pub mod version;

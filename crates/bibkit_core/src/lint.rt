@@ -9,16 +9,20 @@ ghost use Rattle.bibkit_core.specs.Conditions.{findings_of_no_entry};
 ghost use Rattle.bibkit_core.specs.Linted.{ArePrinted, IsPrintedFile, unread_finding, unread_findings};
 ghost use Rattle.bibkit_core.specs.Printed as spec;
 
+use crate::checkstyle::error_element;
+use crate::commands::finding_command;
 use crate::conditions::{findings_of_no_entry, reported_findings};
 use crate::frames::framed_finding;
 use crate::lines::finding_line;
-use crate::objects::finding_object;
+use crate::objects::{object_element, object_line};
+use crate::regions::{Region, region_at};
 use crate::request::{Lint, Style};
+use crate::sarif::result_element;
 use crate::tally::Tally;
 use bib_findings::codes::Code;
 use bib_findings::finding::Finding;
 use bib_findings::findings::findings;
-use bib_source::positions::{Position, Positions};
+use bib_source::positions::Positions;
 use bib_text::text::Text;
 use biblatex::Decoded;
 use std::alloc::{AllocError, Global};
@@ -47,16 +51,20 @@ fn finding_text(
     style: Style,
     tally: Tally,
     origin: &Origin<'_>,
-    place: Position,
+    region: Region,
     finding: &Finding,
 ) -> Result<String, AllocError>
-    ensures { IfOk result (λ text. IsShown style (spec.is_none tally) origin.now.name.now place finding.now
+    ensures { IfOk result (λ text. IsShown style (spec.is_none tally) origin.now.name.now region finding.now
         (string_bytes text)) }
 {
     match style {
-        Style::Plain => finding_line(alloc, origin.name, place, finding),
-        Style::Colored => framed_finding(alloc, origin.name, origin.bytes, place, finding),
-        Style::Json => finding_object(alloc, tally.is_none(), origin.name, place, finding),
+        Style::Plain => finding_line(alloc, origin.name, region.start, finding),
+        Style::Colored => framed_finding(alloc, origin.name, origin.bytes, region.start, finding),
+        Style::Json => object_element(alloc, tally.is_none(), origin.name, region, finding),
+        Style::JsonLines => object_line(alloc, origin.name, region, finding),
+        Style::Github => finding_command(alloc, origin.name, region, finding),
+        Style::Checkstyle => error_element(alloc, region.start, finding),
+        Style::Sarif => result_element(alloc, tally.is_none(), origin.name, region, finding),
     }
 }
 
@@ -66,12 +74,12 @@ fn print_finding(
     printed: &mut Printed,
     style: Style,
     origin: &Origin<'_>,
-    place: Position,
+    region: Region,
     finding: &Finding,
 ) -> Result<(), AllocError>
-    ensures { OnOk result (IsAdded (IsPrintedOne style origin.now.name.now place finding.now) printed.old printed.new) }
+    ensures { OnOk result (IsAdded (IsPrintedOne style origin.now.name.now region finding.now) printed.old printed.new) }
 {
-    let text = finding_text(alloc, style, printed.tally, origin, place, finding)?;
+    let text = finding_text(alloc, style, printed.tally, origin, region, finding)?;
     printed.text.push_str(&text)?;
     printed.tally = printed.tally.with(finding.code.severity());
     Ok(())
@@ -90,9 +98,10 @@ pub fn print_findings(
 {
     let mut positions = Positions::of_bytes(origin.bytes);
     'findings: for finding in found {
-        let place = positions.position(finding.span.start);
+        let start = positions.position(finding.span.start);
         if lint.selection.asks_for(finding.code) {
-            print_finding(alloc, printed, lint.style, origin, place, finding)?;
+            let region = region_at(origin.bytes, start, &finding.span);
+            print_finding(alloc, printed, lint.style, origin, region, finding)?;
         }
     }
     Ok(())

@@ -4,14 +4,15 @@ ghost use Rattle.std.specs.Prelude.{◌≡◌, [], IfOk};
 ghost use Rattle.std.specs.String.{string_bytes};
 ghost use Rattle.bibkit_core.specs.Asked.{selected_findings};
 ghost use Rattle.bibkit_core.specs.Linted.{ArePrinted};
-ghost use Rattle.bibkit_core.specs.Tasks.{BeginsLinting, linting_begins, linting_ends, linting_prints};
+ghost use Rattle.bibkit_core.specs.Tasks.{BeginsLinting, PrintsFindings, linting_begins, linting_ends, linting_prints};
 ghost use Rattle.bibkit_core.specs.Tasks as spec;
 
 use crate::decoding::decode_bytes;
 use crate::lint::{Origin, Printed, print_file, print_findings};
-use crate::request::{Lint, Style};
+use crate::request::{FailOn, Lint, Style};
 use crate::tally::Tally;
 use crate::task::{End, Task};
+use crate::{checkstyle, sarif};
 use bib_findings::finding::Finding;
 use std::alloc::{AllocError, Global};
 
@@ -62,6 +63,29 @@ impl<'r, 'a> Linting<'r, 'a> {
         text
     }
 
+    /// Returns the text of the selected findings of the file `name` with these bytes, and counts them.
+    pub fn print_file(
+        &mut self,
+        alloc: Global,
+        name: &str,
+        bytes: &[u8],
+    ) -> Result<String, AllocError>
+        ensures printed { IfOk result (λ text. PrintsFindings self.old.lint.now name.now bytes.now self.old.tally
+            (string_bytes text) self.new.tally) }
+        ensures lint { self.new.lint.now ≡ self.old.lint.now }
+    {
+        let decoded = decode_bytes(alloc, bytes)?;
+        let mut printed = self.nothing(alloc);
+        print_file(
+            alloc,
+            &mut printed,
+            self.lint,
+            &Origin { name, bytes },
+            &decoded,
+        )?;
+        Ok(self.take_text(printed))
+    }
+
     /// Returns the text of the selected findings among `found`, and counts them.
     pub fn print(
         &mut self,
@@ -79,31 +103,49 @@ impl<'r, 'a> Linting<'r, 'a> {
     }
 }
 
-// Returns the text before all findings: the start of the JSON array, or an empty text in the other styles.
+// Returns the text before all findings: the start of the array in JSON, or of the document for Checkstyle and SARIF. It is empty in the
+// other styles.
 fn opening(style: Style) -> &'static str
     ensures { result.now ≡ spec.opening style }
 {
     match style {
         Style::Json => "[",
-        Style::Plain | Style::Colored => "",
+        Style::Checkstyle => checkstyle::HEAD,
+        Style::Sarif => sarif::HEAD,
+        Style::Plain | Style::Colored | Style::JsonLines | Style::Github => "",
     }
 }
 
-// Returns the text after all findings: the end of the JSON array, or the line with the counts in the other styles.
+// Returns the text after all findings: the line with the counts after lines, the end of the array in JSON, or of the document for
+// Checkstyle and SARIF. It is empty in the other styles.
 fn closing(alloc: Global, style: Style, tally: Tally) -> Result<String, AllocError>
     ensures { IfOk result (λ text. string_bytes text ≡ spec.closing style tally) }
 {
     match style {
-        Style::Json => String::from_str(alloc, "\n]\n"),
         Style::Plain | Style::Colored => tally.line(alloc),
+        Style::Json => String::from_str(alloc, "\n]\n"),
+        Style::JsonLines | Style::Github => Ok(String::new(alloc)),
+        Style::Checkstyle => String::from_str(alloc, checkstyle::TAIL),
+        Style::Sarif => sarif::tail(alloc),
     }
 }
 
-// Returns the status: 1 if errors or warnings were printed, otherwise 0.
-fn lint_status(tally: Tally) -> u8
-    ensures { result ≡ spec.lint_status tally }
+/// Returns the output for the file `name`, from the text of its findings: for Checkstyle the element of the file, otherwise the
+/// text itself.
+pub fn in_file(alloc: Global, style: Style, name: &str, text: String) -> Result<String, AllocError>
+    ensures { IfOk result (λ output. string_bytes output ≡ spec.in_file style name.now (string_bytes text)) }
 {
-    if tally.is_clean() { 0 } else { 1 }
+    match style {
+        Style::Checkstyle => checkstyle::file_element(alloc, name, text),
+        _ => Ok(text),
+    }
+}
+
+// Returns the status: 1 if findings were printed for which `fail_on` wants it, otherwise 0.
+fn lint_status(fail_on: FailOn, tally: Tally) -> u8
+    ensures { result ≡ spec.lint_status fail_on tally }
+{
+    if tally.has_failing(fail_on) { 1 } else { 0 }
 }
 
 impl<'r, 'a> Task for Linting<'r, 'a> {
@@ -118,22 +160,15 @@ impl<'r, 'a> Task for Linting<'r, 'a> {
     }
 
     fn file(&mut self, alloc: Global, name: &str, bytes: &[u8]) -> Result<String, AllocError> {
-        let decoded = decode_bytes(alloc, bytes)?;
-        let mut printed = self.nothing(alloc);
-        print_file(
-            alloc,
-            &mut printed,
-            self.lint,
-            &Origin { name, bytes },
-            &decoded,
-        )?;
-        Ok(self.take_text(printed))
+        let text = self.print_file(alloc, name, bytes)?;
+        let output = in_file(alloc, self.lint.style, name, text)?;
+        Ok(output)
     }
 
     fn end(&mut self, alloc: Global) -> Result<End, AllocError> {
         Ok(End {
             text: closing(alloc, self.lint.style, self.tally)?,
-            status: lint_status(self.tally),
+            status: lint_status(self.lint.fail_on, self.tally),
         })
     }
 }

@@ -14,6 +14,27 @@ pub enum Style {
     Colored,
     /// A JSON array with an object for each finding.
     Json,
+    /// A JSON object for each finding, on a line of its own.
+    JsonLines,
+    /// A workflow command of GitHub Actions for each finding.
+    Github,
+    /// A document in the XML format of Checkstyle, with an element for each finding.
+    Checkstyle,
+    /// A log in SARIF 2.1.0, with a result for each finding.
+    Sarif,
+}
+
+/// The findings for which `lint` has the status 1.
+#[derive(Debug, Clone, Copy, PartialEq, Eq)]
+pub enum FailOn {
+    /// Errors.
+    Error,
+    /// Errors and warnings.
+    Warning,
+    /// All findings.
+    Info,
+    /// None.
+    Never,
 }
 
 /// The document whose citations `lint` compares with the entries of the files.
@@ -32,6 +53,8 @@ pub struct Lint<'a> {
     pub selection: Selection,
     /// The style of the output.
     pub style: Style,
+    /// The findings for which the status is 1.
+    pub fail_on: FailOn,
     /// The document whose citations are compared with the files.
     pub cited: Option<Cited<'a>>,
     /// The conditions on entries. If there is one, only findings about entries whose key is that of an entry that meets all conditions

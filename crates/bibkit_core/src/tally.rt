@@ -5,6 +5,7 @@ ghost use Rattle.std.specs.String.{string_bytes};
 ghost use Rattle.bibkit_core.specs.Printed as spec;
 ghost use Rattle.bibkit_core.specs.Printed.{counts_line, one_more};
 
+use crate::request::FailOn;
 use bib_findings::codes::Severity;
 use std::alloc::{AllocError, Global};
 
@@ -65,6 +66,18 @@ impl Tally {
         ensures { result ≡ spec.is_none self }
     {
         self.is_clean() && self.infos == 0
+    }
+
+    /// Returns whether there are findings for which `lint` has the status 1.
+    pub fn has_failing(self, fail_on: FailOn) -> bool
+        ensures { result ≡ spec.has_failing fail_on self }
+    {
+        match fail_on {
+            FailOn::Error => self.errors != 0,
+            FailOn::Warning => !self.is_clean(),
+            FailOn::Info => !self.is_none(),
+            FailOn::Never => false,
+        }
     }
 
     /// Returns the line with the numbers. The number of findings that are information is left out if it is zero.

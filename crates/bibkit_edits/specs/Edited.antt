@@ -144,7 +144,7 @@ pub record IsMade (edit : Edit) (text new : List ℕ) : Type 0 where
   pub safe : is_safe edit document ≡ true
   pub edited : IsEdited (EditOutcome edit document) new
 
--- the second text is the first one after these edits, each made of the text after the previous edit
+-- the second text is the first one after these edits, each applied to the text after the previous edit
 pub data AreMade : List Edit → List ℕ → List ℕ → Type 0 where
   none : {text : List ℕ} → AreMade [] text text
   next : {edit : Edit} {rest : List Edit} {text new : List ℕ} (between : List ℕ) → IsMade edit text between
@@ -179,7 +179,7 @@ abbrev pub MeetsReferenceCycle : Edit → Document → ℕ → Type 0
 MeetsReferenceCycle Resolve d entry = ResolveIsRefused d (resolve_error.Cycle entry)
 MeetsReferenceCycle _ d entry = ⊥
 
--- the edit of a text adds this text, with the line ends of the first one
+-- the edit of the text `file` adds the text `added`, which has the line ends of `file`
 abbrev pub AddsText : Edit → List ℕ → List ℕ → Type 0
 AddsText (Add text) file added = added ≡ with_line_ends_of file text.now
 AddsText _ file added = ⊥

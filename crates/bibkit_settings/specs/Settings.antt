@@ -4,12 +4,14 @@ use Rattle.std.specs.Prelude.{ℕ, Bool, true, false, List, [], ◌∷◌, Optio
 use Rattle.std.specs.Global.{Vec}
 use Rattle.std.specs.Option.{option_map_or, option_or}
 use Rattle.bib_findings.specs.declared.codes.Code.{Code}
+use Rattle.bibkit_core.specs.declared.request.FailOn.{FailOn}
+use Rattle.bibkit_core.specs.declared.request.FailOn.TheVariants as fail_on
 use Rattle.bibkit_core.specs.declared.request.Style.{Style}
 use Rattle.bibkit_core.specs.declared.request.Style.TheVariants as style
 use Rattle.bibkit_settings.specs.declared.settings.Color.{Color}
 use Rattle.bibkit_settings.specs.declared.settings.Color.TheVariants.{Auto, Always, Never}
 use Rattle.bibkit_settings.specs.declared.settings.OutputFormat.{OutputFormat}
-use Rattle.bibkit_settings.specs.declared.settings.OutputFormat.TheVariants.{Text, Json}
+use Rattle.bibkit_settings.specs.declared.settings.OutputFormat.TheVariants.{Text, Json, JsonLines, Github, Checkstyle, Sarif}
 use Rattle.bibkit_settings.specs.declared.settings.Settings.{Settings}
 
 -- the name of a setting for colours
@@ -30,18 +32,37 @@ color_named name = find (λ color. bytes_eq (color_name color) name) all_colors
 abbrev pub format_name : OutputFormat → List ℕ
 format_name Text = codes "text"
 format_name Json = codes "json"
+format_name JsonLines = codes "jsonl"
+format_name Github = codes "github"
+format_name Checkstyle = codes "checkstyle"
+format_name Sarif = codes "sarif"
 
 -- all formats of findings, in the order in which they are listed
 abbrev pub all_formats : List OutputFormat
-all_formats = Text ∷ Json ∷ []
+all_formats = Text ∷ Json ∷ JsonLines ∷ Github ∷ Checkstyle ∷ Sarif ∷ []
 
 -- the format of findings with a name, or `None` if none has it
 abbrev pub format_named : List ℕ → Option OutputFormat
 format_named name = find (λ format. bytes_eq (format_name format) name) all_formats
 
+-- the name of a setting for the status of `lint`
+abbrev pub fail_on_name : FailOn → List ℕ
+fail_on_name fail_on.Error = codes "error"
+fail_on_name fail_on.Warning = codes "warning"
+fail_on_name fail_on.Info = codes "info"
+fail_on_name fail_on.Never = codes "never"
+
+-- all settings for the status of `lint`, in the order in which they are listed
+abbrev pub all_fail_on : List FailOn
+all_fail_on = fail_on.Error ∷ fail_on.Warning ∷ fail_on.Info ∷ fail_on.Never ∷ []
+
+-- the setting for the status of `lint` with a name, or `None` if none has it
+abbrev pub fail_on_named : List ℕ → Option FailOn
+fail_on_named name = find (λ setting. bytes_eq (fail_on_name setting) name) all_fail_on
+
 -- settings of which none is set
 abbrev pub no_settings : Settings
-no_settings = record { only = None; ignored = None; color = None; format = None }
+no_settings = record { only = None; ignored = None; color = None; format = None; fail_on = None }
 
 -- the settings `given` on the command line, with those of the project for each that isn't set; a list of the command line
 -- replaces the list of the project, and isn't joined with it
@@ -52,6 +73,7 @@ over given project =
       ignored = option_or given.ignored project.ignored;
       color = option_or given.color project.color;
       format = option_or given.format project.format;
+      fail_on = option_or given.fail_on project.fail_on;
     }
 
 -- the codes of a list, or no codes if the list isn't set
@@ -69,7 +91,11 @@ abbrev pub line_style : Bool → Style
 line_style true = style.Colored
 line_style false = style.Plain
 
--- the style of findings in a format (lines if it isn't set), with or without colours; JSON has no colours
+-- the style of findings in a format (lines if it isn't set), with or without colours; only lines have colours
 abbrev pub style_of : Option OutputFormat → Bool → Style
 style_of (Some Json) colored = style.Json
+style_of (Some JsonLines) colored = style.JsonLines
+style_of (Some Github) colored = style.Github
+style_of (Some Checkstyle) colored = style.Checkstyle
+style_of (Some Sarif) colored = style.Sarif
 style_of _ colored = line_style colored

@@ -10,6 +10,7 @@ mod searching;
 mod shared;
 
 use arguments::{Row, files, own_arguments};
+use bibkit_core::version::VERSION;
 use clap::Command;
 use converting::CONVERTING;
 use editing::EDITING;
@@ -61,7 +62,7 @@ fn editing_commands<'a>(alloc: Global) -> Result<Vec<Command<'a>>, AllocError> {
 fn program<'a>(alloc: Global) -> Command<'a> {
     Command::new(alloc, "bibkit")
         .about("Check, search and edit bibliography files")
-        .version("0.1.0")
+        .version(VERSION)
 }
 
 /// Returns whether `name` is a command that edits a file.

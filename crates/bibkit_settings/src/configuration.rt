@@ -1,6 +1,6 @@
 //! Reads the settings of a project from bibkit.toml.
 
-use crate::settings::{Color, OutputFormat, Settings};
+use crate::settings::{Color, OutputFormat, Settings, fail_on_named};
 use crate::style_settings::{StyleSettings, delimiters_named, width_of};
 use bib_findings::codes::Code;
 use edit_format::style::Delimiters;
@@ -107,6 +107,9 @@ fn unknown<T: Drop>(alloc: Global, key: &str) -> Result<T, ConfigurationError> {
     Err(ConfigurationError::Wrong(format!(in alloc; "unknown setting `{key}`")?))
 }
 
+// The values of `format` in the message for a wrong value.
+const FORMATS: &str = "\"text\", \"json\", \"jsonl\", \"github\", \"checkstyle\" or \"sarif\"";
+
 // Sets the setting of `lint` with this key. Fails if `lint` has no such setting, or if the value is wrong for it.
 fn set_lint(
     alloc: Global,
@@ -123,7 +126,13 @@ fn set_lint(
         },
         "format" => match value.as_str().and_then(OutputFormat::from_name) {
             Some(format) => settings.format = Some(format),
-            None => return wrong(alloc, key, "\"text\" or \"json\""),
+            None => return wrong(alloc, key, FORMATS),
+        },
+        "fail-on" => match value.as_str().and_then(fail_on_named) {
+            Some(fail_on) => settings.fail_on = Some(fail_on),
+            None => {
+                return wrong(alloc, key, "\"error\", \"warning\", \"info\" or \"never\"");
+            }
         },
         _ => return unknown(alloc, key),
     }
@@ -264,7 +273,7 @@ fn set(
     match (reader, key) {
         (Reader::Lint, "fmt") => Ok(()),
         (Reader::Lint, _) => set_lint(alloc, &mut project.lint, key, value),
-        (Reader::Fmt, "only" | "ignore" | "color" | "format") => Ok(()),
+        (Reader::Fmt, "only" | "ignore" | "color" | "format" | "fail-on") => Ok(()),
         (Reader::Fmt, "fmt") => set_styles(alloc, project, value),
         (Reader::Fmt, _) => unknown(alloc, key),
     }

@@ -2,11 +2,14 @@
 
 ghost use Rattle.std.specs.Prelude.{◌≡◌, [], bytes_eq, find, map};
 ghost use Rattle.bib_findings.specs.Codes.{all_codes, code_name};
-ghost use Rattle.bibkit_settings.specs.Settings.{all_colors, all_formats, color_name, color_named, format_name, format_named};
+ghost use Rattle.std.specs.Option.{unwrap_or};
+ghost use Rattle.bibkit_core.specs.declared.request.FailOn.TheVariants.{Warning};
+ghost use Rattle.bibkit_settings.specs.Settings.{all_colors, all_fail_on, all_formats, color_name, color_named};
+ghost use Rattle.bibkit_settings.specs.Settings.{fail_on_name, fail_on_named, format_name, format_named};
 ghost use Rattle.bibkit_settings.specs.Settings.{is_colored, listed_codes, no_settings, over, style_of};
 
 use bib_findings::codes::Code;
-use bibkit_core::request::{Cited, Lint, Style};
+use bibkit_core::request::{Cited, FailOn, Lint, Style};
 use bibkit_core::selection::Selection;
 use std::alloc::Global;
 
@@ -28,10 +31,18 @@ pub enum OutputFormat {
     Text,
     /// As a JSON array.
     Json,
+    /// As JSON objects, each on a line.
+    JsonLines,
+    /// As workflow commands of GitHub Actions.
+    Github,
+    /// As a document in the XML format of Checkstyle.
+    Checkstyle,
+    /// As a log in SARIF 2.1.0.
+    Sarif,
 }
 
 // The names of the codes of findings, in the order in which they are listed.
-static CODES: [&str; 19] = [
+static CODES: [&str; 25] = [
     "unread-bytes",
     "syntax",
     "unread-field",
@@ -45,10 +56,16 @@ static CODES: [&str; 19] = [
     "superfluous-field",
     "malformed-field",
     "not-a-number",
+    "malformed-date",
     "unknown-field",
     "foreign-field",
+    "repeated-field",
+    "empty-field",
+    "wrong-isbn",
+    "doi-address",
     "unknown-reference",
     "likely-duplicate",
+    "key-case",
     "missing-entry",
     "unused-entry",
 ];
@@ -86,7 +103,7 @@ impl OutputFormat {
     pub fn names() -> &'static [&'static str]
         ensures { map (λ name. name.now) result.now ≡ map format_name all_formats }
     {
-        &["text", "json"]
+        &["text", "json", "jsonl", "github", "checkstyle", "sarif"]
     }
 
     /// Returns the variant with this name, or `None` if no variant has it. Case matters.
@@ -96,8 +113,32 @@ impl OutputFormat {
         match name {
             "text" => Some(Self::Text),
             "json" => Some(Self::Json),
+            "jsonl" => Some(Self::JsonLines),
+            "github" => Some(Self::Github),
+            "checkstyle" => Some(Self::Checkstyle),
+            "sarif" => Some(Self::Sarif),
             _ => None,
         }
+    }
+}
+
+/// Returns the names of the settings for the status of `lint`, in the order in which they are listed.
+pub fn fail_on_names() -> &'static [&'static str]
+    ensures { map (λ name. name.now) result.now ≡ map fail_on_name all_fail_on }
+{
+    &["error", "warning", "info", "never"]
+}
+
+/// Returns the setting for the status of `lint` with this name, or `None` if none has it. Case matters.
+pub fn fail_on_named(name: &str) -> Option<FailOn>
+    ensures { result ≡ fail_on_named name.now }
+{
+    match name {
+        "error" => Some(FailOn::Error),
+        "warning" => Some(FailOn::Warning),
+        "info" => Some(FailOn::Info),
+        "never" => Some(FailOn::Never),
+        _ => None,
     }
 }
 
@@ -112,6 +153,8 @@ pub struct Settings {
     pub color: Option<Color>,
     /// How findings are printed.
     pub format: Option<OutputFormat>,
+    /// The findings for which the status is 1.
+    pub fail_on: Option<FailOn>,
 }
 
 impl Settings {
@@ -124,6 +167,7 @@ impl Settings {
             ignored: None,
             color: None,
             format: None,
+            fail_on: None,
         }
     }
 
@@ -137,18 +181,20 @@ impl Settings {
             ignored,
             color,
             format,
+            fail_on,
         } = self;
         Settings {
             only: only.or(project.only),
             ignored: ignored.or(project.ignored),
             color: color.or(project.color),
             format: format.or(project.format),
+            fail_on: fail_on.or(project.fail_on),
         }
     }
 
     /// Returns the request for `lint` with these settings. If `only` is empty or isn't set, all codes except the ignored ones are reported.
-    /// If `color` is `Auto` or isn't set, `are_colors_shown` says whether lines are printed in colours. JSON has no colours. The request
-    /// has no conditions.
+    /// If `color` is `Auto` or isn't set, `are_colors_shown` says whether lines are printed in colours. Only lines have colours. If
+    /// `fail_on` isn't set, the status is 1 for errors and warnings. The request has no conditions.
     pub fn lint<'a>(
         self,
         alloc: Global,
@@ -157,6 +203,7 @@ impl Settings {
     ) -> Lint<'a>
         ensures only { result.selection.only.items ≡ listed_codes self.only }
         ensures ignored { result.selection.ignored.items ≡ listed_codes self.ignored }
+        ensures fail_on { result.fail_on ≡ unwrap_or self.fail_on Warning }
         ensures style { result.style ≡ style_of self.format (is_colored self.color are_colors_shown) }
         ensures cited { result.cited ≡ cited.entry }
         ensures conditions { result.conditions.items ≡ [] }
@@ -168,6 +215,7 @@ impl Settings {
                 ignored: self.ignored.unwrap_or(Vec::new(alloc)),
             },
             style,
+            fail_on: self.fail_on.unwrap_or(FailOn::Warning),
             cited,
             conditions: Vec::new(alloc),
         }
@@ -185,12 +233,16 @@ fn is_colored(color: Option<Color>, are_shown: bool) -> bool
     }
 }
 
-// Returns the style of a format. If `format` is missing, the style is that of lines. JSON has no colours.
+// Returns the style of a format. If `format` is missing, the style is that of lines. Only lines have colours.
 fn style(format: Option<OutputFormat>, is_colored: bool) -> Style
     ensures { result ≡ style_of format is_colored }
 {
     match format {
         Some(OutputFormat::Json) => Style::Json,
+        Some(OutputFormat::JsonLines) => Style::JsonLines,
+        Some(OutputFormat::Github) => Style::Github,
+        Some(OutputFormat::Checkstyle) => Style::Checkstyle,
+        Some(OutputFormat::Sarif) => Style::Sarif,
         Some(OutputFormat::Text) | None if is_colored => Style::Colored,
         Some(OutputFormat::Text) | None => Style::Plain,
     }

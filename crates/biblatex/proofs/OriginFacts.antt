@@ -1,15 +1,20 @@
 -- The indices of the kept entries among the raw entries are unique.
-use Rattle.std.proofs.Common.{◌≡◌, ℕ, zero, suc, ◌+◌, ◌<◌, ◌≤◌, List, [], ◌∷◌, ◌++◌, length, refl, sym, ap, ◌∙◌, subst, arith, Option, Some, None}
-use Rattle.std.specs.Prelude.{slice_get}
+use Rattle.std.proofs.Common.{◌≡◌, ℕ, zero, suc, ◌+◌, ◌<◌, ◌≤◌, Bool, true, false, if◌then◌else◌, List, [], ◌∷◌, ◌++◌, length, refl, sym, ap, ◌∙◌, subst, arith, Option, Some, None}
+use Rattle.std.specs.Prelude.{slice_get, ◌==◌}
+use Rattle.std.proofs.lemmas.Str.{len_utf8_bounds}
 use Rattle.std.specs.List.{AllZip}
 use Rattle.bib_file_entries.specs.Kept.{IsKeptFrom}
 use Rattle.bib_syntax.specs.Grammar.{Body as body, BlockKind, Body, longest}
-use Rattle.bib_syntax.specs.Reading.{EntryReading, FileReading, Part}
-use Rattle.bib_syntax.specs.Recovery.{Recovered}
+use Rattle.bib_syntax.specs.Reading.{EntryReading, FileReading, Part, empty_reading, part}
+use Rattle.bib_syntax.specs.Kept.{Kept, KeptBody, entry_alone}
+use Rattle.bib_syntax.specs.Kept.{Kept as kept}
+use Rattle.bib_syntax.specs.Kept.{KeptBody as kept_body}
+use Rattle.bib_syntax.specs.Recovery.{Keeps, Recovered}
+use Rattle.bib_syntax.specs.Recovery.{Keeps as keep}
 use Rattle.bib_syntax.specs.Recovery.{Recovered as recovered}
 use Rattle.bib_syntax.specs.declared.raw.recovery.SkippedBlock.{SkippedBlock}
 use Rattle.bib_syntax.proofs.FileFacts.{ahead_block, ahead_line_comment, block_smaller}
-use Rattle.bib_syntax.proofs.RecoveryFacts.{ahead_passed}
+use Rattle.bib_syntax.proofs.KeptFacts.{ahead_passed}
 use Rattle.bib_text.specs.Places.{Place}
 
 -- the starts of entries are at least `n` and increase strictly
@@ -33,18 +38,49 @@ block_rises {start} end rest (body.strings fields closes) less rise = rise_weake
 block_rises {start} end rest (body.entry key_end key white comma gap fields closes) less rise =
     (omega arith, rise_weaker (start.at + 1) end rest (omega (arith, less)) rise)
 
+-- an entry without fields is kept if its key isn't empty
+key_rises : (start place : Place) (kind key : Part) (is_empty : Bool) (end : ℕ) (rest : List EntryReading) → start.at < end
+    → Rise end rest
+    → Rise start.at
+    ((if is_empty then empty_reading
+    else entry_alone (record { key = key; kind = kind; fields = []; start = start.at; end = place.at })).entries ++ rest)
+key_rises start place kind key true end rest less rise = rise_weaker start.at end rest (omega (arith, less)) rise
+key_rises start place kind key false end rest less rise = (omega arith, rise_weaker (start.at + 1) end rest (omega (arith, less)) rise)
+
+-- what is kept of a block contains at most one entry, which begins at the start of the block
+body_rises : {start u : Place} {kind : Part} {k : BlockKind} {says : FileReading} (end : ℕ) (rest : List EntryReading)
+    → KeptBody start kind k u says → start.at < end → Rise end rest → Rise start.at (says.entries ++ rest)
+body_rises {start} end rest kept_body.comment less rise = rise_weaker start.at end rest (omega (arith, less)) rise
+body_rises {start} end rest kept_body.preamble less rise = rise_weaker start.at end rest (omega (arith, less)) rise
+body_rises {start} end rest (kept_body.strings fields) less rise = rise_weaker start.at end rest (omega (arith, less)) rise
+body_rises {start} {u} {kind} end rest (kept_body.key {v = v} {w = w} key white stops) less rise =
+    key_rises start w kind (part u v) (length (part u v).text == 0) end rest less rise
+body_rises {start} end rest (kept_body.entry key white comma comments fields) less rise =
+    (omega arith, rise_weaker (start.at + 1) end rest (omega (arith, less)) rise)
+
+kept_rises : {start : Place} {says : FileReading} (end : ℕ) (rest : List EntryReading) → Kept start says → start.at < end
+    → Rise end rest → Rise start.at (says.entries ++ rest)
+kept_rises {start} end rest (kept.unopened absent) less rise = rise_weaker start.at end rest (omega (arith, less)) rise
+kept_rises end rest (kept.block opening body) less rise = body_rises end rest body less rise
+
+keeps_rises : {keeps : Bool} {u w : Place} {says : FileReading} (rest : List EntryReading) → Keeps keeps u w says → u.at < w.at
+    → Rise w.at rest → Rise u.at (says.entries ++ rest)
+keeps_rises {u = u} {w} rest keep.nothing less rise = rise_weaker u.at w.at rest (omega (arith, less)) rise
+keeps_rises {w = w} rest (keep.parts parts) less rise = kept_rises w.at rest parts less rise
+
 -- the starts of the raw entries of a recovery increase
-pub recovered_rises : {u : Place} {says : FileReading} {errors : List SkippedBlock} → Recovered u says errors → Rise u.at says.entries
+pub recovered_rises : {keeps : Bool} {u : Place} {says : FileReading} {errors : List SkippedBlock} → Recovered keeps u says errors
+    → Rise u.at says.entries
 recovered_rises (recovered.end end) = tt
-recovered_rises {u} {says} (recovered.skipped {v = v} char passes x) =
+recovered_rises {u = u} {says} (recovered.skipped {v = v} char passes x) =
     rise_weaker u.at v.at says.entries (omega (arith, char.next)) (recovered_rises x)
-recovered_rises {u} {says} (recovered.line_comment {v = v} comment x) =
+recovered_rises {u = u} {says} (recovered.line_comment {v = v} comment x) =
     rise_weaker u.at v.at says.entries (ahead_line_comment comment).at (recovered_rises x)
-recovered_rises {u} (recovered.block {v = v} {rest = rest} b x) =
+recovered_rises {u = u} (recovered.block {v = v} {rest = rest} b x) =
     block_rises v.at rest.entries b.body
     (omega (arith, block_smaller b, ap length (ahead_block b).text, (ahead_block b).at)) (recovered_rises x)
-recovered_rises {u} {says} (recovered.unread {v = v} {w = w} sign none on x) =
-    rise_weaker u.at w.at says.entries (omega (arith, sign.next, (ahead_passed on.passed).at)) (recovered_rises x)
+recovered_rises {u = u} (recovered.unread {v = v} {w = w} {says = says} sign none on held x) =
+    keeps_rises says.entries held (omega (arith, sign.next, (len_utf8_bounds 64).0, (ahead_passed on.passed).at)) (recovered_rises x)
 
 -- each raw entry starts at the lower bound or later
 starts_later : (n : ℕ) (es : List EntryReading) (i : ℕ) (e : EntryReading) → Rise n es → slice_get es i ≡ Some e → n ≤ e.start

@@ -20,7 +20,7 @@ use Rattle.bib_inheritance.specs.Recovered.{AreCut, AreRecovered, EachReported}
 use Rattle.bib_inheritance.specs.Resolving.{AllKeepChunks, AreDatesRead, Inherits, IsCycleAt, IsDateError, at_index, graph_by, has_bad_date, is_bad_date, texts_of_entries}
 use Rattle.bib_syntax.specs.Grammar.{IsRawReading}
 use Rattle.bib_syntax.specs.Reading.{EntryReading, FileReading}
-use Rattle.bib_syntax.specs.Recovery.{IsRecovery}
+use Rattle.bib_syntax.specs.Recovery.{IsFullRecovery}
 use Rattle.bib_syntax.specs.declared.raw.ParseError.{ParseError}
 use Rattle.bib_syntax.specs.declared.raw.ParseErrorKind.TheVariants.{ReferenceCycle}
 use Rattle.bib_syntax.specs.declared.raw.recovery.SkippedBlock.{SkippedBlock}
@@ -185,7 +185,7 @@ pub accepted_recovered : {text : List ℕ} {bibliography : Bibliography} {origin
     → IsRecoveredBibliography text bibliography origins skipped errors
     → (skipped ≡ []) × (errors ≡ [])
 accepted_recovered {text} {bibliography} {origins} accepted r =
-    let same = raw.recovery_same r.recovery (raw.kept accepted.reading) in
+    let same = raw.recovery_same r.recovery (raw.all_parsed accepted.reading) in
     (same.1, r.all ∙ nothing_told (subst IsAccepted (sym same.0) accepted.accepted) r.entries r.resolved)
 
 -- ---- recovery is unique
@@ -343,7 +343,7 @@ recovered_once {text} one other {origins} {indices} {skipped} {passed} {errors} 
 pub recovered_of : {text : List ℕ} (says : FileReading) (kept : List EntryReading) (own entries : List Entry)
     (names : ByText ℕ) (places : List (Range ℕ)) (origins : List ℕ) {skipped : List SkippedBlock}
     (of_entries of_references : List ParseError) {errors : List ParseError}
-    → IsRecovery text says skipped → EntriesKept (definition_in says.abbreviations) [] says.entries kept own of_entries
+    → IsFullRecovery text says skipped → EntriesKept (definition_in says.abbreviations) [] says.entries kept own of_entries
     → places ≡ map place_of kept → AllZip (IsKeptFrom says.entries) origins kept → names_of own ≡ names
     → AreRecovered places names own entries of_references → errors ≡ of_entries ++ of_references
     → IsRecoveredBibliography text (record { entries = entries; names = names }) origins skipped errors

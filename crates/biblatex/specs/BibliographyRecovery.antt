@@ -12,19 +12,20 @@ use Rattle.bib_file_entries.specs.Loaded.{definition_in}
 use Rattle.bib_inheritance.specs.Recovered.{AreRecovered}
 use Rattle.bib_inheritance.specs.Resolving.{texts_of_entries}
 use Rattle.bib_syntax.specs.Reading.{EntryReading, FileReading}
-use Rattle.bib_syntax.specs.Recovery.{IsRecovery}
+use Rattle.bib_syntax.specs.Recovery.{IsFullRecovery}
 use Rattle.bib_syntax.specs.declared.raw.ParseError.{ParseError}
 use Rattle.bib_syntax.specs.declared.raw.recovery.SkippedBlock.{SkippedBlock}
 use Rattle.biblatex.specs.Resolved.{AreOneErrorOf, names_of}
 
--- `bibliography` is the recovery of `text`. Its entries come from the raw entries with the indices `origins`, and the blocks
--- in `skipped` have syntax errors. An entry is left out if its key was claimed before, and a field if it can't be parsed. An
--- entry that refers to itself, directly or through others, loses its references. A date that can't be parsed is not
--- inherited. Each of these adds an error to `errors`
+-- `bibliography` is the recovery of `text`. Its entries come from the raw entries with the indices `origins`. The blocks in
+-- `skipped` have syntax errors; their complete parts are kept. An entry is left out if its key was claimed before, and a field
+-- if it can't be parsed. An undefined abbreviation is replaced by its name as text. An entry that refers to itself, directly or
+-- through others, loses its references. If an entry lacks a required date, a date that can't be parsed is not inherited. Each
+-- of these adds an error to `errors`
 pub record IsRecoveredBibliography (text : List ℕ) (bibliography : Bibliography) (origins : List ℕ)
     (skipped : List SkippedBlock) (errors : List ParseError) : Type 0 where
   pub says : FileReading
-  pub recovery : IsRecovery text says skipped
+  pub recovery : IsFullRecovery text says skipped
   pub kept : List EntryReading
   pub own : List Entry
   pub of_entries : List ParseError

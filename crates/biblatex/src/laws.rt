@@ -23,22 +23,23 @@ ghost use Rattle.biblatex.specs.Places.{HasFreshKeys, PointsToLastClaims};
 ghost use Rattle.bib_inheritance.specs.Resolving.{rule_by, texts_of_entries};
 ghost use Rattle.biblatex.specs.Resolved.{AreOneErrorOf, AreOwn, IsAccepted, IsFirstErrorOf, IsLoaded, graph_of};
 
-/// The output for a settled bibliography, in BibLaTeX's types and fields, is accepted. Its bibliography has the same entries
-/// in order, with types and field names mapped to BibLaTeX's and with equal styled texts.
+/// States that the output for a settled bibliography, in BibLaTeX's types and fields, is accepted. Its bibliography has the
+/// same entries in order, with types and field names mapped to BibLaTeX's and with equal styled texts. If two fields of an
+/// entry have the same mapped name, only the last one remains.
 pub fn settled_is_read_again()
     ensures { (bibliography : Bibliography) → IsSettledBibliography bibliography → IsUtf8 (biblatex_text bibliography) →
         IsReadAgain bibliography.entries (biblatex_text bibliography) }
 {}
 
-/// The inheritance equation has exactly one solution if no entry refers to itself, directly or through others. This holds for
-/// every graph that is in range. The graph of a file's entries is always in range.
+/// States that the inheritance equation has exactly one solution if no entry refers to itself, directly or through others.
+/// This holds for every graph that is in range. The graph of a file's entries is always in range.
 pub fn inherits_in_one_way()
     ensures in_range { (own : List Entry) → IsInRange (graph_of own) }
     ensures one { (own : List EntryTexts) (graph : Graph) → IsInRange graph → HasNoCycle graph →
         HasOneSolution no_entry (rule_by own) graph }
 {}
 
-/// Each accepted text has a bibliography, and each text that has a bibliography is accepted.
+/// States that each accepted text has a bibliography, and that each text that has a bibliography is accepted.
 pub fn accepted_texts_have_bibliographies()
     ensures has { (text : List ℕ) → IsAcceptedText text →
         (bibliography : Bibliography) × IsBibliographyOf text bibliography }
@@ -46,14 +47,14 @@ pub fn accepted_texts_have_bibliographies()
         IsAcceptedText text }
 {}
 
-/// All lists of own entries for one file have the same graph of references.
+/// States that all lists of own entries for one file have the same graph of references.
 pub fn one_graph()
     ensures { (says : FileReading) (one other : List Entry) → AreOwn says one → AreOwn says other →
         graph_of one ≡ graph_of other }
 {}
 
-/// A file that has a bibliography is accepted. Two bibliographies of one file have the same names and keys in order. Their
-/// entries have the same types and fields, except for the borders and the spans of chunks.
+/// States that a file that has a bibliography is accepted. Two bibliographies of one file have the same names and keys in
+/// order. Their entries have the same types and fields, except for the borders and the spans of chunks.
 pub fn one_bibliography()
     ensures accepted { (says : FileReading) (bibliography : Bibliography) → IsLoaded says bibliography → IsAccepted says }
     ensures keys { (says : FileReading) (one other : Bibliography) → IsLoaded says one → IsLoaded says other →
@@ -64,19 +65,19 @@ pub fn one_bibliography()
         one.names ≡ other.names }
 {}
 
-/// In a bibliography loaded from a file, each name points to the last entry whose own fields claim it. A name that no entry
-/// claims points to no index.
+/// States that in a bibliography loaded from a file, each name points to the last entry that claims it by its key or by its
+/// own field `ids`. A name that no entry claims points to no index.
 pub fn last_claims()
     ensures { (says : FileReading) (own : List Entry) (bibliography : Bibliography) → AreOwn says own →
         IsLoaded says bibliography → PointsToLastClaims (record { entries = own; names = bibliography.names }) }
 {}
 
-/// In a file that has own entries, no key is a name that an earlier entry claims.
+/// States that in a file that has own entries, no key is a name that an earlier entry claims.
 pub fn fresh_keys()
     ensures { (says : FileReading) (own : List Entry) → AreOwn says own → HasFreshKeys own }
 {}
 
-/// An accepted file has no error. Any other file has at most one first error, with one kind and one span, with two
+/// States that an accepted file has no error. Any other file has at most one first error, with one kind and one span, with two
 /// exceptions. For a literal that can't be parsed, only the span is left open. For a date that can't be parsed, the span and
 /// the kind of date error are left open.
 pub fn one_error()
@@ -85,13 +86,13 @@ pub fn one_error()
         IsFirstErrorOf says second → AreOneErrorOf first second }
 {}
 
-/// No text has an error of the kind `MalformedCommand`.
+/// States that no text has an error of the kind `MalformedCommand`.
 pub fn no_command_is_malformed()
     ensures { (text : List ℕ) (e : ParseError) → IsErrorOf text e → e.kind ≡ MalformedCommand → ⊥ }
 {}
 
-/// A recovery of a text has no skipped blocks and no errors exactly if the text is accepted. Its bibliography is then a
-/// bibliography of the text.
+/// States that a recovery of a text has no skipped blocks and no errors exactly if the text is accepted. Its bibliography is
+/// then a bibliography of the text.
 pub fn recovered_is_loaded()
     ensures accepted { (text : List ℕ) (bibliography : Bibliography) (origins : List ℕ) →
         IsRecoveredBibliography text bibliography origins [] [] → IsAcceptedText text }
@@ -102,8 +103,9 @@ pub fn recovered_is_loaded()
         IsRecoveredBibliography text bibliography origins skipped errors → (skipped ≡ []) × (errors ≡ []) }
 {}
 
-/// Each text has at most one recovery: two of them have the same keys, names and origins and, except for the borders and the
-/// spans of chunks, the same types and fields. They skip the same blocks and report errors that agree as in `one_error`.
+/// States that each text has at most one recovery. Two of them have the same keys, names and origins and, except for the
+/// borders and the spans of chunks, the same types and fields. They skip the same blocks and report errors that agree as in
+/// `one_error`.
 pub fn one_recovered_bibliography()
     ensures same { (text : List ℕ) (one other : Bibliography) (origins indices : List ℕ)
         (skipped passed : List SkippedBlock) (errors others : List ParseError) →
@@ -116,7 +118,7 @@ pub fn one_recovered_bibliography()
         IsRecoveredBibliography text other indices passed others → origins ≡ indices }
 {}
 
-/// Settled chunks parse back to the same styled text when they are written between the braces of a value.
+/// States that settled chunks parse back to the same styled text when they are written between the braces of a value.
 pub fn value_reread()
     ensures { (is_verbatim : Bool) (chunks : List (Spanned Chunk)) →
         IsSettled (styled chunks) is_verbatim →

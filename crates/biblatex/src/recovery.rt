@@ -14,14 +14,15 @@ use std::alloc::{AllocError, Global};
 pub struct BibliographyRecovery {
     /// The bibliography of everything that can be parsed.
     pub bibliography: Bibliography,
-    /// For each entry of the bibliography, in order, its index among the entries that `RawBibliography::recover` returns for
-    /// the text. The raw entry contains the spans of its key, fields and values.
+    /// For each entry of the bibliography, in order, its index among the entries that `RawBibliography::recover_parts` returns
+    /// for the text. The raw entry contains the spans of its key, fields and values. If a skipped block begins where the raw
+    /// entry does, only the complete parts of the entry are kept.
     pub origins: Vec<usize>,
     /// The skipped blocks of the text, each with its syntax error.
     pub skipped: Vec<SkippedBlock>,
-    /// The errors of the rest. First, in the order of the file: undefined abbreviations, and the fields and entries that are
-    /// left out. Then the entries on cycles. Then the entries that lack a required date and refer to an entry whose date
-    /// can't be parsed.
+    /// The errors of the rest. First, in the order of the entries and of their fields: undefined abbreviations, and the
+    /// fields and entries that are left out. For a field that is left out, those of its abbreviations come first. Then the
+    /// entries on cycles. Then the entries that lack a required date and refer to an entry whose date can't be parsed.
     pub errors: Vec<ParseError>,
 }
 
@@ -31,7 +32,9 @@ impl Bibliography {
     /// The result has no errors exactly if `parse` accepts the text, and is then the result of `parse`. Otherwise the parts
     /// with errors are removed, and the rest is parsed as by `parse`:
     ///
-    /// - A block with a syntax error is skipped, up to the next at sign that begins a line.
+    /// - A block with a syntax error is skipped, up to the next at sign that begins a line, after white space at most. Without
+    /// such an at sign, it is skipped up to the end of the text. Its complete parts are kept: the key and the fields of an entry,
+    /// or the definitions of abbreviations, before the first that isn't complete or has no comma after it.
     /// - An entry whose key an earlier entry claimed is left out (`DuplicateKey`), and so is a field that can't be parsed.
     /// - An entry that refers to itself, directly or through others, loses its fields `crossref` and `xdata`
     /// (`ReferenceCycle`).
@@ -44,7 +47,7 @@ impl Bibliography {
         ensures { IfOk result (λ found. IsRecoveredBibliography src.now found.bibliography found.origins.items
             found.skipped.items found.errors.items) }
     {
-        let RawRecovery { raw, skipped } = RawBibliography::recover(alloc, src)?;
+        let RawRecovery { raw, skipped } = RawBibliography::recover_parts(alloc, src)?;
         let KeptEntries {
             mut entries,
             names,

@@ -11,7 +11,7 @@ use crate::settled_entry::is_settled_entry;
 use bib_collections::names::Names;
 use bib_entry::entry::Entry;
 
-// Returns whether the key of an entry is `key`.
+// Returns whether one of the entries has the key `key`.
 fn is_key_among(entries: &[Entry], key: &str) -> bool
     ensures { result ≡ list_any (λ e. bytes_eq key.now e.key) entries.now }
 {

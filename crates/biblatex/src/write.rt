@@ -124,7 +124,8 @@ impl Bibliography {
     ///
     /// Each entry is written as by [`Entry::to_biblatex_string`], with an empty line between two entries. The output for a
     /// settled bibliography parses back to its entries in order, with types and field names mapped to BibLaTeX's and with
-    /// equal styled texts. The only error is out of memory.
+    /// equal styled texts. If two fields of an entry have the same mapped name, only the last one remains. The only error is
+    /// out of memory.
     pub fn to_biblatex_string(&self, alloc: Global) -> Result<String, AllocError>
         ensures text { IfOk result (λ text. string_bytes text ≡
             entries_text biblatex_entry self.now.entries) }

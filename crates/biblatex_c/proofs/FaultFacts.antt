@@ -1,6 +1,6 @@
 -- Facts about the JSON array of the findings of a text.
 use Rattle.std.proofs.Common.{◌≡◌, ◌∙◌, ℕ, List, [], ◌++◌, codes, None, ap, ap₂, append_assoc}
-use Rattle.bibkit_core.specs.Tasks.{BeginsLinting, closing, linting_begins, linting_ends, linting_prints, opening}
+use Rattle.bibkit_core.specs.Tasks.{BeginsLinting, closing, in_file, linting_begins, linting_ends, linting_prints, opening}
 use Rattle.bibkit_core.specs.declared.linting.Linting.{Linting}
 use Rattle.bibkit_core.specs.declared.request.Lint.{Lint}
 use Rattle.bibkit_core.specs.declared.request.Style.TheVariants as style
@@ -17,6 +17,7 @@ faults_found {bytes} {begin} {found} {end} begun ended begins json only ignored 
     let in_json : begun.lint.now.style ≡ style.Json = ap (λ l. l.style) same ∙ json in
     let opened : begin ≡ codes "[" = opens ∙ ap opening in_json in
     let closed : end ≡ codes "\n]\n" = ends.0 ∙ ap (λ l. closing l.style ended.tally) prints.0 ∙ ap (λ s. closing s ended.tally) in_json in
+    let whole : found ≡ prints.1.0 = prints.1.2 ∙ ap (λ s. in_file s [] prints.1.0) in_json in
     record {
       lint = begun.lint.now;
       in_json = in_json;
@@ -28,8 +29,8 @@ faults_found {bytes} {begin} {found} {end} begun ended begins json only ignored 
       no_errors = begins.no_errors;
       no_warnings = begins.no_warnings;
       no_infos = begins.no_infos;
-      found = found;
+      found = prints.1.0;
       after = ended.tally;
-      printed = prints.1;
-      is = append_assoc begin found end ∙ ap₂ (λ x y. x ++ (found ++ y)) opened closed;
+      printed = prints.1.1;
+      is = append_assoc begin found end ∙ ap₂ (λ x y. x ++ (found ++ y)) opened closed ∙ ap (λ t. codes "[" ++ (t ++ codes "\n]\n")) whole;
     }

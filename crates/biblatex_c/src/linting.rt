@@ -8,7 +8,7 @@ ghost use Rattle.biblatex_c.specs.declared.status.Status.TheVariants.{OutOfMemor
 use crate::buffers::end;
 use crate::status::Status;
 use bibkit_core::linting::Linting;
-use bibkit_core::request::{Lint, Style};
+use bibkit_core::request::{FailOn, Lint, Style};
 use bibkit_core::selection::Selection;
 use bibkit_core::task::Task;
 use std::alloc::Global;
@@ -24,6 +24,7 @@ fn faults_of(alloc: Global, bytes: &[u8]) -> Result<String, Status>
             ignored: Vec::new(alloc),
         },
         style: Style::Json,
+        fail_on: FailOn::Warning,
         cited: None,
         conditions: Vec::new(alloc),
     };
@@ -36,8 +37,8 @@ fn faults_of(alloc: Global, bytes: &[u8]) -> Result<String, Status>
     Ok(text)
 }
 
-/// Writes the findings of a text as a JSON array of objects. The members of an object are the file name (empty), line, column, severity,
-/// code and message. A text that isn't UTF-8 is decoded as Windows-1252, and has a finding that says so.
+/// Writes the findings of a text as a JSON array of objects. The members of an object are the file name (empty), the line and the
+/// column of the start and of the end, severity, code and message. A text that isn't UTF-8 is decoded as Windows-1252, and has a finding that says so.
 #[unsafe(no_mangle)]
 pub extern "C" fn biblatex_lint(alloc: Global, text: &[u8], out: &mut [u8], size: &mut usize) -> u32
     ensures { IsNumberedEnd (AreFaults text.now) (λ why. why ≡ OutOfMemory) out.old size.old out.new size.new result }

@@ -38,7 +38,7 @@ begins_address (c ∷ cs) = is_ascii_alphabetic c && (begins_address_word (c ∷
 abbrev pub is_accent_sign : ℕ → Bool
 is_accent_sign c = is_some (value_named accents (c ∷ []))
 
--- whether a text begins with a letter
+-- whether a text begins with an ASCII letter
 abbrev pub begins_letter : List ℕ → Bool
 begins_letter [] = false
 begins_letter (c ∷ cs) = is_ascii_alphabetic c
@@ -227,7 +227,7 @@ accented_letter (Command ∷ rest) = None
 abbrev pub accented_count : List Sign → ℕ
 accented_count ss = if first_sign_passes is_opening ss then 3 else 1
 
--- an accent before the signs after its name, whose length is `size`: it is put on a character after white space
+-- an accent before the signs after its name, whose length is `size`: it is put on a character, before which white space may come
 abbrev pub accent_reduced : ℕ → ℕ → List Sign → Reduction
 accent_reduced mark size rest =
     let white : ℕ = white_count rest in
@@ -314,12 +314,12 @@ spot_after spot (Plain c) = spot_after_plain spot c
 spot_after spot (Composed c) = if awaits_character spot then Closed else Free
 spot_after spot (Grouped c) = if is_free spot then Free else Closed
 
--- the text of a composed character: in braces where a command may take it as its argument, since pdfLaTeX takes the first byte of a
+-- the text of a composed character: in braces if a command may take it as its argument, since pdfLaTeX takes the first byte of a
 -- character as an argument, and since the name of a command must end before a letter
 abbrev pub composed_text : Spot → ℕ → List ℕ
 composed_text spot c = if awaits_character spot then char.open_brace ∷ c ∷ char.close_brace ∷ [] else c ∷ []
 
--- the text of a sign. The braces of a grouped character are kept where a command may take them as its argument.
+-- the text of a sign. The braces of a grouped character are kept if a command may take them as its argument.
 abbrev pub written_sign : Spot → Sign → List ℕ
 written_sign spot Command = char.backslash ∷ []
 written_sign spot Opening = char.open_brace ∷ []

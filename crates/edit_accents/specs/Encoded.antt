@@ -132,6 +132,6 @@ encoded stretch is_escaped [] = []
 encoded stretch true (c ∷ cs) = c ∷ encoded stretch false cs
 encoded stretch false (c ∷ cs) = character_text stretch c cs ++ encoded (stretch_after stretch c cs) (c == char.backslash) cs
 
--- a text with its characters beyond ASCII as LaTeX commands for accents and letters
+-- a text with LaTeX commands for accents and letters instead of the characters beyond ASCII that have one and may change
 abbrev pub with_commands : List ℕ → List ℕ
 with_commands text = encoded Text false text

@@ -58,7 +58,7 @@ is_kept_field name =
     is_reference_field name || str_eq_ignore_ascii_case name (codes "ids") || str_eq_ignore_ascii_case name (codes "keywords")
     || is_program_field name
 
--- whether the value of a field may change: verbatim fields and fields with keys stay
+-- whether the value of a field may change: verbatim fields, fields with keys and fields of other programs stay the same
 abbrev pub is_recodable_field : FieldReading → Bool
 is_recodable_field f = not (is_verbatim_field (str_to_ascii_lowercase f.name.text)) && not (is_kept_field f.name.text)
 

@@ -8,7 +8,7 @@ use crate::commands::{accent_mark, composed, named_letter};
 use crate::signs::Sign;
 use std::alloc::{AllocError, Global};
 
-// What a sign becomes before other signs: another sign, and the number of these that it takes with it.
+// The result of reducing a sign before other signs: the new sign, and the number of the following signs that it replaces too.
 #[derive(Clone, Copy)]
 pub(crate) struct Reduction {
     pub(crate) sign: Sign,

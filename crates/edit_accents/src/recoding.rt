@@ -220,7 +220,7 @@ fn is_kept_field(name: &str) -> bool
         || is_program_field(name)
 }
 
-// Returns whether the value of a field may change: verbatim fields and fields with keys stay.
+// Returns whether the value of a field may change: verbatim fields, fields with keys and fields of other programs stay the same.
 fn is_recodable(alloc: Global, field: &Pair<'_>) -> Result<bool, AllocError>
     ensures { IfOk result (λ b. b ≡ spec.is_recodable_field (field_of field.now)) }
 {
@@ -322,9 +322,9 @@ fn edits(
     Ok(edits)
 }
 
-/// Returns the text of `document`, in whose entries accents and letters beyond ASCII are written in the form `form`: LaTeX commands become
-/// characters, or characters become LaTeX commands. Verbatim fields, fields with keys, math, and addresses and keys in commands stay the
-/// same. The only error is out of memory.
+/// Returns the text of `document`, in whose entries accents and letters beyond ASCII are written in the form `form`: LaTeX
+/// commands become characters, or characters become LaTeX commands. Verbatim fields, fields with keys, fields of other programs,
+/// math, and addresses and keys in commands stay the same. The only error is out of memory.
 pub fn recode(alloc: Global, document: &RawDocument<'_>, form: Form) -> Result<String, AllocError>
     ensures { IfOk result (λ new. IsRecoded form document.now (string_bytes new)) }
 {

@@ -53,7 +53,7 @@ fn begins_address_word(text: &[char]) -> bool
         || text.starts_with(&['C', 'i', 't', 'e'])
 }
 
-// Returns whether the text after a backslash begins with the name of a command whose first argument in braces is an address or a key.
+// Returns whether the name of a command at the start of the text after a backslash contains a word of `begins_address_word`.
 fn begins_address(text: &[char]) -> bool
     ensures { result ≡ spec.begins_address text.now }
 {
@@ -84,7 +84,7 @@ fn sign_of(stretch: Stretch, c: char) -> Sign
     Sign::Plain(c)
 }
 
-// Returns whether a text begins with a letter.
+// Returns whether a text begins with an ASCII letter.
 fn begins_letter(text: &[char]) -> bool
     ensures { result ≡ spec.begins_letter text.now }
 {
@@ -130,7 +130,8 @@ fn stretch_after_text(c: char, rest: &[char]) -> Stretch
     Stretch::Text
 }
 
-// Returns the stretch after a character between the name of an accent and its argument, or after the argument.
+// Returns the stretch after a character that follows the name of an accent: white space or a brace before its argument, or the
+// argument itself.
 fn stretch_after_accent(c: char, rest: &[char]) -> Stretch
     ensures after { result ≡ spec.stretch_after Accent c rest.now }
     ensures count { open_count result ≡ 0 }

@@ -15,7 +15,7 @@ use std::alloc::{AllocError, Global};
 /// The place in a text before a sign.
 #[derive(Debug, Clone, Copy, PartialEq, Eq)]
 pub enum Spot {
-    /// No command directly before it can take it as its argument.
+    /// No command directly before it can take the next sign as its argument.
     Free,
     /// It is after the backslash of a command.
     Begun,
@@ -27,7 +27,7 @@ pub enum Spot {
     Closed,
 }
 
-// Returns the spot after a character beside the names of commands.
+// Returns the spot after a character that isn't part of a command's name.
 fn spot_beside_names(c: char) -> Spot
     ensures { result ≡ spec.spot_beside_names c }
 {

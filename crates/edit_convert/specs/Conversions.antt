@@ -64,7 +64,7 @@ times_named fields name = length (filter (has_name name) fields)
 abbrev pub is_date_free : List FieldReading → Bool
 is_date_free fields = (times_named fields (codes "date") == 1) && not (list_any (is_field_there fields) part_names)
 
--- the sides of a date, if its value is one literal that is such a date
+-- the sides of a date that BibTeX has fields for, given the text of the value if it is one literal
 abbrev pub value_sides : Option (List ℕ) → Option Sides
 value_sides None = None
 value_sides (Some text) = date_sides text
@@ -263,6 +263,6 @@ conversion dialect defines text e =
 abbrev pub document_conversion : Dialect → Document → EntryReading → EntryChange
 document_conversion dialect d = conversion dialect (defines_month d.says.abbreviations) d.text
 
--- a text is a document's, converted to a dialect, and parses so
+-- a text is that of a document converted to a dialect, and it parses to the converted entries
 abbrev pub IsConverted : Dialect → Document → List ℕ → Type 0
 IsConverted dialect d text = IsChanged (document_conversion dialect d) d text

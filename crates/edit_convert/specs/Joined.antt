@@ -17,7 +17,7 @@ use Rattle.edit_convert.specs.Dates.{are_digits}
 abbrev pub is_short_number : List ℕ → Bool
 is_short_number text = are_digits 1 text || are_digits 2 text
 
--- whether a text can be the number or the name of a month, with nothing else
+-- whether a text is a number of one or two digits, or consists of ASCII letters only, as the name of a month does
 abbrev pub is_month_alone : List ℕ → Bool
 is_month_alone text = is_short_number text || list_all is_ascii_alphabetic text
 
@@ -33,7 +33,8 @@ month_date_text (Some d) =
     if is_some (first_side d.value).month && is_some (readable_value (date_of (datetime_text (first_side d.value))))
     then Some (datetime_text (first_side d.value)) else None
 
--- the text of the date that a year in four digits, a month and perhaps a day are parsed as, if they are a date
+-- the text of the date that a year, a month and perhaps a day are parsed as; `None` if the year isn't four digits, if the month
+-- names no month, if the day is no number, or if they are no date
 abbrev pub joined_text : List ℕ → List ℕ → Option (List ℕ) → Option (List ℕ)
 joined_text year month day =
     if are_digits 4 year && (is_month_alone month && is_day_alone day)

@@ -75,7 +75,7 @@ fn push_date_edit(
     Ok(())
 }
 
-// Adds the edit that removes a field, up to the next one.
+// Adds the edit that removes a field, up to the next one. Does nothing if there is no next one.
 fn push_removal(
     edits: &mut Vec<Edit>,
     alloc: Global,
@@ -376,8 +376,9 @@ fn edits(
 /// **Types.** The name of a type that has another name in the dialect is replaced, in any ASCII case. A type that neither BibTeX nor
 /// BibLaTeX has is kept.
 ///
-/// For BibLaTeX a Master's thesis, a PhD thesis and a technical report without a field `type` get `type = {mathesis}`, `{phdthesis}` or
-/// `{techreport}`, as Biber reads them, before the first field that is kept. If no field is kept, the name of the type is kept too.
+/// For BibLaTeX a Master's thesis, a PhD thesis and a technical report without a field `type` get `type = {mathesis}`,
+/// `{phdthesis}` or `{techreport}`, as Biber reads them, before the first field that is unchanged. If there is no such field, the
+/// name of the type is kept.
 ///
 /// For BibTeX a thesis or report with one field `type` of these values becomes that type, and the field is removed. If the field is the
 /// last one, or a comment occurs between it and the next one, it gets the text that the standard styles print: `Master's thesis`,
@@ -388,15 +389,17 @@ fn edits(
 /// becomes `school`. A name is kept if the entry has a field with the other name.
 ///
 /// **Dates.** For BibTeX a `date` is replaced by `year`, and by `month` and `day` if it has them; a range also by `endyear`, `endmonth`
-/// and `endday`. This is done if its value is one literal that reads as a date, if each side is a year in four digits, perhaps with a
-/// month and a day in two each, and if the entry has one `date` and none of these fields. A month is written as its abbreviation. It is
-/// written as its English name in braces if the file defines the abbreviation of a month, since that may have another text.
+/// and `endday`. This is done if its value is one literal that parses as a date, if each side is a year in four digits, perhaps
+/// with a month and a day in two each, and if the entry has one `date` and none of these fields. A month is written as its
+/// abbreviation. It is written as its English name in braces if the file defines the abbreviation of a month, since that may have
+/// another text.
 ///
 /// For BibLaTeX `year` and `month`, and `day` if there is one, are joined to one `date`: the last of them is replaced by the date, and
-/// the others are removed. This is done if all of the following hold. The entry has one of each and no other date. The year is one
-/// literal of four digits. The month is the abbreviation of a month, and the file defines no such abbreviation, or the month is one
-/// literal that is the English name of a month, its first three letters or its number. The day, if there is one, is one literal of one or
-/// two digits. The parts are a date that exists. No comment would be removed.
+/// the others are removed. This is done if all of the following hold. The entry has one of each, and none of the fields `date`,
+/// `endyear`, `endmonth` and `endday`. The year is one literal of four digits. The month is the abbreviation of a month, and the
+/// file defines no such abbreviation, or the month is one literal that is the English name of a month, its first three letters or
+/// its number. The day, if there is one, is one literal of one or two digits. The parts are a date that exists. No comment would
+/// be removed.
 ///
 /// # Errors
 ///

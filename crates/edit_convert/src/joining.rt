@@ -47,7 +47,7 @@ fn is_short_number(text: &str) -> bool
     are_digits(1, text) || are_digits(2, text)
 }
 
-// Returns whether a text can be the number or the name of a month, with nothing else.
+// Returns whether a text is a number of one or two digits, or consists of ASCII letters only, as the name of a month does.
 fn is_month_alone(text: &str) -> bool
     ensures { result ≡ spec.is_month_alone text.now }
 {
@@ -132,7 +132,8 @@ fn month_date_text(alloc: Global, date: &Date) -> Result<Option<String>, AllocEr
     Ok(Some(text))
 }
 
-// Returns the text of the date that a year in four digits, a month and perhaps a day are parsed as, if they are a date.
+// Returns the text of the date that `year`, `month` and `day` are parsed as. Returns `None` if `year` isn't four digits, if
+// `month` names no month, if `day` is no number, or if they are no date.
 fn joined_text(
     alloc: Global,
     year: &str,

@@ -2,22 +2,22 @@
 
 ghost use Rattle.edit_convert.specs.Laws.{JoinedIsTheSame, JoinedStaysApart, NamesStayApart, PartsStayApart};
 
-/// The new name of a field is not that of another field of its entry.
+/// States that the new name of a field is not that of another field of its entry.
 pub fn names_stay_apart()
     ensures { NamesStayApart }
 {}
 
-/// A date is replaced by fields of its parts only if its entry has none of these fields.
+/// States that a date is replaced by fields of its parts only if its entry has none of these fields.
 pub fn parts_stay_apart()
     ensures { PartsStayApart }
 {}
 
-/// The date that replaces its parts is parsed as the date of these parts.
+/// States that the date that replaces its parts is parsed as the date of these parts.
 pub fn joined_is_the_same()
     ensures { JoinedIsTheSame }
 {}
 
-/// The parts of a date are joined only if their entry has no date.
+/// States that the parts of a date are joined only if their entry has no field `date`.
 pub fn joined_stays_apart()
     ensures { JoinedStaysApart }
 {}

@@ -28,7 +28,8 @@ use std::alloc::{AllocError, Global};
 pub enum NoteKind {
     /// The field keeps its name, because its entry has a field with the dialect's name for it.
     NameIsThere,
-    /// The field is a `date` that isn't replaced: BibTeX has no fields for it, or its entry already has such fields or another `date`.
+    /// The field is a `date` that isn't replaced: its value isn't one literal, BibTeX has no fields for it, or its entry already
+    /// has such fields or another `date`.
     DateStays,
     /// The field is a `month` that isn't joined with a year to a date.
     MonthStays,

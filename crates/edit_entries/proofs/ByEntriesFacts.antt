@@ -3,7 +3,7 @@ use Rattle.std.proofs.Common.{◌≡◌, ◌⊎◌, inl, inr, [], ◌++◌, refl
 use Rattle.std.specs.Prelude.{ℕ, ◌==◌, not, ◌&&◌, true}
 use Rattle.bib_text.specs.Places.{Place, CharAt}
 use Rattle.bib_syntax.specs.Reading.{Part, EntryReading, FileReading, then}
-use Rattle.bib_syntax.specs.Recovery.{entry_alone}
+use Rattle.bib_syntax.specs.Kept.{entry_alone}
 use Rattle.bib_syntax.specs.Grammar.{LineComment, BlockKind, Body, Block, File, longest}
 use Rattle.bib_syntax.specs.Grammar.{Body as body}
 use Rattle.bib_syntax.specs.Grammar.{File as file}

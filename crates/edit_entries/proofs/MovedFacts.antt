@@ -6,7 +6,7 @@ use Rattle.bib_text.specs.Places.{Place, CharAt, Run}
 use Rattle.bib_text.specs.Places.Run.{stop, step}
 use Rattle.bib_text.proofs.PlaceFacts.{Ahead, ahead_then, ahead_char, char_left}
 use Rattle.bib_syntax.specs.Reading.{Part, FieldReading, EntryReading, FileReading, then}
-use Rattle.bib_syntax.specs.Recovery.{entry_alone}
+use Rattle.bib_syntax.specs.Kept.{entry_alone}
 use Rattle.bib_syntax.specs.Grammar.{BlockKind, Body, File, longest}
 use Rattle.bib_syntax.specs.Grammar.{Body as body}
 use Rattle.bib_syntax.specs.Grammar.{File as file}

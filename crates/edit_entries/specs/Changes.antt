@@ -1,6 +1,5 @@
 -- Meaning: words of public contracts.
--- Changes of entries: new names of their types, and new names, new values and other fields instead of their fields. The text with these
--- changes, and its reading.
+-- Changes of entries: new names of their types, and changes of their fields. The text with these changes, and its reading.
 use Rattle.std.specs.Prelude.{◌≡◌, ℕ, ◌+◌, List, [], ◌∷◌, ◌++◌, codes, length, map, Option, Some, None}
 use Rattle.std.specs.Char.{is_whitespace}
 use Rattle.std.specs.List.{flat_map}
@@ -165,7 +164,7 @@ entry_changed e change = record e { kind = with_other_text e.kind change.kind; f
 abbrev pub file_changed : (EntryReading → EntryChange) → FileReading → FileReading
 file_changed changes says = record says { entries = map (λ e. entry_changed e (changes e)) says.entries }
 
--- a text is a document's with the changes of its entries, and parses to its reading with these changes
+-- a text is a document's with the changes of its entries, and parses to its reading with these changes, except for byte offsets
 pub record IsChanged (changes : EntryReading → EntryChange) (d : Document) (text : List ℕ) : Type 0 where
   pub is : text ≡ text_changed changes d
   pub read : IsReadPlaceless (file_changed changes d.says) text

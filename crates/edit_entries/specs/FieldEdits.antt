@@ -35,8 +35,9 @@ name_change old new f = if has_name old f then FieldChange.renamed new else Fiel
 abbrev pub names_changed : List ℕ → List ℕ → EntryReading → EntryChange
 names_changed old new e = record { kind = None; fields = map (name_change old new) e.fields }
 
--- the change of an entry by an edit. `Set`: each field with the name gets the value; if there is none, a new field comes first. `Add`: if
--- no field has the name, a new field comes first. `Rename`: each field with the old name gets the new one, unless a field has that already.
+-- The change of an entry by an edit. An entry without fields is kept. `Set`: each field with the name gets the value; if there
+-- is none, a new field comes first. `Add`: if no field has the name, a new field comes first. `Rename`: each field with the old
+-- name gets the new one, unless a field has that already.
 abbrev pub entry_edited_by : List ℕ → FieldEdit → EntryReading → EntryChange
 entry_edited_by text (Set name value) e =
     if has_named name.now e then values_set name.now (value_of value) e else new_field_first text name.now (value_of value) e.fields
@@ -71,7 +72,8 @@ abbrev pub first_start : (List ℕ → Bool) → ℕ → List EntryReading → �
 first_start selected other [] = other
 first_start selected other (e ∷ es) = if selected e.key.text then e.start else first_start selected other es
 
--- the value of an edit can't be written in the first entry with a selected key; this is the error for it
+-- the value of an edit can't be written in the first entry with a selected key, or at the end of the text if there is none; this
+-- is the error for it
 pub record CantBeEdited (d : Document) (selected : List ℕ → Bool) (edit : FieldEdit) (error : EditError) : Type 0 where
   pub because : IsValueError edit error
   pub unfit : HasFitValue d.says.abbreviations (first_start selected (length d.text) d.says.entries) edit → ⊥

@@ -23,7 +23,7 @@ after_equals text f = after_first (λ b. eqb b char.equals) (sign_text text f)
 abbrev pub is_blank_byte : ℕ → Bool
 is_blank_byte b = b == char.space || b == char.tab
 
--- the bytes from the start of a field's name to its equals sign
+-- the number of bytes from the start of a field's name to its equals sign
 abbrev pub sign_column : List ℕ → FieldReading → ℕ
 sign_column text f = length f.name.text + length (before_equals text f)
 
@@ -46,8 +46,9 @@ padding_or None name white = white
 abbrev pub new_before_sign : List ℕ → List ℕ → FieldReading → List FieldReading → List ℕ
 new_before_sign text name first fields = padding_or (wide_column text fields) name (before_equals text first)
 
--- the text between the name and the value of a new field before these, of which this is the first: as in the first one, if that has
--- only spaces and tabs there
+-- The text between the name and the value of a new field before these, of which this is the first. If the first one has only
+-- spaces and tabs around its equals sign, the white space before the sign is `new_before_sign`, and that after it is as in the
+-- first one. Otherwise one space is before and after the sign.
 abbrev pub new_sign : List ℕ → List ℕ → FieldReading → List FieldReading → List ℕ
 new_sign text name first fields =
     if list_all is_blank_byte (before_equals text first) && list_all is_blank_byte (after_equals text first)

@@ -82,7 +82,8 @@ abbrev pub is_defined : List FieldReading → ℕ → List ℕ → Bool
 is_defined definitions at name =
     is_some (month_of_abbreviation name) || list_any (is_defined_before at name) definitions
 
--- a text can be a value without braces at a byte offset: a number, or the name of an abbreviation that is defined before it
+-- a text can be a value without braces at a byte offset: a number, or the name of an abbreviation that is a month or is defined
+-- before it
 pub data IsBare (definitions : List FieldReading) (at : ℕ) (text : List ℕ) : Type 0 where
   number : is_bare_number text ≡ true → IsBare definitions at text
   named : CanBeNewName text → is_defined definitions at text ≡ true → IsBare definitions at text

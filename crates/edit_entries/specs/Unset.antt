@@ -30,7 +30,8 @@ has_percent text start end = list_any (λ b. b == char.percent) (between (place 
 abbrev pub comma_end : List ℕ → FieldReading → ℕ
 comma_end text f = if has_byte_at text f.value.end char.comma then f.value.end + 1 else value_end text f
 
--- the edit that removes a field without a comment before it, with the white space before it and its comma: what is after its comma stays
+-- the edit that removes a field without a comment before it, with the white space before it and its comma; the text after its
+-- comma stays
 abbrev pub line_edit : List ℕ → EntryReading → ℕ → FieldReading → Edit
 line_edit text e j f = record { start = end_before e j + 1; end = comma_end text f; bytes = [] }
 
@@ -93,7 +94,8 @@ commented_edit text e j f =
     then following_edit text e j f
     else None
 
--- the edit that removes a field and no comment, if a comma is directly after the value before it, and no comment directly after its own
+-- the edit that removes a field and no comment, if a comma is directly after the value or the key before it, and no comment is
+-- directly after its own value
 abbrev pub own_edit : List ℕ → EntryReading → ℕ → FieldReading → Option Edit
 own_edit text e j f =
     if has_byte_at text (end_before e j) char.comma && not (has_byte_at text f.value.end char.percent)

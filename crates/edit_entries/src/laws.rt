@@ -1,4 +1,4 @@
-//! Laws of edits. These functions do nothing; their clauses are proved of the definitions.
+//! Laws of edits. These functions do nothing; their clauses are proved from the definitions.
 
 ghost use Rattle.std.specs.Prelude.{ℕ, List};
 ghost use Rattle.edit_entries.specs.Documents.{Document};

@@ -199,7 +199,7 @@ fn comma_end(text: &str, field: &Pair<'_>) -> usize
     value_end(text, field)
 }
 
-// Returns the number of bytes of white space at the start.
+// Returns the number of bytes of ASCII white space at the start.
 fn white_len(bytes: &[u8]) -> usize
     ensures { result ≡ prefix_len is_ascii_whitespace bytes.now }
 {
@@ -213,7 +213,7 @@ fn line_len(bytes: &[u8]) -> usize
     bytes.iter().take_while(|b| **b != b'\n').count()
 }
 
-// Returns the number of bytes of white space at the start, up to the first line feed.
+// Returns the number of bytes of ASCII white space at the start, up to the first line feed.
 fn blank_len(bytes: &[u8]) -> usize
     ensures { result ≡ prefix_len unset.is_line_space bytes.now }
 {
@@ -223,7 +223,7 @@ fn blank_len(bytes: &[u8]) -> usize
         .count()
 }
 
-// Returns the byte offset after the white space at the start of the text between two byte offsets.
+// Returns the byte offset after the ASCII white space at the start of the text between two byte offsets.
 fn white_end(text: &str, start: usize, end: usize) -> usize
     ensures { result ≡ unset.after_bytes is_ascii_whitespace text.now start end }
 {
@@ -237,7 +237,8 @@ fn line_feed(text: &str, start: usize, end: usize) -> usize
     start + line_len(stretch(text, start, end))
 }
 
-// Returns the byte offset after the white space at the start of the text between two byte offsets, up to its first line feed.
+// Returns the byte offset after the ASCII white space at the start of the text between two byte offsets, up to its first line
+// feed.
 fn blank_end(text: &str, start: usize, end: usize) -> usize
     ensures { result ≡ unset.after_bytes unset.is_line_space text.now start end }
 {

@@ -35,7 +35,7 @@ spaces count = replicate count char.space
 abbrev pub longest_name : List FieldReading → ℕ
 longest_name fields = fold (λ width f. max (length (chars f.name.text)) width) 0 fields
 
--- the number of characters to which the names of an entry's fields are padded
+-- the number of characters to which the names of an entry's fields are padded: 0 if the style doesn't align them
 abbrev pub padded_width : Style → List FieldReading → ℕ
 padded_width style fields = if style.aligned then longest_name fields else 0
 
@@ -160,19 +160,19 @@ says_in_order style text says = record says { entries = map (entry_in_order styl
 abbrev pub part_in_lowercase : Part → Part
 part_in_lowercase p = record p { text = str_to_ascii_lowercase p.text }
 
--- a field with its name in lowercase
+-- a field with the ASCII letters of its name in lowercase
 abbrev pub field_in_lowercase : FieldReading → FieldReading
 field_in_lowercase f = record f { name = part_in_lowercase f.name }
 
--- an entry with its type and the names of its fields in lowercase
+-- an entry with the ASCII letters of its type and of the names of its fields in lowercase
 abbrev pub entry_in_lowercase : EntryReading → EntryReading
 entry_in_lowercase e = record e { kind = part_in_lowercase e.kind; fields = map field_in_lowercase e.fields }
 
--- an entry with its type and the names of its fields in lowercase, and without spans (all offsets are 0)
+-- an entry with the ASCII letters of its type and of the names of its fields in lowercase, and without spans (all offsets are 0)
 abbrev pub entry_content : EntryReading → EntryReading
 entry_content e = moved_entry (λ at. 0) (entry_in_lowercase e)
 
--- a reading without spans, with entry types and field names in lowercase
+-- a reading without spans, with the ASCII letters of entry types and field names in lowercase
 abbrev pub content : FileReading → FileReading
 content says = record {
   preamble = says.preamble;

@@ -18,7 +18,7 @@ use bib_syntax::raw::{Pair, RawEntry};
 use bib_text::spanned::Spanned;
 use std::alloc::{AllocError, Global};
 
-// Appends the head of an entry: `@`, its type in lowercase, `{` and its key.
+// Appends the head of an entry: `@`, its type with ASCII letters in lowercase, `{` and its key.
 fn push_head(alloc: Global, new: &mut String, kind: &str, key: &str) -> Result<(), AllocError>
     ensures { OnOk result (string_bytes new.new ≡ string_bytes new.old ++
         (codes "@" ++ (str_to_ascii_lowercase kind.now ++ (codes "{" ++ key.now)))) }

@@ -22,7 +22,7 @@ pub record IsKeyRenamed (keys : ℕ → Option (List ℕ)) (one other : Entry) :
 
 -- ---- raw readings
 
--- where both documents have an entry at an index, the second one has the new key for this index, or the old key if there is none
+-- if both documents have an entry at an index, that of the second one has the new key for this index, or the old key without one
 abbrev pub HaveGivenKeys : (ℕ → Option (List ℕ)) → Document → Document → Type 0
 HaveGivenKeys keys d after =
     (index : ℕ) (one other : EntryReading) → slice_get d.says.entries index ≡ Some one → slice_get after.says.entries index ≡ Some other

@@ -28,9 +28,9 @@ ghost use Rattle.edit_sort.specs.Sorted.{IsReadSorted};
 ghost use Rattle.edit_strings.specs.Collected.{AreMadeAbbreviations};
 ghost use Rattle.edit_strings.specs.Expanded.{IsExpanded};
 
-/// If a text is accepted, a formatted text is too, and gives the same bibliography, except for spans and the borders of chunks.
-/// The formatted text is any text that parses to the entries of the old one with the fields in the order of a style, except for
-/// spans and the case of entry types and field names.
+/// States that, if a text is accepted, a formatted text is too, and gives the same bibliography, except for spans and the borders
+/// of chunks. The formatted text is any text that parses to the entries of the old one with the fields in the order of a style,
+/// except for spans and the case of entry types and field names.
 pub fn formatted_is_alike()
     ensures accepted { (style : Style) (text new : List ℕ) (says : FileReading) (e : ParseError) → IsRawReading text says →
         IsReadAlike (says_in_order style text says) new → IsAcceptedText text → IsErrorOf new e → ⊥ }
@@ -38,9 +38,10 @@ pub fn formatted_is_alike()
         IsReadAlike (says_in_order style text says) new → IsBibliographyOf text one → IsBibliographyOf new other → AreAlike one other }
 {}
 
-/// If a text is accepted, its text with expanded abbreviations is too, and gives the same bibliography, except for spans and the borders
-/// of chunks. Each name of the text has the same definition by the rule of the expansion, the last one before the use in any ASCII case,
-/// and by the rule of the library, the last one in the file with exactly this name.
+/// States that, if a text is accepted, its text with expanded abbreviations is too, and gives the same bibliography, except for
+/// spans and the borders of chunks. The premise is that two rules give the same definition for each name of the text: that of the
+/// expansion, the last one before the use in any ASCII case, and that of the library, the last one in the file with exactly this
+/// name.
 pub fn expanded_is_alike()
     ensures accepted { (d : Document) (text : List ℕ) (e : ParseError) → IsDocument d → IsExpanded d text → AreDefinedAlike d.says →
         IsAcceptedText d.text
@@ -49,8 +50,8 @@ pub fn expanded_is_alike()
         → IsBibliographyOf d.text one → IsBibliographyOf text other → AreAlike one other }
 {}
 
-/// If a text is accepted, its text with collected abbreviations is too, and gives the same bibliography, except for spans and the borders
-/// of chunks.
+/// States that, if a text is accepted, its text with collected abbreviations is too, and gives the same bibliography, except for
+/// spans and the borders of chunks.
 pub fn collected_is_alike()
     ensures accepted { (d : Document) (fields : List (List ℕ)) (least : ℕ) (text : List ℕ) (e : ParseError) → IsDocument d
         → AreMadeAbbreviations d fields least text → IsAcceptedText d.text → IsErrorOf text e → ⊥ }
@@ -58,9 +59,9 @@ pub fn collected_is_alike()
         → AreMadeAbbreviations d fields least text → IsBibliographyOf d.text one → IsBibliographyOf text other → AreAlike one other }
 {}
 
-/// After a field is set to a text or a number, the entry with the key has the contents of the text in this field. Each bibliography of the
-/// new text has one such entry. Its field has these contents after inheriting too, with three exceptions: `xdata` is removed, and an
-/// inherited date replaces `month` and `day`.
+/// States that, after a field is set to a text or a number, the entry with the key has the contents of the text in this field.
+/// Each bibliography of the new text has one such entry. Its field has these contents after inheriting too, with three
+/// exceptions: `xdata` is removed, and an inherited date replaces `month` and `day`.
 ///
 /// Before inheriting, all other fields of the file are as they were. After inheriting, they are too, if the field isn't `ids`, a reference
 /// or a part of a date. Entries that can inherit from this one are excluded. The new text is then accepted if the old one is, and if the
@@ -82,7 +83,8 @@ pub fn set_is_read()
         → CanBeFieldContents (str_to_ascii_lowercase name) text → IsAcceptedText d.text → IsErrorOf after.text e → ⊥ }
 {}
 
-/// After a field is unset, the entry with the key lacks this field before inheriting, and all other fields of the file are as they were.
+/// States that, after a field is unset, the entry with the key lacks this field before inheriting, and all other fields of the
+/// file are as they were.
 ///
 /// If the field isn't `ids`, a reference or a part of a date, the entry of a bibliography has the field exactly if it inherits the
 /// field. All other fields of the bibliography are then as they were, except in entries that can inherit from this one. The new text
@@ -102,8 +104,9 @@ pub fn unset_is_read()
         → IsErrorOf after.text e → ⊥ }
 {}
 
-/// After an entry is removed, the other entries are as they were before inheriting. If no entry refers to the removed one by `crossref` or
-/// `xdata`, the bibliography of the new text is that of the old one without this entry. The new text is then accepted if the old one is.
+/// States that, after an entry is removed, the other entries before inheriting are as they were. If no entry refers to the
+/// removed one by `crossref` or `xdata`, the bibliography of the new text is that of the old one without this entry. The new
+/// text is then accepted if the old one is.
 pub fn removal_is_read()
     ensures own { (d after : Document) (key : List ℕ) (own others : List Entry) → EntryRemoved d key after → AreOwn d.says own
         → AreOwn after.says others → AreWithout own others key }
@@ -114,8 +117,9 @@ pub fn removal_is_read()
         → EntryRemoved d key after → AreOwn d.says own → IsUnreferenced own key → IsAcceptedText d.text → IsErrorOf after.text e → ⊥ }
 {}
 
-/// After the entries of a file are sorted, they are the same before inheriting, in another order. If no two entries of the file claim one
-/// name, the bibliography has the same entries, and each name points to the same entry. The new text is then accepted if the old one is.
+/// States that, after the entries of a file are sorted, they are the same before inheriting, in another order. If no two entries
+/// of the file claim one name, the bibliography has the same entries, and each name points to the same entry. The new text is
+/// then accepted if the old one is.
 pub fn sorted_is_alike()
     ensures own { (d : Document) (places new : List ℕ) (says : FileReading) (own others : List Entry) → IsReadSorted d places new
         → AreOwn d.says own → IsRawReading new says → AreOwn says others → IsPermutation (map described own) (map described others) }
@@ -126,16 +130,16 @@ pub fn sorted_is_alike()
         → IsReadSorted d places new → AreOwn d.says own → AreClaimsDistinct own → IsAcceptedText d.text → IsErrorOf new e → ⊥ }
 {}
 
-/// After entries get new keys, each entry before inheriting has the same type and the same fields, except for reference fields. Its key is
-/// the old one or one of the new ones.
+/// States that, after entries get new keys, each entry before inheriting has the same type and the same fields, except for
+/// reference fields. Its key is the old one or one of the new ones.
 pub fn renamed_keeps_fields()
     ensures { (d after : Document) (keys : ℕ → Option (List ℕ)) (own others : List Entry) → KeysRenamed d keys after → AreOwn d.says own
         → AreOwn after.says others → AllZip (IsKeyRenamed keys) own others }
 {}
 
-/// After entries get new keys, each entry has its new key, or its old one if it gets none. Each reference leads to the entry that it led
-/// to: if a name in a reference field means an entry, the name in its place means the entry with the same index. This is about values that
-/// are one literal. A name that means no entry isn't covered, since it can be a new key.
+/// States that, after entries get new keys, each entry has its new key, or its old one if it gets none. Each reference leads to
+/// the entry that it led to: if a name in a reference field means an entry, the name in its place means the entry with the same
+/// index. This is about values that are one literal. A name that means no entry isn't covered, since it can be a new key.
 ///
 /// References have a premise: if an entry gets a new key, each earlier entry with the same key gets one too. This is so if, of several
 /// entries with one key, only the first gets a new one, as `rename` and `rekey` do.

@@ -51,8 +51,8 @@ sort_value_of property.Title chunks = title_value chunks
 sort_value_of property.Key chunks = None
 sort_value_of property.Type chunks = None
 
--- the order of two sort values: numbers by size, and lists of texts by the first text in which they differ; texts by their bytes. A
--- number is less than texts.
+-- the order of two sort values: numbers by size, and lists of texts by the first text in which they differ; texts by their bytes.
+-- A list that is the start of another is less, and a number is less than texts.
 abbrev pub value_cmp : SortValue → SortValue → Ordering
 value_cmp (Number n) (Number m) = nat_cmp n m
 value_cmp (Number n) (Texts us) = Less

@@ -10,7 +10,8 @@ use crate::values::SortValue;
 use bib_text::text::Text;
 use std::cmp::Ordering;
 
-// Compares two lists of texts: the first text in which they differ decides, by its bytes.
+// Compares two lists of texts: the first text in which they differ decides, by its bytes. A list that is the start of another is
+// less.
 fn texts_compared(first: &[Text], second: &[Text]) -> Ordering
     ensures { result ≡ slice_cmp (slice_cmp nat_cmp) first.now second.now }
 {

@@ -65,7 +65,7 @@ fn without_commands(alloc: Global, text: &str) -> Result<String, AllocError>
     Ok(out)
 }
 
-// Returns the letters, digits and gaps of a text, in lowercase and without accents.
+// Returns the letters, digits and gaps of a text outside of names of LaTeX commands, in lowercase and without accents.
 fn plain_text(alloc: Global, text: &str) -> Result<String, AllocError>
     ensures { IfOk result (λ plain. string_bytes plain ≡ spec.plain_text text.now) }
 {

@@ -6,7 +6,8 @@ ghost use Rattle.edit_orders.specs.Orders.{IsOrderRefused, order_parts, property
 
 use std::alloc::{AllocError, Global};
 
-/// A property by which entries can be sorted.
+/// A property by which entries can be sorted. An empty field counts as missing, and the last of several fields with one name
+/// counts.
 #[derive(Debug, Clone, Copy, PartialEq, Eq)]
 pub enum Property {
     /// The key, with ASCII letters in lowercase.
@@ -18,7 +19,7 @@ pub enum Property {
     Author,
     /// The title, without accents, case, punctuation and LaTeX markup.
     Title,
-    /// The entry type, in lowercase.
+    /// The entry type, with ASCII letters in lowercase.
     Type,
 }
 

@@ -30,7 +30,7 @@ fn push_text(alloc: Global, texts: &mut Vec<Text>, text: &str) -> Result<(), All
     Ok(())
 }
 
-// Appends the family name, the given name, the suffix and the prefix of a person, except for the word `others`.
+// Appends the family name, the given name, the suffix and the prefix of a person. Appends nothing for the family name `others`.
 fn push_person(alloc: Global, texts: &mut Vec<Text>, person: &Person) -> Result<(), AllocError>
     ensures { OnOk result (texts.new.items ≡ texts.old.items ++ spec.person_texts person.now) }
 {

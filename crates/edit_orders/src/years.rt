@@ -50,8 +50,8 @@ fn first_digits(text: &str) -> &str
     digits
 }
 
-// Returns the number of a text: the first digits in a row, before year 0 if the text is a hyphen up to them. Numbers are counted from
-// `-MOST`.
+// Returns the number of a text: the first digits in a row, before year 0 if the text before them is a hyphen. Numbers are counted
+// from `-MOST`.
 fn year_of(text: &str) -> Option<u64>
     ensures { result ≡ spec.year_by_digits text.now }
 {

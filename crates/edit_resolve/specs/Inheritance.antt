@@ -155,10 +155,10 @@ keeps_name parent child name =
     not (is_annotation name) && not (is_one_of never_by_crossref name)
     && not (is_some (titles_in parent child) && is_one_of own_titles name)
 
--- the fields that are never inherited by `xdata`
+-- the fields that no entry inherits from the entries that its `xdata` names
 abbrev pub never_by_xdata : List (List ℕ)
 never_by_xdata = codes "ids" ∷ codes "crossref" ∷ codes "xdata" ∷ codes "options" ∷ []
 
--- whether a field is inherited by `xdata`
+-- whether an entry inherits a field with this name from the entries that its `xdata` names
 abbrev pub passes_on : List ℕ → Bool
 passes_on name = not (is_annotation name) && not (is_one_of never_by_xdata name)

@@ -48,7 +48,8 @@ offers Crossref type child fields =
 abbrev pub is_read_as : List ℕ → Named → Bool
 is_read_as name n = bytes_eq (read_name n.name) name
 
--- the fields that a parent gives: Biber reads the fields of the entries that `xdata` names instead of own ones
+-- the fields of a parent that replace the entry's own fields of the same names, as in Biber: only those of entries that `xdata`
+-- names
 abbrev pub given_fields : Link → List Named → List Named
 given_fields Xdata fields = filter (λ n. passes_on (read_name n.name)) fields
 given_fields Crossref fields = []
@@ -71,7 +72,8 @@ in_place fields f = unwrap_or (substitute fields f) (as_itself f)
 abbrev pub is_ruled_out : List (List ℕ) → List ℕ → Bool
 is_ruled_out taken name = list_any (is_listed taken) (name ∷ unwrap_or (value_named rival_names name) [])
 
--- the offered fields that are inherited: each whose name isn't taken by an own field or by an offered field before it
+-- the offered fields that are inherited: each whose name isn't taken by an own field or by an inherited field before it. A name
+-- that excludes it mustn't be taken either.
 abbrev pub new_fields : List (List ℕ) → List Named → List Named
 new_fields taken [] = []
 new_fields taken (n ∷ offered) =
@@ -147,7 +149,7 @@ resolution text entries e = record {
   fields = field_resolutions text (is_resolved entries) (replacement entries e) (inherited entries e) e.fields;
 }
 
--- a text is a document's with inherited fields written out, and parses so
+-- a text is that of a document with inherited fields written out, and it parses to the entries with these fields
 abbrev pub IsResolved : Document → List ℕ → Type 0
 IsResolved d text = IsChanged (resolution d.text d.says.entries) d text
 

@@ -64,7 +64,7 @@ pub record IsGathered (taken : List (List ℕ)) (all : List Named) (g : Gathered
   pub names : (name : List ℕ) → contains_text g.names name ≡ is_listed taken name
   pub fields : map named_of g.fields.items ≡ all
 
--- the names of fields
+-- the names under which Biber reads fields
 abbrev pub read_names : List Named → List (List ℕ)
 read_names fields = map (λ n. read_name n.name) fields
 

@@ -23,7 +23,7 @@ use edit_entries::values::value_end;
 use std::alloc::{AllocError, Global};
 use std::collections::BTreeMap;
 
-// Adds the edit that removes a field, up to the next one.
+// Adds the edit that removes a field, up to the next one. Does nothing if there is no next one.
 fn push_removal(
     edits: &mut Vec<Edit>,
     alloc: Global,

@@ -153,7 +153,7 @@ fn push_all_kept<'a, 's>(
     Ok(())
 }
 
-// Adds the fields that a parent offers.
+// Adds each field that a parent offers, unless its name, or a name that excludes it, is taken.
 fn push_offers<'a, 's>(
     gathered: &mut Gathered<'a, 's>,
     alloc: Global,
@@ -213,7 +213,8 @@ fn own_fields<'a, 's>(
     Ok(own)
 }
 
-// Adds the fields that `parent` offers. `found` has the fields of each entry, and `kinds` the types.
+// Adds each field that `parent` offers, unless its name, or a name that excludes it, is taken. `found` contains the fields of
+// each entry, and `kinds` the types.
 fn push_parent<'a, 's>(
     gathered: &mut Gathered<'a, 's>,
     alloc: Global,
@@ -237,7 +238,7 @@ fn push_parent<'a, 's>(
     )
 }
 
-// Adds the fields that the parents of an entry offer.
+// Adds each field that a parent of an entry offers, parent by parent, unless its name, or a name that excludes it, is taken.
 fn push_parents<'a, 's>(
     gathered: &mut Gathered<'a, 's>,
     alloc: Global,
@@ -256,7 +257,8 @@ fn push_parents<'a, 's>(
     Ok(())
 }
 
-// Returns the fields of an entry, or those that take their places, and those that it inherits from its parents, which have these fields.
+// Returns the fields of the entry at `index`, or those that take their places, and those that it inherits from `parents`. `found`
+// has the fields of each entry.
 pub(crate) fn with_inherited<'a, 's>(
     alloc: Global,
     file: &File<'a, 's>,

@@ -18,8 +18,8 @@ use std::alloc::Global;
 /// Returns the text of a document in which inherited fields are written out, by the rules of inheritance of BibLaTeX.
 ///
 /// **References.** An entry inherits from the entries that its fields `crossref` (one key) and `xdata` (a list of keys) name, and from the
-/// entries that those inherit from. The value of such a field is one literal. A key finds the first entry with this key, or else the first
-/// entry with this name in its fields `ids`; `xdata` finds only entries of the type `xdata`.
+/// entries that those inherit from. A field whose value isn't one literal names no entry. A key finds the first entry with this
+/// key, or else the first entry with this name in its fields `ids`; `xdata` finds only entries of the type `xdata`.
 ///
 /// **Fields.** By `xdata` an entry inherits all fields except `ids`, `options`, `crossref`, `xdata` and annotations. By `crossref` the
 /// titles of the parent get other names, such as `booktitle`, if the types of both entries have such a rule; then `shorttitle`,
@@ -32,9 +32,9 @@ use std::alloc::Global;
 ///
 /// **Text.** The inherited fields replace the last reference of their entry, and its other references are removed, with the text up to
 /// the next field. Each value is written as its parent has it, with ` # ` between joined pieces. If nothing is inherited, the last
-/// reference is removed too, or kept if no field follows it. A field that takes the place of an own field is written there. A reference
-/// with a key that finds no entry is kept, and so is every other byte of the file. An entry whose references are all kept gets no other
-/// field.
+/// reference is removed too, or kept if no field follows it. A field that takes the place of an own field is written there. A
+/// reference with a key that finds no entry is kept, and so is every other byte of the file. An entry whose references are all
+/// kept gets no new field, but fields of the `xdata` parents that are found still take the places of own ones.
 ///
 /// # Errors
 ///

@@ -10,7 +10,8 @@ use Rattle.std.proofs.lemmas.List.{length-map}
 use Rattle.bib_text.specs.Places.{Place, place, between}
 use Rattle.bib_text.proofs.PlaceFacts.{ahead_then, ahead_char, ahead_run}
 use Rattle.bib_syntax.specs.Reading.{EntryReading, FileReading, then}
-use Rattle.bib_syntax.specs.Recovery.{entry_alone, has_byte}
+use Rattle.bib_syntax.specs.Kept.{entry_alone}
+use Rattle.bib_syntax.specs.Recovery.{has_byte}
 use Rattle.bib_syntax.specs.Grammar.{File, IsRawReading, longest}
 use Rattle.bib_syntax.specs.Grammar.{File as file}
 use Rattle.bib_syntax.proofs.FieldFacts.{ahead_fields, ahead_gap}

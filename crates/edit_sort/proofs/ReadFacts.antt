@@ -8,7 +8,8 @@ use Rattle.std.proofs.lemmas.List.{length-take-le, take-append-drop, take-take}
 use Rattle.bib_text.specs.Places.{Place, CharAt, between}
 use Rattle.bib_text.proofs.PlaceFacts.{Ahead, ahead_then, ahead_char, ahead_run, same_char, same_place}
 use Rattle.bib_syntax.specs.Reading.{EntryReading, FileReading, empty_reading}
-use Rattle.bib_syntax.specs.Recovery.{entry_alone, has_byte}
+use Rattle.bib_syntax.specs.Kept.{entry_alone}
+use Rattle.bib_syntax.specs.Recovery.{has_byte}
 use Rattle.bib_syntax.specs.Grammar.{Block, longest}
 use Rattle.bib_syntax.proofs.FieldFacts.{ahead_fields, ahead_gap}
 use Rattle.bib_syntax.proofs.FileFacts.{ahead_head}

@@ -43,7 +43,7 @@ points_to names index key = option_map_or (λ k. k == index) (get names (str_to_
 abbrev pub names_index : ByText ℕ → ℕ → FieldReading → Bool
 names_index names index f = option_map_or (points_to names index) (crossref f) false
 
--- the row of an index has the owners of the entries that name its key, and no other
+-- the row of an index has the owners of the entries that name a key that points to the index, and no other
 abbrev pub AreChildren : ByText ℕ → List EntryReading → Graph → Type 0
 AreChildren names entries graph = (test : ℕ → Bool) (index : ℕ)
     → list_any test (refs_of graph index) ≡ list_any (λ e. list_any (names_index names index) e.fields && test (owner names e)) entries

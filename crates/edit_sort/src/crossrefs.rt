@@ -162,7 +162,7 @@ fn empty_rows(alloc: Global, count: usize) -> Result<Vec<Vec<usize>>, AllocError
     Ok(found)
 }
 
-// Returns a row for each index: the owners of the entries whose `crossref` names the key of this index.
+// Returns a row for each index: the owners of the entries whose `crossref` names a key that points to this index.
 pub(crate) fn children_of(
     alloc: Global,
     names: &Claims,

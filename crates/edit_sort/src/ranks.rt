@@ -103,7 +103,8 @@ fn order_of(alloc: Global, graph: &[Vec<usize>]) -> Result<Vec<usize>, AllocErro
     }
 }
 
-// Returns the length of the longest chain that begins at each index, at most the number of indices. Removes the references on cycles.
+// Returns the length of the longest chain that begins at each index, at most the number of indices. Removes the references of
+// the indices on cycles.
 fn chain_lengths(alloc: Global, graph: &mut Vec<Vec<usize>>) -> Result<Vec<usize>, AllocError>
     requires { IsInRange (rows graph.old.items) }
     ensures { IfOk result (λ lengths. lengths.items ≡ longest_chains (rows graph.old.items)) }

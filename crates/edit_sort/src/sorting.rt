@@ -67,7 +67,7 @@ fn laid_out(
 ///   is sorted by itself.
 /// - ASCII white space after an entry stays. The rest of the text before an entry, such as a comment, moves with the entry.
 /// - Before the first entry of a run, only the text after the last blank line can move, without the white space at its start. It stays if
-///   it contains an at sign, a closing brace or a quote, because a block could end there.
+///   it contains an at sign, a closing brace or a quote, because a block could begin or end there.
 /// - BibTeX requires an entry before the entries that it names by `crossref`. So entries of a run are sorted by rank first. The rank of an
 ///   entry is the length of the longest chain of references that leads to it, and 0 if no entry names it. An entry on a cycle of
 ///   references, or after one, comes last. A `crossref` names an entry if its value is one text that is the key of the entry, in any ASCII

@@ -11,7 +11,7 @@ use Rattle.bib_text.specs.Places.{Place, place, CharAt, between}
 use Rattle.bib_text.proofs.PlaceFacts.{char_left, same_place}
 use Rattle.bib_syntax.specs.Reading.{Part, Piece, FieldReading, FileReading, EntryReading, then}
 use Rattle.bib_syntax.specs.Reading.Piece.{abbreviation}
-use Rattle.bib_syntax.specs.Recovery.{entry_alone}
+use Rattle.bib_syntax.specs.Kept.{entry_alone}
 use Rattle.bib_syntax.specs.Grammar.{Element, Identifier, IsRawReading, NoDigit, longest}
 use Rattle.edit_entries.specs.Changes.{edits_of_entries, file_changed, text_changed, IsReadPlaceless, NewValue}
 use Rattle.edit_entries.specs.Cuts.{AreEntriesCut, IsPieceCut}

@@ -153,7 +153,7 @@ known_name says text = option_map (λ f. f.name.text) (find (is_reusable says te
 abbrev pub first_letters : ℕ → List ℕ → List ℕ
 first_letters count word = encode_utf8_all (map to_ascii_lowercase (take count (filter is_ascii_alphabetic word)))
 
--- the first letter of each word of a text
+-- the first ASCII letter of each word of a text, in lowercase; a word without such a letter adds nothing
 abbrev pub initials : List ℕ → List ℕ
 initials text = flat_map (first_letters 1) (slice_split is_whitespace (chars text))
 
@@ -199,7 +199,7 @@ pub data AreNames (says : FileReading) : List (List ℕ) → List (List ℕ) →
 
 -- ---- the new values
 
--- the index of a text in a list of texts, if it is one of them
+-- the last index of a text in a list of texts, if it is one of them
 abbrev pub text_index : List (List ℕ) → Index
 text_index texts text = last_position (λ t. bytes_eq t text) texts
 

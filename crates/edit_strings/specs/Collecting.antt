@@ -68,7 +68,7 @@ AreNameCounts counts definitions =
 abbrev pub known_in : BTreeMap (Bor (List ℕ)) (Bor (List ℕ)) → List ℕ → Option (List ℕ)
 known_in known text = option_map (λ n. n.now) (get_by (λ k. slice_cmp nat_cmp text k.now) known)
 
--- the name for a text after one more definition, which can be reused for a text if there is one
+-- the name for a text after one more definition; `own` is the text for which that definition can be reused, if there is one
 abbrev pub learned : Option (List ℕ) → Option (List ℕ) → FieldReading → List ℕ → Option (List ℕ)
 learned (Some name) own f text = Some name
 learned None None f text = None
@@ -76,11 +76,11 @@ learned None (Some own) f text = cond (bytes_eq own text) (Some f.name.text) Non
 
 -- ---- new names
 
--- whether the word that a character belongs to has had its first letter, after this character
+-- whether the current word has had an ASCII letter up to a character, which is included; white space ends a word
 abbrev pub met_after : Bool → ℕ → Bool
 met_after met c = not (is_whitespace c) && (met || is_ascii_alphabetic c)
 
--- the first letter of a word in lowercase, if a character is it
+-- a character in lowercase if it is the first ASCII letter of its word, and nothing otherwise
 abbrev pub letter_at : Bool → ℕ → List ℕ
 letter_at met c = cond (not met && is_ascii_alphabetic c) (encode_utf8 (to_ascii_lowercase c)) []
 

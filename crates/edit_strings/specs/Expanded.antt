@@ -40,9 +40,9 @@ abbrev pub piece_index : Index → Piece → Option ℕ
 piece_index index (literal p) = None
 piece_index index (abbreviation p) = index p.text
 
--- the second list is the expansion of the first, whose place is after the first `count` definitions: a literal or a name without a
--- definition before this place stays, and each other name is replaced by the expansion of the pieces of its definition, whose place is
--- after the definitions before it
+-- the second list is the expansion of the first, whose place is after the first `count` definitions. A literal stays, and so does
+-- a name without a definition before this place. Each other name is replaced by the expansion of the pieces of its last
+-- definition before this place. The place of these pieces is after the definitions before theirs.
 pub data WritesOut (definitions : List FieldReading) : ℕ → List Piece → List Piece → Type 0 where
   none : {count : ℕ} → WritesOut definitions count [] []
   itself : {count : ℕ} {piece : Piece} {rest more : List Piece} → piece_index (index_before definitions count) piece ≡ None
@@ -91,7 +91,7 @@ abbrev pub is_use_of : List ℕ → Piece → Bool
 is_use_of name (literal p) = false
 is_use_of name (abbreviation p) = is_word name p.text
 
--- whether a piece is this name, or a name that has an index in the first way, but none in the second
+-- whether a piece is the name `own`, or a name that has an index in `all`, but none in `earlier`
 abbrev pub is_early_use : List ℕ → Index → Index → Piece → Bool
 is_early_use own all earlier piece =
     is_use_of own piece || (is_some (piece_index all piece) && not (is_some (piece_index earlier piece)))

@@ -105,7 +105,8 @@ IsIndexBelow size (IndexedPiece.indexed piece index) = IfSome index (λ i. i < s
 abbrev pub AreOrdered : List (List IndexedPiece) → Type 0
 AreOrdered rows = (i : ℕ) → i < length rows → AllByRecursion (IsIndexBelow i) (slice_index_or rows i [])
 
--- the visits of the expansion of a piece: its own, with the piece if it stays, and those of the row of its definition, down to a depth
+-- the visits of the expansion of a piece, down to a depth: one for the piece, which contains the piece if it stays, and then
+-- those of the row of its definition
 abbrev pub visits : List (List IndexedPiece) → ℕ → IndexedPiece → List (Option Piece)
 visits rows depth (IndexedPiece.indexed piece None) = Some piece ∷ []
 visits rows zero (IndexedPiece.indexed piece (Some i)) = []

@@ -229,13 +229,15 @@ fn with_collection(
 }
 
 /// Returns the text of `document` with repeated values replaced by abbreviations. A text is collected if it is the value of at
-/// least `at_least` fields of entries, as one literal, and can be written between braces, also for BibTeX, which counts a brace
-/// after a backslash. An `at_least` of 0 or 1 counts as 2. Only fields with one of the names `fields` count, in any ASCII case.
+/// least `at_least` fields of entries, as one literal. It must be possible to write it between braces, also for BibTeX, which
+/// counts a brace after a backslash. An `at_least` of 0 or 1 counts as 2. Only fields with one of the names `fields` count, in
+/// any ASCII case.
 ///
-/// If a definition before the first entry has the text as its value, the text gets the name of this definition, as it is written
-/// there. The name has no other definition in any ASCII case, isn't a month's abbreviation and has no leading digit. Each other text
-/// gets a new name: the first letters of its words in lowercase, up to 8 letters of a single word, or `s`. The least number from 2 on
-/// is added if the name is a month's abbreviation, or occurs in the file in any ASCII case, or is the name of an earlier text.
+/// A text gets the name of the first definition that can be reused for it, as the name is written there. Such a definition is
+/// before the first entry, and its value is the text as one literal. Its name has no other definition in any ASCII case and no
+/// leading digit, and isn't a month's abbreviation. Each other text gets a new name: the first ASCII letters of its words in
+/// lowercase, up to 8 letters of a single word, or `s` if there are none. The least number from 2 on is added if this name is a
+/// month's abbreviation, or is defined or used in the file in any ASCII case, or is the name of an earlier text.
 ///
 /// The definitions of new names are directly before the first entry, one line `@string{name = {text}}` for each, in the order of
 /// the first occurrences of the texts. Their line ends are CR LF if the first line of the text ends so, and LF otherwise. Everything

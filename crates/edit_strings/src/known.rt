@@ -83,8 +83,8 @@ fn is_reusable_name(
     Ok(is)
 }
 
-// Returns the text for which `definition` can be reused, if there is one: its value, if it is one literal. The definition is before
-// the byte offset `start`, and its name can be reused.
+// Returns the text for which `definition` can be reused: its value, if it is one literal, the definition is before the byte
+// offset `start`, and its name can be reused.
 fn reusable_text<'s>(
     alloc: Global,
     counts: &BTreeMap<String, usize>,

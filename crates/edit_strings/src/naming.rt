@@ -36,7 +36,7 @@ fn first_letters(alloc: Global, word: &str, count: usize) -> Result<String, Allo
         .collect(alloc)
 }
 
-// Returns whether the word that `c` belongs to has had its first letter, after `c`.
+// Returns whether the current word has had an ASCII letter up to `c`, which is included. White space ends a word.
 fn is_met_after(is_met: bool, c: char) -> bool
     ensures { result ≡ met_after is_met c }
 {

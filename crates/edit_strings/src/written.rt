@@ -42,9 +42,9 @@ pub(crate) fn with_indices<'a, 's>(
     Ok(found)
 }
 
-// Returns the pieces of each definition, each with the index of its own definition, which comes earlier in the file. In `all`, each name
-// has the index of its last definition. Returns `EarlyUse` for the first definition that uses its own name, or a name before the name's
-// first definition.
+// Returns the pieces of each definition, from the last piece to the first. A name that is defined earlier in the file has the
+// index of its last definition there. In `all`, each name has the index of its last definition. Returns `EarlyUse` for the
+// first definition that uses its own name, or a name before the name's first definition.
 pub(crate) fn rows<'a, 's>(
     alloc: Global,
     all: &Indices,

@@ -9,8 +9,8 @@ use std::alloc::{AllocError, Global};
 
 // All that is wrong in a file, step by step as `Bibliography::recover` reads it.
 fn found(alloc: Global, file: &str) -> Result<Vec<Finding>, AllocError> {
-    let RawRecovery { raw, skipped } = RawBibliography::recover(alloc, file)?;
-    let said = RawBibliography::recover(alloc, file)?.raw.entries;
+    let RawRecovery { raw, skipped } = RawBibliography::recover_parts(alloc, file)?;
+    let said = RawBibliography::recover_parts(alloc, file)?.raw.entries;
     let KeptEntries {
         mut entries,
         names,
@@ -18,7 +18,7 @@ fn found(alloc: Global, file: &str) -> Result<Vec<Finding>, AllocError> {
         origins,
         mut errors,
     } = keep(alloc, &raw)?;
-    let between = between(alloc, &said, &origins, &names, &entries)?;
+    let between = between(alloc, &skipped, &said, &origins, &names, &entries)?;
     let mut unresolved = resolve_readable(alloc, &spans, &names, &mut entries)?;
     errors.append(&mut unresolved)?;
     findings_in(alloc, &skipped, &errors, &said, &origins, &entries, between)

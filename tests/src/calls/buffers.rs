@@ -99,14 +99,14 @@ fn recovers_into_buffers(rt: HostRuntime) {
     let mut out = [0u8; 512];
     let file = b"@article{a, journaltitle = {J}}\n@misc{b, title = {T}\n@misc{c, note = {N}}\n";
     let status = recover(alloc, file, 0, &mut out, &mut size);
-    let first = "@article{a,\njournaltitle = {J},\n}\n\n@misc{c,\nnote = {N},\n}\n";
+    let first = "@article{a,\njournaltitle = {J},\n}\n\n@misc{b,\ntitle = {T},\n}\n\n@misc{c,\nnote = {N},\n}\n";
     agrees(&rt, answer(status, &out, size), first);
     let status = recover(alloc, file, 1, &mut out, &mut size);
-    let second = "@article{a,\njournal = {J},\n}\n\n@misc{c,\nnote = {N},\n}\n";
+    let second = "@article{a,\njournal = {J},\n}\n\n@misc{b,\ntitle = {T},\n}\n\n@misc{c,\nnote = {N},\n}\n";
     agrees(&rt, answer(status, &out, size), second);
-    let status = recover(alloc, b"@misc{b", 2, &mut out, &mut size);
+    let status = recover(alloc, b"@{b", 2, &mut out, &mut size);
     agrees(&rt, answer(status, &out, size), "[]\n");
-    let status = recover(alloc, b"@misc{b", 3, &mut out, &mut size);
+    let status = recover(alloc, b"@{b", 3, &mut out, &mut size);
     agrees(&rt, answer(status, &out, size), "[]\n");
     assert!(rt; recover(alloc, file, 4, &mut out, &mut size) == Status::Refused.number());
     let status = recover(alloc, b"@misc{a, note = {\xe9}}", 0, &mut out, &mut size);

@@ -1,7 +1,7 @@
 //! What can be read of a file, and what is passed over.
 
 use crate::syntax::keys::{barred, keys};
-use bib_syntax::raw::{RawBibliography, RawRecovery, SkippedBlock};
+use bib_syntax::raw::{Pair, RawBibliography, RawRecovery, SkippedBlock};
 use std::alloc::{AllocError, Global};
 
 // Adds an error, and the stretch that is passed over for it.
@@ -27,6 +27,32 @@ fn text_of(alloc: Global, found: &RawRecovery<'_>) -> Result<String, AllocError>
 /// The keys of the entries that can be read, a bar before each; then each error with the stretch that is passed over for it.
 pub fn recover(alloc: Global, file: &str) -> Result<String, AllocError> {
     text_of(alloc, &RawBibliography::recover(alloc, file)?)
+}
+
+// Adds the names of fields, a space before each.
+fn push_names(out: &mut String, fields: &[Pair<'_>]) -> Result<(), AllocError> {
+    for field in fields {
+        out.push(' ')?;
+        out.push_str(field.key.v)?;
+    }
+    Ok(())
+}
+
+/// What a full recovery has: the key of each entry with the names of its fields, a bar before each, and the names of the
+/// definitions after a semicolon.
+pub fn recover_parts(alloc: Global, file: &str) -> Result<String, AllocError> {
+    let found = RawBibliography::recover_parts(alloc, file)?;
+    let mut out = String::new(alloc);
+    for entry in &found.raw.entries {
+        out.push('|')?;
+        out.push_str(entry.v.key.v)?;
+        push_names(&mut out, &entry.v.fields)?;
+    }
+    if !found.raw.abbreviations.is_empty() {
+        out.push(';')?;
+        push_names(&mut out, &found.raw.abbreviations)?;
+    }
+    Ok(out)
 }
 
 // Whether each error and its stretch lie in a text, and each stretch after those before.

@@ -65,7 +65,8 @@ fn write_flowing(out: &mut String, text: &str, space: bool) -> Result<bool, Allo
     }
 }
 
-// Writes a chunk. `space` says whether the last character before it is white space. Returns the same for the next text.
+// Writes a chunk. `space` says whether the last character before it is white space. Returns the same for the next text;
+// math leaves it unchanged, and it is false after an empty verbatim text.
 fn write_chunk(out: &mut String, chunk: &Chunk, space: bool) -> Result<bool, AllocError>
     ensures written { OnOk result (Writes out.old out.new
         (formatted_chunk (λ cs. cs) space chunk.now)) }
@@ -95,7 +96,8 @@ fn write_math(out: &mut String, text: &str) -> Result<(), AllocError>
 }
 
 /// Returns the text of the chunks. Math is written between dollar signs. In normal text a line break becomes a space,
-/// or nothing after white space. The only error is out of memory.
+/// or nothing after white space. This ignores math between the two, and an empty verbatim chunk counts as no white
+/// space. The only error is out of memory.
 pub fn format_verbatim(alloc: Global, chunks: ChunksRef<'_>) -> Result<String, AllocError>
     ensures { IfOk result (λ text. string_bytes text ≡ encode_utf8_all (formatted_chars chunks.now)) }
 {
@@ -206,7 +208,7 @@ fn write_sentence_text(
     Ok(after)
 }
 
-// Writes a chunk in sentence case. The arguments and the result are as in `write_sentence_text`.
+// Writes a chunk in sentence case. The arguments are as in `write_sentence_text`, and the result is as in `write_chunk`.
 fn write_sentence_chunk(
     out: &mut String,
     chunk: &Chunk,

@@ -18,7 +18,7 @@ fn is_grouping(c: char) -> bool
     matches!(c, '{' | '}' | '\\')
 }
 
-// Returns whether the character is escaped by a backslash outside verbatim fields.
+// Returns whether the character is escaped by a backslash only outside verbatim fields.
 #[tactic(auto, unfolding(crate::specs::Written::is_reserved))]
 fn is_reserved(c: char) -> bool
     ensures { result ≡ is_reserved c }
@@ -151,7 +151,7 @@ fn write_chunk(out: &mut String, chunk: &Chunk, is_verbatim: bool) -> Result<(),
     }
 }
 
-// Writes a chunk of a value, with the brace or the dollar signs around it.
+// Writes a chunk of a value, with the brace before it or the dollar signs around it, if any.
 fn write_part(
     out: &mut String,
     chunk: &Chunk,

@@ -67,7 +67,7 @@ impl Entry {
     }
 
     // Appends an error, with the name `name`, if the year, the month and the day in three fields can't be parsed as a date.
-    // Does nothing if the entry has the field `name`.
+    // Does nothing if the entry has the field `name`, or has no year.
     fn check_date(
         &self,
         alloc: Global,

@@ -102,7 +102,8 @@ impl Entry {
         Ok(found)
     }
 
-    // Appends the author and the editor if `rule` requires them and the entry lacks them.
+    // Appends `editor` and `author`, each if `rule` requires it and the entry lacks it. If one of them is enough and the
+    // entry lacks both, appends `author`.
     fn add_people(
         &self,
         rule: AuthorMode,
@@ -127,7 +128,7 @@ impl Entry {
         }
     }
 
-    // Appends the pages if `rule` requires them and the entry lacks them.
+    // Appends `pages` if `rule` requires pages and the entry lacks them. If a chapter is enough too, the entry must lack both.
     fn add_pages(
         &self,
         rule: PagesChapterMode,

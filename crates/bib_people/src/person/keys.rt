@@ -29,7 +29,7 @@ pub(crate) fn is_in_parts(chunks: ChunksRef<'_>) -> bool
     false
 }
 
-// Parses a key and its value.
+// Parses a key and its value. Without an equals sign in a normal chunk, the value is empty.
 fn read_part(alloc: Global, chunks: ChunksRef<'_>) -> Result<Part, AllocError>
     ensures { IfOk result (λ part. part ≡ key_value_of chunks.now) }
 {

@@ -1,6 +1,7 @@
 //! Parses a file even if some of its blocks can't be parsed.
 
 ghost use Rattle.std.specs.Prelude.{◌≡◌, ◌≢◌, ◌⊎◌, ◌<◌, ◌-◌, ◌==◌, ◌++◌, [], ◌∷◌, ℕ, List, not, true, false, length, take, MatchBool, IfSome, IfOk, IfErr, OnOk, OnErr};
+ghost use Rattle.std.specs.Str.{IsCharBoundary};
 ghost use Rattle.bib_text.specs.Characters as char;
 ghost use Rattle.bib_text.specs.Places.{Place, CharAt, AtEnd, place};
 ghost use Rattle.bib_syntax.specs.Blocks.{item_of};
@@ -9,7 +10,8 @@ ghost use Rattle.bib_syntax.specs.Failures.{AllFail};
 ghost use Rattle.bib_syntax.specs.Grammar.{Block, longest};
 ghost use Rattle.bib_syntax.specs.Recovery as Spec;
 ghost use Rattle.bib_syntax.specs.Recovering.{RecoveredTo};
-ghost use Rattle.bib_syntax.specs.Recovery.{Recovered, GoesOnAt, skipped_block};
+ghost use Rattle.bib_syntax.specs.Reading.{FileReading, then};
+ghost use Rattle.bib_syntax.specs.Recovery.{Recovered, GoesOnAt, Keeps, skipped_block};
 ghost use Rattle.bib_syntax.specs.Stretches.{IsMemoOf};
 ghost use Rattle.bib_syntax.specs.SyntaxErrors.{BlockFails, Reports};
 ghost use Rattle.bib_syntax.specs.Views.{file_of};
@@ -17,6 +19,7 @@ ghost use Rattle.bib_syntax.specs.Views.{file_of};
 use crate::raw::failing::failing_fields;
 use crate::raw::fields::line_comment;
 use crate::raw::file::{Item, add, block};
+use crate::raw::kept::kept;
 use crate::raw::memo::Memo;
 use crate::raw::reader::Reader;
 use crate::raw::{ParseError, RawBibliography};
@@ -37,7 +40,7 @@ pub struct SkippedBlock {
 /// The parsed and the skipped blocks of a file.
 #[derive(Debug, Clone, Drop)]
 pub struct RawRecovery<'s> {
-    /// The content of the parsed blocks.
+    /// The content of the parsed blocks. `RawBibliography::recover_parts` adds the complete parts of the skipped ones.
     pub raw: RawBibliography<'s>,
     /// The skipped blocks, in the order of the file.
     pub skipped: Vec<SkippedBlock>,
@@ -136,20 +139,54 @@ fn remember_failures(
     Ok(())
 }
 
+// Appends the complete parts of the skipped block with this span to the content of the blocks before it, if `keeps_parts` is
+// true.
+fn add_parts<'s>(
+    raw: &mut RawBibliography<'s>,
+    alloc: Global,
+    text: &'s str,
+    span: Span,
+    keeps_parts: bool,
+) -> Result<(), AllocError>
+    requires block { (v : Place) × CharAt (place text.now span.start) char.at v × GoesOnAt v (place text.now span.end) }
+    requires boundary { IsCharBoundary text.now span.end }
+    ensures { OnOk result ((kept : FileReading) × Keeps keeps_parts (place text.now span.start) (place text.now span.end) kept ×
+        (file_of raw.new ≡ then (file_of raw.old) kept)) }
+{
+    if !keeps_parts {
+        return Ok(());
+    }
+    let item = kept(alloc, &text[..span.end], span.start)?;
+    add(raw, item)
+}
+
 impl<'s> RawRecovery<'s> {
-    // Skips the block at this at sign, and keeps its error.
-    fn skip(&mut self, s: &mut Reader<'s, '_>, error: ParseError) -> Result<(), AllocError>
-        requires { (v : Place) × CharAt s.old char.at v }
+    // Skips the block at this at sign, and keeps its error, and its complete parts if `keeps_parts` is true.
+    fn skip(
+        &mut self,
+        s: &mut Reader<'s, '_>,
+        alloc: Global,
+        text: &'s str,
+        error: ParseError,
+        keeps_parts: bool,
+    ) -> Result<(), AllocError>
+        requires sign { (v : Place) × CharAt s.old char.at v }
+        requires text { text.now ≡ s.old.text }
         ensures passed { OnOk result ((v : Place) × CharAt s.old char.at v × GoesOnAt v s.new) }
-        ensures kept { OnOk result (self.new.raw ≡ self.old.raw) }
+        ensures kept { OnOk result ((kept : FileReading) × Keeps keeps_parts s.old s.new kept ×
+            (file_of self.new.raw ≡ then (file_of self.old.raw) kept)) }
         ensures skipped { OnOk result (self.new.skipped.items ≡
             self.old.skipped.items ++ skipped_block error s.old s.new ∷ []) }
     {
         let start = s.cursor();
         s.eat();
         go_on(s);
-        let span = start..s.cursor();
-        self.skipped.push(SkippedBlock { error, span })?;
+        let end = s.cursor();
+        add_parts(&mut self.raw, alloc, text, start..end, keeps_parts)?;
+        self.skipped.push(SkippedBlock {
+            error,
+            span: start..end,
+        })?;
         Ok(())
     }
 
@@ -159,13 +196,16 @@ impl<'s> RawRecovery<'s> {
         &mut self,
         s: &mut Reader<'s, '_>,
         alloc: Global,
+        text: &'s str,
+        keeps_parts: bool,
         memo: &mut Option<Memo>,
     ) -> Result<(), AllocError>
         requires sign { (v : Place) × CharAt s.old char.at v }
+        requires text { text.now ≡ s.old.text }
         requires memo { IfSome memo.old (IsMemoOf s.old.text) }
         ensures found { OnOk result ((start : Place) →
-            RecoveredTo start (file_of self.old.raw) self.old.skipped.items s.old →
-            RecoveredTo start (file_of self.new.raw) self.new.skipped.items s.new) }
+            RecoveredTo keeps_parts start (file_of self.old.raw) self.old.skipped.items s.old →
+            RecoveredTo keeps_parts start (file_of self.new.raw) self.new.skipped.items s.new) }
         ensures same { OnOk result (s.new.text ≡ s.old.text) }
         ensures smaller { OnOk result (length s.new.text - s.new.at < length s.old.text - s.old.at) }
         ensures memo { OnOk result (IfSome memo.new (IsMemoOf s.old.text)) }
@@ -175,7 +215,7 @@ impl<'s> RawRecovery<'s> {
             Err(error) => {
                 error.unless_out_of_memory()?;
                 remember_failures(s, alloc, memo)?;
-                self.skip(s, error)
+                self.skip(s, alloc, text, error, keeps_parts)
             }
         }
     }
@@ -188,12 +228,13 @@ impl<'s> RawRecovery<'s> {
         &mut self,
         s: &mut Reader<'s, '_>,
         alloc: Global,
-        text: &str,
+        text: &'s str,
+        keeps_parts: bool,
     ) -> Result<(), AllocError>
         requires { text.now ≡ s.old.text }
         ensures found { OnOk result ((start : Place) →
-            RecoveredTo start (file_of self.old.raw) self.old.skipped.items s.old →
-            RecoveredTo start (file_of self.new.raw) self.new.skipped.items s.new) }
+            RecoveredTo keeps_parts start (file_of self.old.raw) self.old.skipped.items s.old →
+            RecoveredTo keeps_parts start (file_of self.new.raw) self.new.skipped.items s.new) }
         ensures end { OnOk result (AtEnd s.new) }
     {
         let mut memo = None;
@@ -202,7 +243,7 @@ impl<'s> RawRecovery<'s> {
                 if memo.is_none() && !self.skipped.is_empty() {
                     memo = Some(Memo::new(alloc, text)?);
                 }
-                self.add_block(s, alloc, &mut memo)?;
+                self.add_block(s, alloc, text, keeps_parts, &mut memo)?;
             } else if c == '%' {
                 line_comment(s);
             } else {
@@ -213,9 +254,14 @@ impl<'s> RawRecovery<'s> {
     }
 }
 
-// Parses the blocks of a file, and skips those that can't be parsed.
-pub(crate) fn recover(alloc: Global, src: &str) -> Result<RawRecovery<'_>, AllocError>
-    ensures { IfOk result (λ found. Recovered (place src.now 0) (file_of found.raw) found.skipped.items) }
+// Parses the blocks of a file, and skips those that can't be parsed. If `keeps_parts` is true, keeps the complete parts of
+// these.
+pub(crate) fn recover(
+    alloc: Global,
+    src: &str,
+    keeps_parts: bool,
+) -> Result<RawRecovery<'_>, AllocError>
+    ensures { IfOk result (λ found. Recovered keeps_parts (place src.now 0) (file_of found.raw) found.skipped.items) }
 {
     let mut found = RawRecovery {
         raw: RawBibliography {
@@ -225,6 +271,6 @@ pub(crate) fn recover(alloc: Global, src: &str) -> Result<RawRecovery<'_>, Alloc
         },
         skipped: Vec::new(alloc),
     };
-    found.add_blocks(&mut Reader::new(Scanner::new(src)), alloc, src)?;
+    found.add_blocks(&mut Reader::new(Scanner::new(src)), alloc, src, keeps_parts)?;
     Ok(found)
 }

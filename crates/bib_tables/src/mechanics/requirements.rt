@@ -198,11 +198,11 @@ impl EntryType {
     }
 }
 
-/// A row of the table of requirements: the rules of an entry type, without the forbidden fields.
+/// A row of the table of requirements: the rules of an entry type, without its list of forbidden fields.
 pub struct Row {
     /// Required fields.
     pub required: &'static [&'static str],
-    /// Optional fields, in groups that entry types share.
+    /// Optional fields, in groups. Several entry types share some of the groups.
     pub optional: &'static [&'static [&'static str]],
     /// The rule for `author` and `editor`.
     pub author: AuthorMode,

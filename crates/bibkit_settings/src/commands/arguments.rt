@@ -1,6 +1,6 @@
 //! The arguments of a command, and how clap parses them.
 
-use crate::settings::{Color, OutputFormat, code_names};
+use crate::settings::{Color, OutputFormat, code_names, fail_on_names};
 use clap::builder::ValueParser;
 use clap::{Arg, ArgAction};
 use std::alloc::{AllocError, Global};
@@ -36,6 +36,8 @@ pub enum Takes {
     Format,
     /// An option: when colours are printed.
     Color,
+    /// An option: the findings for which the status is 1.
+    FailOn,
     /// An option: the name of the .aux or .bcf file of a document.
     Document,
     /// An option: the number of spaces before a field.
@@ -217,6 +219,7 @@ fn argument_of<'a>(alloc: Global, row: &'static Argument) -> Result<Arg<'a>, All
         Takes::Code => Ok(value(alloc, row, "CODE").value_parser(code_names())),
         Takes::Format => Ok(value(alloc, row, "FORMAT").value_parser(OutputFormat::names())),
         Takes::Color => Ok(value(alloc, row, "WHEN").value_parser(Color::names())),
+        Takes::FailOn => Ok(value(alloc, row, "SEVERITY").value_parser(fail_on_names())),
         Takes::Document => Ok(value(alloc, row, "DOCUMENT")),
         Takes::Indent => Ok(value(alloc, row, "SPACES").value_parser(INDENTS.as_slice())),
         Takes::BlankLines => Ok(value(alloc, row, "LINES").value_parser(BLANK_LINES.as_slice())),

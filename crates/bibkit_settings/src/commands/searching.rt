@@ -6,7 +6,7 @@ use crate::commands::shared::WHERE;
 // The text at the end of the help of `lint`.
 const LINT_HELP: &str = "\
 Findings are lines FILE:LINE:COLUMN: error|warning|info: TEXT [CODE]. A file bibkit.toml in the folder of the first file, or in one
-above it, has the settings of a project: ignore, only, color and format.
+above it, has the settings of a project: ignore, only, color, format and fail-on.
 
 --where leaves out findings that are about no entry, such as syntax errors and bytes that aren't UTF-8. It keeps a finding about two
 entries, such as a duplicate, if one of them meets the conditions. `bibkit help select` has the conditions.
@@ -15,10 +15,11 @@ Examples:
   bibkit lint --ignore unknown-field refs.bib
   bibkit lint --where 'year >= 2020' refs.bib
 
-Status: 0 no errors and warnings, 1 errors or warnings, 2 wrong usage, or a file or the output failed, 3 out of memory";
+Status: 0 no finding of at least the severity of --fail-on, 1 such a finding, 2 wrong usage, or a file or the output failed, 3 out of
+memory";
 
 // The arguments of `lint`.
-const LINT: [Argument; 8] = [
+const LINT: [Argument; 9] = [
     Argument {
         name: "only",
         takes: Takes::Codes,
@@ -32,7 +33,12 @@ const LINT: [Argument; 8] = [
     Argument {
         name: "format",
         takes: Takes::Format,
-        help: "Print findings as lines or as JSON",
+        help: "Print findings in this format [default: text]",
+    },
+    Argument {
+        name: "fail-on",
+        takes: Takes::FailOn,
+        help: "Status 1 for findings of at least this severity [default: warning]",
     },
     Argument {
         name: "color",

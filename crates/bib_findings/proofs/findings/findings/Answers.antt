@@ -9,19 +9,19 @@ use Rattle.bib_findings.proofs.findings.findings.Goals as goal
 
 pub between-requires-clause-same_length : goal.between-requires-clause-same_length
 between-requires-clause-same_length c =
-    ap length c.deref-2.ensures.value ∙ origins_count c.in_ok-entries.ensures.kept ∙ sym (ap length c.deref-3.ensures.value)
+    ap length c.deref-3.ensures.value ∙ origins_count c.in_ok-entries.ensures.kept ∙ sym (ap length c.deref-4.ensures.value)
 
 pub between-requires-clause-there : goal.between-requires-clause-there
 between-requires-clause-there c =
     let said = c.in_ok-raw.field-0.raw.entries.items in
     let says = file_of c.in_ok-raw.field-0.raw in
-    within_of says.entries c.in_ok-entries.field-0.origins.items c.deref-2.result.now (length c.deref.result.now)
-    (origins_within c.in_ok-entries.ensures.kept) c.deref-2.ensures.value
-    (length-map said entry_reading_of ∙ sym (ap length c.deref.ensures.value))
+    within_of says.entries c.in_ok-entries.field-0.origins.items c.deref-3.result.now (length c.deref-2.result.now)
+    (origins_within c.in_ok-entries.ensures.kept) c.deref-3.ensures.value
+    (length-map said entry_reading_of ∙ sym (ap length c.deref-2.ensures.value))
 
 pub resolve_readable-requires-clause-as_long : goal.resolve_readable-requires-clause-as_long
 resolve_readable-requires-clause-as_long c =
-    ap length c.deref-4.ensures.value ∙ places_count c.in_ok-entries.ensures.kept ∙ sym (ap length c.deref_mut.ensures.value)
+    ap length c.deref-5.ensures.value ∙ places_count c.in_ok-entries.ensures.kept ∙ sym (ap length c.deref_mut.ensures.value)
 
 pub findings_in-requires-clause-same_length : goal.findings_in-requires-clause-same_length
 findings_in-requires-clause-same_length c =
@@ -31,16 +31,16 @@ findings_in-requires-clause-same_length c =
     let all =
     all_taken c.in_ok-entries.field-0.entries.len c.resolve_readable.new.entries own
     (count ∙ sym c.in_ok-entries.field-0.entries.ok.0) in
-    ap length c.deref-8.ensures.value ∙ origins_count c.in_ok-entries.ensures.kept ∙ sym count
-    ∙ sym (ap length (c.deref-9.ensures.value ∙ all))
+    ap length c.deref-9.ensures.value ∙ origins_count c.in_ok-entries.ensures.kept ∙ sym count
+    ∙ sym (ap length (c.deref-10.ensures.value ∙ all))
 
 pub findings_in-requires-clause-there : goal.findings_in-requires-clause-there
 findings_in-requires-clause-there c =
     let said = c.in_ok-raw.field-0.raw.entries.items in
     let says = file_of c.in_ok-raw.field-0.raw in
-    within_of says.entries c.in_ok-entries.field-0.origins.items c.deref-8.result.now (length c.deref-7.result.now)
-    (origins_within c.in_ok-entries.ensures.kept) c.deref-8.ensures.value
-    (length-map said entry_reading_of ∙ sym (ap length c.deref-7.ensures.value))
+    within_of says.entries c.in_ok-entries.field-0.origins.items c.deref-9.result.now (length c.deref-8.result.now)
+    (origins_within c.in_ok-entries.ensures.kept) c.deref-9.ensures.value
+    (length-map said entry_reading_of ∙ sym (ap length c.deref-8.ensures.value))
 
 pub returns : goal.returns
 returns c =
@@ -56,16 +56,17 @@ returns c =
     let linked = c.in_ok-linked.linked.items in
     let count : length entries ≡ length own = c.in_ok-unresolved.ensures.length ∙ ap length c.deref_mut.ensures.value in
     let all = all_taken c.in_ok-entries.field-0.entries.len entries own (count ∙ sym c.in_ok-entries.field-0.entries.ok.0) in
-    let resolved = subst (λ p. AreRecovered p names own entries of_references) c.deref-4.ensures.value
-    (subst (λ es. AreRecovered c.deref-4.result.now names es entries of_references) c.deref_mut.ensures.value
+    let resolved = subst (λ p. AreRecovered p names own entries of_references) c.deref-5.ensures.value
+    (subst (λ es. AreRecovered c.deref-5.result.now names es entries of_references) c.deref_mut.ensures.value
     c.in_ok-unresolved.ensures.recovered) in
-    let are_between = between_of names (entries_said c.deref.result.now) says.entries c.deref-2.result.now origins
-    c.deref-3.result.now own linked
-    (ap (map entry_reading_of) c.deref.ensures.value) c.deref-2.ensures.value c.deref-3.ensures.value c.in_ok-linked.ensures in
+    let are_between = between_of c.deref.result.now skipped names (entries_said c.deref-2.result.now) says.entries
+    c.deref-3.result.now origins c.deref-4.result.now own linked
+    c.deref.ensures.value (ap (map entry_reading_of) c.deref-2.ensures.value) c.deref-3.ensures.value c.deref-4.ensures.value
+    c.in_ok-linked.ensures in
     if_ok_more
     (λ found.
-    AreFindingsIn c.deref-5.result.now c.deref-6.result.now (entries_said c.deref-7.result.now)
-    c.deref-8.result.now c.deref-9.result.now linked found.items)
+    AreFindingsIn c.deref-6.result.now c.deref-7.result.now (entries_said c.deref-8.result.now)
+    c.deref-9.result.now c.deref-10.result.now linked found.items)
     (λ found. AreFindings c.args.text.now found.items) c.findings_in.result
     (λ found are. record {
       says = says;
@@ -83,11 +84,11 @@ returns c =
       between = linked;
       are_between = are_between;
       are =
-          findings_of c.deref-5.result.now skipped c.deref-6.result.now (of_entries ++ of_references)
-          (entries_said c.deref-7.result.now) says.entries c.deref-8.result.now origins c.deref-9.result.now entries
+          findings_of c.deref-6.result.now skipped c.deref-7.result.now (of_entries ++ of_references)
+          (entries_said c.deref-8.result.now) says.entries c.deref-9.result.now origins c.deref-10.result.now entries
           linked found.items
-          c.deref-5.ensures.value (c.deref-6.ensures.value ∙ c.in_ok-append.ensures.items)
-          (ap (map entry_reading_of) c.deref-7.ensures.value) c.deref-8.ensures.value
-          (c.deref-9.ensures.value ∙ all) are;
+          c.deref-6.ensures.value (c.deref-7.ensures.value ∙ c.in_ok-append.ensures.items)
+          (ap (map entry_reading_of) c.deref-8.ensures.value) c.deref-9.ensures.value
+          (c.deref-10.ensures.value ∙ all) are;
     })
     c.findings_in.ensures

@@ -6,7 +6,7 @@ use Rattle.bib_findings.proofs.findings.findings_in.Goals as goal
 
 pub returns : goal.returns
 returns c =
-    let blocks = map block_finding c.args.skipped.now in
+    let blocks = map (block_finding (map entry_reading_of c.args.said.now)) c.args.skipped.now in
     let errors = map error_finding c.args.errors.now in
     let reports = c.in_ok-add_entries.ensures in
     sorted_are c.args.skipped.now c.args.errors.now (map entry_reading_of c.args.said.now) c.args.origins.now

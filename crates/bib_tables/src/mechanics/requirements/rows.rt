@@ -34,7 +34,7 @@ const CORE: [&str; 11] = [
     "addendum",
 ];
 
-/// People who annotated or translated a work, and texts added to it.
+/// People who annotated or translated a work, its original language, and texts added to it.
 const ANNOTATORS: [&str; 7] = [
     "annotator",
     "commentator",
@@ -48,7 +48,7 @@ const ANNOTATORS: [&str; 7] = [
 /// The title of a work in several volumes.
 const MAIN_TITLE: [&str; 3] = ["maintitle", "mainsubtitle", "maintitleaddon"];
 
-/// The rest of the title of the book that contains a part.
+/// The title of the book that contains a work, without `booktitle`.
 const BOOK_TITLE: [&str; 2] = ["booksubtitle", "booktitleaddon"];
 
 pub(super) static ARTICLE: Row = Row {

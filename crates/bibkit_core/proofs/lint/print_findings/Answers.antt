@@ -16,14 +16,17 @@ findings-preserved c =
     take_more c.args.found.now i f c.findings-test.true
     ∙ ap (λ g. take i c.args.found.now ++ g ∷ []) (sym c.finding-item.is) in
     record {
-      same = c.position-place.ensures.same ∙ c.findings.invariant.same;
+      same = c.position-start.ensures.same ∙ c.findings.invariant.same;
       added = elim c.if-asks_for.branch [
         | then-asks_for+in_ok-print_finding w ↦ step_printed c.args.lint.now.selection (take i c.args.found.now)
-            (take (i + 1) c.args.found.now) f c.position-place.result grows
-            (sym c.asks_for.ensures ∙ w.if-asks_for.true)
-            (c.position-place.ensures.found ∙ ap (λ p. position_at p f.span.start) c.findings.invariant.same)
+            (take (i + 1) c.args.found.now) f w.region_at-region.result grows
+            (sym c.asks_for.ensures ∙ w.if-asks_for.true) w.region_at-region.ensures
             c.findings.invariant.added w.in_ok-print_finding.ensures w.printed-is
         | else-asks_for w ↦ step_passed c.args.lint.now.selection (take i c.args.found.now) (take (i + 1) c.args.found.now) f grows
             (sym c.asks_for.ensures ∙ w.if-asks_for.false) c.findings.invariant.added w.printed-is
       ];
     }
+
+pub region_at-region-requires : goal.region_at-region-requires
+region_at-region-requires c =
+    c.position-start.ensures.found ∙ ap (λ b. position_at b c.finding-item.result.span.start) c.findings.invariant.same

@@ -14,5 +14,5 @@ returns c =
       c.new-4.ensures.items,
       c.new-6.ensures,
       c.new-5.ensures,
-    ) (nothing_recovered start)))
+    ) (nothing_recovered c.args.keeps_parts start)))
     c.in_ok-add_blocks.ensures.end

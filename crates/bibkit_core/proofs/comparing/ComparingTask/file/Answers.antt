@@ -4,11 +4,12 @@ use Rattle.bibkit_core.specs.Asked.{selected_findings}
 use Rattle.bibkit_core.specs.Conditions.{AreReportedFindings}
 use Rattle.bibkit_core.specs.Linted.{ArePrinted}
 use Rattle.bibkit_core.specs.Marks.{AreKnownWith, AreUnused}
+use Rattle.bibkit_core.specs.Tasks.{in_file}
 use Rattle.bibkit_core.proofs.comparing.ComparingTask.file.Goals as goal
 
 pub returns : goal.returns
 returns c =
-    let before = c.file.new.self.tally in
+    let before = c.print_file.new.self.tally in
     let after = c.print.new.self.tally in
     let text = string_bytes c.in_ok-more.more in
     let unused = c.in_ok-unused.unused.items in
@@ -17,7 +18,7 @@ returns c =
     subst
     (λ l.
     ArePrinted l.style c.args.name.now c.as_bytes.result.now (selected_findings l.selection c.deref-2.result.now) before
-    text after) c.in_ok-text.ensures.0 c.in_ok-more.ensures.printed in
+    text after) c.in_ok-text.ensures.lint c.in_ok-more.ensures.printed in
     let lint = c.args.self.now.linting.lint.now in
     let listed =
     subst
@@ -30,9 +31,9 @@ returns c =
       decoded = c.in_ok-decoded.decoded;
       unused = unused;
       kept = kept;
-      lint = c.in_ok-more.ensures.lint ∙ c.in_ok-text.ensures.0;
+      lint = c.in_ok-more.ensures.lint ∙ c.in_ok-text.ensures.lint;
       document = c.in_ok-unused.ensures.same;
-      found = c.in_ok-text.ensures.1;
+      found = c.in_ok-text.ensures.printed;
       of_bytes = c.in_ok-decoded.ensures;
       known =
           subst (λ t. AreKnownWith t c.args.self.now.document c.compare.new.self.known.items) c.as_str.ensures.value
@@ -49,5 +50,7 @@ returns c =
           (λ b.
           ArePrinted lint.style c.args.name.now b (selected_findings lint.selection kept) before text
           after) c.as_bytes.ensures.value listed;
-      is = c.in_ok-push_str.ensures.bytes ∙ ap (λ t. string_bytes c.in_ok-text.text ++ t) c.deref-3.ensures;
+      is = c.in_ok-output.ensures ∙ ap (λ l. in_file l.style c.args.name.now (string_bytes c.push_str.new.self)) c.lint-lint.ensures
+          ∙ ap (in_file lint.style c.args.name.now)
+          (c.in_ok-push_str.ensures.bytes ∙ ap (λ t. string_bytes c.in_ok-text.text ++ t) c.deref-3.ensures);
     }

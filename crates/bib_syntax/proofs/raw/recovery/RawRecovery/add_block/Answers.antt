@@ -4,7 +4,8 @@ use Rattle.bib_syntax.specs.Recovery.{IsUnreadBlock}
 use Rattle.bib_syntax.specs.Stretches.{IsMemoOf}
 use Rattle.bib_syntax.specs.Views.{file_of}
 use Rattle.bib_syntax.proofs.FileFacts.{ahead_block, block_smaller}
-use Rattle.bib_syntax.proofs.RecoveryFacts.{ahead_passed, on_ok, all_ok, unread_from, block_found, unread_found, unread_smaller}
+use Rattle.bib_syntax.proofs.KeptFacts.{ahead_passed}
+use Rattle.bib_syntax.proofs.RecoveryFacts.{on_ok, all_ok, unread_from, block_found, unread_found, unread_smaller}
 use Rattle.bib_syntax.proofs.raw.recovery.RawRecovery.add_block.Goals as goal
 
 pub returns-in-Ok-clause-found : goal.returns-in-Ok-clause-found
@@ -23,8 +24,8 @@ returns-in_ok-remember_failures-in-Err-clause-found c =
     subst (λ u. IsUnreadBlock u c.in-Err.error) (sym here)
     (unread_from c.in-Err.ensures.fails c.in_ok-unless_out_of_memory-in-Err.ensures.ok) in
     all_ok c.skip.result c.skip.ensures.passed c.skip.ensures.kept c.skip.ensures.skipped (λ on kept more start before.
-    unread_found _ _ _ _ unread on (ap file_of kept) more start
-    (subst (λ u. RecoveredTo start (file_of c.args.self.now.raw) c.args.self.now.skipped.items u) (sym here) before))
+    unread_found _ _ _ _ unread on kept more start
+    (subst (λ u. RecoveredTo c.args.keeps_parts start (file_of c.args.self.now.raw) c.args.self.now.skipped.items u) (sym here) before))
 
 pub returns-in_ok-remember_failures-in-Err-clause-same : goal.returns-in_ok-remember_failures-in-Err-clause-same
 returns-in_ok-remember_failures-in-Err-clause-same c =

@@ -7,8 +7,8 @@ use Rattle.bib_syntax.proofs.raw.recovery.RawRecovery.add_blocks.Given as goal
 
 abbrev pub invariant-file : goal.invariant-file
 invariant-file l =
-    ((start : Place) → RecoveredTo start (file_of l.fn.self.raw) l.fn.self.skipped.items l.fn.s
-    → RecoveredTo start (file_of l.self.raw) l.self.skipped.items l.s)
+    ((start : Place) → RecoveredTo l.keeps_parts start (file_of l.fn.self.raw) l.fn.self.skipped.items l.fn.s
+    → RecoveredTo l.keeps_parts start (file_of l.self.raw) l.self.skipped.items l.s)
     × (l.s.text ≡ l.fn.s.text) × IfSome l.memo (IsMemoOf l.fn.s.text)
 
 abbrev pub decreases-file : goal.decreases-file

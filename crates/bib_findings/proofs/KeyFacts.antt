@@ -1,0 +1,135 @@
+-- Keys that equal an earlier key except for ASCII case.
+use Rattle.std.proofs.Common.{◌≡◌, ℕ, Bool, true, false, List, [], ◌∷◌, ◌++◌, Option, Some, None, refl, sym, ap, ◌∙◌, append_assoc, arith, cond, nat_eq}
+use Rattle.std.specs.Prelude.{bytes_eq, find, is_some, option_map}
+use Rattle.std.specs.Borrow.{Bor}
+use Rattle.std.specs.BTreeMap.{BTreeMap, Updates, get, is_at}
+use Rattle.std.specs.Map.{update}
+use Rattle.std.specs.Option.{option_map_or}
+use Rattle.std.specs.Ordering.{nat_cmp}
+use Rattle.std.proofs.lemmas.Bool.Decides.{nat_tests}
+use Rattle.std.proofs.lemmas.Slice.Eq.{bytes_eq-Decides}
+use Rattle.bib_syntax.specs.Reading.{EntryReading}
+use Rattle.bib_findings.specs.Cuts.{entry_from}
+use Rattle.bib_findings.specs.FirstKeys.{AreFirstKeys, lowercase_key}
+use Rattle.bib_findings.specs.KeyCases.{case_after, case_finding, case_findings, have_one_key}
+use Rattle.bib_findings.specs.declared.finding.Finding.{Finding}
+use Rattle.bib_findings.proofs.AfterFacts.{after_more}
+use Rattle.bib_findings.proofs.RepeatedFacts.{bytes_turned}
+use Rattle.bib_findings.proofs.SharedFacts.{numbers_alike}
+
+-- the first value, or the other one if there is none
+abbrev pub or_other : {A : Type 0} → Option A → Option A → Option A
+or_other None other = other
+or_other (Some a) other = Some a
+
+-- the first item that passes a test among some items and one more
+pub find_more : {A : Type 0} (test : A → Bool) (items : List A) (one : A)
+    → find test (items ++ one ∷ []) ≡ or_other (find test items) (cond (test one) (Some one) None)
+find_more test [] one = refl
+find_more test (item ∷ items) one =
+    elim (test item) as
+    (λ b.
+    cond b (Some item) (find test (items ++ one ∷ []))
+    ≡ or_other (cond b (Some item) (find test items)) (cond (test one) (Some one) None))
+    [ true ↦ refl | false ↦ find_more test items one ]
+
+-- the text of the key of an entry
+abbrev pub key_text : EntryReading → List ℕ
+key_text e = e.key.text
+
+-- the first entry of some that passes is that of these and one more, unless none passes and the other one does
+same_first : (said : EntryReading) (first : Option EntryReading) (test : Bool)
+    → (test ≡ true → (text : List ℕ) × (option_map key_text first ≡ Some text))
+    → option_map key_text first ≡ option_map key_text (or_other first (cond test (Some said) None))
+same_first said (Some e) test known = refl
+same_first said None false known = refl
+same_first said None true known = absurd (let clash : None ≡ Some (known refl).0 = (known refl).1 in cc)
+
+pub or_none : {A : Type 0} (first : Option A) → or_other first None ≡ first
+or_none None = refl
+or_none (Some a) = refl
+
+-- an entry without a key has no text
+nothing : (first : Option EntryReading) → option_map key_text first ≡ None → first ≡ None
+nothing None none = refl
+nothing (Some e) none = absurd (let clash : Some (key_text e) ≡ None = none in cc)
+
+-- an entry whose key an earlier one has changes no first key
+pub keys_same : (firsts : List ℕ → Option (Bor (List ℕ))) (earlier : List EntryReading) (said : EntryReading) (text : List ℕ)
+    → AreFirstKeys firsts earlier → option_map (λ key. key.now) (firsts (lowercase_key said)) ≡ Some text
+    → AreFirstKeys firsts (earlier ++ said ∷ [])
+keys_same firsts earlier said text are known name =
+    let test : EntryReading → Bool = λ e. bytes_eq name (lowercase_key e) in
+    are name
+    ∙ same_first said (find test earlier) (test said)
+    (λ same. (
+      text,
+      sym (are name) ∙ ap (λ n. option_map (λ (key : Bor (List ℕ)). key.now) (firsts n))
+          ((bytes_eq-Decides name (lowercase_key said)).0 same) ∙ known,
+    ))
+    ∙ ap (option_map key_text) (sym (find_more test earlier said))
+
+-- storing the key of an entry with a new one extends the first keys by it
+pub keys_more : (old new : List ℕ → Option (Bor (List ℕ))) (earlier : List EntryReading) (said : EntryReading) (key : Bor (List ℕ))
+    (stored : List ℕ) → stored ≡ lowercase_key said → key.now ≡ key_text said → AreFirstKeys old earlier → old stored ≡ None
+    → ((name : List ℕ) → new name ≡ update bytes_eq old stored (Some key) name) → AreFirstKeys new (earlier ++ said ∷ [])
+keys_more old new earlier said key stored is text_is are none updates name =
+    ap (option_map now_of) (updates name ∙ ap (λ b. cond b (Some key) (old name)) turned)
+    ∙ by (test said) refl
+    ∙ ap (option_map key_text) (sym (find_more test earlier said))
+  where
+    now_of : Bor (List ℕ) → List ℕ
+    now_of k = k.now
+
+    test : EntryReading → Bool
+    test e = bytes_eq name (lowercase_key e)
+
+    turned : bytes_eq stored name ≡ test said
+    turned = ap (λ s. bytes_eq s name) is ∙ bytes_turned (lowercase_key said) name
+
+    by : (b : Bool) → test said ≡ b
+        → option_map now_of (cond (test said) (Some key) (old name))
+        ≡ option_map key_text (or_other (find test earlier) (cond (test said) (Some said) None))
+    by true same =
+        let name_is : name ≡ stored = (bytes_eq-Decides name (lowercase_key said)).0 same ∙ sym is in
+        ap (λ b. option_map now_of (cond b (Some key) (old name))) same
+        ∙ ap Some text_is
+        ∙ sym
+        (ap (λ b. option_map key_text (or_other (find test earlier) (cond b (Some said) None))) same
+        ∙ ap (λ o. option_map key_text (or_other o (Some said)))
+        (nothing (find test earlier) (sym (are name) ∙ ap (λ n. option_map now_of (old n)) name_is ∙ ap (option_map now_of) none)))
+    by false other =
+        ap (λ b. option_map now_of (cond b (Some key) (old name))) other ∙ are name
+        ∙ sym
+        (ap (λ b. option_map key_text (or_other (find test earlier) (cond b (Some said) None))) other
+        ∙ ap (option_map key_text) (or_none (find test earlier)))
+
+-- the finding of an entry whose key an earlier one has
+pub case_found : (firsts : List ℕ → Option (Bor (List ℕ))) (earlier : List EntryReading) (said : EntryReading) (text : List ℕ)
+    → AreFirstKeys firsts earlier → option_map (λ key. key.now) (firsts (lowercase_key said)) ≡ Some text
+    → case_after earlier said ≡ case_finding said text ∷ []
+case_found firsts earlier said text are known = by (find (have_one_key said) earlier) (sym (are (lowercase_key said)) ∙ known) where
+  by : (first : Option EntryReading) → option_map key_text first ≡ Some text
+      → option_map_or (λ e. case_finding said e.key.text ∷ []) first [] ≡ case_finding said text ∷ []
+  by None is = absurd (let clash : None ≡ Some text = is in cc)
+  by (Some e) is = ap (λ t. case_finding said t ∷ []) (let same : e.key.text ≡ text = cc in same)
+
+-- an entry whose key no earlier one has, has no finding
+pub case_none : (firsts : List ℕ → Option (Bor (List ℕ))) (earlier : List EntryReading) (said : EntryReading)
+    → AreFirstKeys firsts earlier → firsts (lowercase_key said) ≡ None → case_after earlier said ≡ []
+case_none firsts earlier said are none =
+    by (find (have_one_key said) earlier)
+    (sym (are (lowercase_key said)) ∙ ap (option_map (λ (key : Bor (List ℕ)). key.now)) none)
+  where
+    by : (first : Option EntryReading) → option_map key_text first ≡ None
+        → option_map_or (λ e. case_finding said e.key.text ∷ []) first [] ≡ []
+    by None is = refl
+    by (Some e) is = absurd (let clash : Some (key_text e) ≡ None = is in cc)
+
+-- appending the finding of the next entry extends those of the entries before it
+pub case_next : (entries earlier : List EntryReading) (said : EntryReading) (old mid new : List Finding)
+    → entries ≡ earlier ++ said ∷ [] → mid ≡ old ++ case_findings earlier → new ≡ mid ++ case_after earlier said
+    → new ≡ old ++ case_findings entries
+case_next entries earlier said old mid new is before more =
+    more ∙ ap (λ l. l ++ case_after earlier said) before ∙ append_assoc old (case_findings earlier) (case_after earlier said)
+    ∙ ap (λ l. old ++ l) (sym (after_more case_after [] earlier said)) ∙ ap (λ l. old ++ case_findings l) (sym is)

@@ -1,0 +1,16 @@
+-- Machinery: words of private contracts.
+-- The first entry with each key, if ASCII case doesn't count.
+use Rattle.std.specs.Prelude.{◌≡◌, ℕ, List, bytes_eq, find, option_map, Option}
+use Rattle.std.specs.Borrow.{Bor}
+use Rattle.std.specs.Str.{str_to_ascii_lowercase}
+use Rattle.bib_syntax.specs.Reading.{EntryReading}
+
+-- the key of an entry in lowercase
+abbrev pub lowercase_key : EntryReading → List ℕ
+lowercase_key said = str_to_ascii_lowercase said.key.text
+
+-- whether each key in lowercase has the key of the first of the earlier entries that have it
+abbrev pub AreFirstKeys : (List ℕ → Option (Bor (List ℕ))) → List EntryReading → Type 0
+AreFirstKeys firsts earlier =
+    (name : List ℕ) → option_map (λ key. key.now) (firsts name) ≡
+    option_map (λ e. e.key.text) (find (λ e. bytes_eq name (lowercase_key e)) earlier)

@@ -1,0 +1,173 @@
+//! Findings of fields that are repeated or empty, and of DOIs with an address.
+
+ghost use Rattle.std.specs.Prelude.{◌≡◌, ◌++◌, [], ◌∷◌, codes, if◌then◌else◌, map, IfOk, OnOk};
+ghost use Rattle.std.specs.List.{flat_map, list_all};
+ghost use Rattle.std.specs.String.{string_bytes};
+ghost use Rattle.bib_syntax.specs.Views.{entry_reading_of, field_of, piece_of};
+ghost use Rattle.bib_findings.specs.Fields as spec;
+ghost use Rattle.bib_findings.specs.Fields.{address_findings, empty_finding, empty_findings, empty_of, is_blank_piece, repeated_finding, repeated_findings};
+
+use crate::codes::Code;
+use crate::finding::Finding;
+use crate::foreign::begins_with_any;
+use crate::identities::own_literal;
+use crate::places::field_place;
+use bib_syntax::raw::{Pair, RawChunk, RawEntry};
+use bib_text::spanned::Spanned;
+use bib_text::text::Text;
+use std::alloc::{AllocError, Global};
+use std::collections::BTreeSet;
+
+// Returns the message about a name of the entry with this key, with words before and after the name.
+pub(crate) fn named_message(
+    alloc: Global,
+    key: &str,
+    before: &str,
+    name: &str,
+    after: &str,
+) -> Result<String, AllocError>
+    ensures { IfOk result (λ text. string_bytes text ≡ spec.named_message key.now before.now name.now after.now) }
+{
+    format!(in alloc; "{key}: {before}`{name}`{after}")
+}
+
+// Returns the finding of a field whose name an earlier field of the entry with this key has.
+fn repeated_finding(alloc: Global, key: &str, field: &Pair<'_>) -> Result<Finding, AllocError>
+    ensures { IfOk result (λ finding. finding ≡ repeated_finding key.now (field_of field.now)) }
+{
+    let after = " occurs again; BibTeX keeps the first, Biber the last";
+    let message = named_message(alloc, key, "field ", field.key.v, after)?;
+    Ok(Finding {
+        code: Code::RepeatedField,
+        span: field.key.span.start..field.key.span.end,
+        message: Text::from_string(message),
+    })
+}
+
+// Appends the finding of a field, unless its name is new.
+fn add_unless_new(
+    alloc: Global,
+    found: &mut Vec<Finding>,
+    is_new: bool,
+    key: &str,
+    field: &Pair<'_>,
+) -> Result<(), AllocError>
+    ensures { OnOk result (found.new.items ≡ found.old.items ++
+        (if is_new then [] else repeated_finding key.now (field_of field.now) ∷ [])) }
+{
+    if !is_new {
+        found.push(repeated_finding(alloc, key, field)?)?;
+    }
+    Ok(())
+}
+
+/// Appends a finding for each field of an entry whose name an earlier field has, in any ASCII case.
+pub(crate) fn add_repeated(
+    alloc: Global,
+    found: &mut Vec<Finding>,
+    said: &Spanned<RawEntry<'_>>,
+) -> Result<(), AllocError>
+    ensures { OnOk result (found.new.items ≡ found.old.items ++ repeated_findings (entry_reading_of said.now)) }
+{
+    let mut seen = BTreeSet::new(alloc);
+    'fields: for field in &said.v.fields {
+        let name = field.key.v.to_ascii_lowercase(alloc)?;
+        let is_new = seen.insert(name)?;
+        add_unless_new(alloc, found, is_new, said.v.key.v, field)?;
+    }
+    Ok(())
+}
+
+// Returns whether a piece of a value is a literal without a character, or with only white space.
+fn is_blank_piece(piece: &Spanned<RawChunk<'_>>) -> bool
+    ensures { result ≡ is_blank_piece (piece_of piece.now) }
+{
+    match piece.v {
+        RawChunk::Normal(text) => text.trim().is_empty(),
+        RawChunk::Abbreviation(_) => false,
+    }
+}
+
+// Returns whether all of these pieces are blank.
+fn are_blank(pieces: &[Spanned<RawChunk<'_>>]) -> bool
+    ensures { result ≡ list_all is_blank_piece (map piece_of pieces.now) }
+{
+    pieces.iter().all(is_blank_piece)
+}
+
+// Returns the finding of an empty field of the entry with this key.
+fn empty_finding(alloc: Global, key: &str, field: &Pair<'_>) -> Result<Finding, AllocError>
+    ensures { IfOk result (λ finding. finding ≡ empty_finding key.now (field_of field.now)) }
+{
+    let message = named_message(alloc, key, "field ", field.key.v, " is empty")?;
+    Ok(Finding {
+        code: Code::EmptyField,
+        span: field.key.span.start..field.key.span.end,
+        message: Text::from_string(message),
+    })
+}
+
+// Appends the finding of a field, if its value is empty.
+fn add_if_empty(
+    alloc: Global,
+    found: &mut Vec<Finding>,
+    key: &str,
+    field: &Pair<'_>,
+) -> Result<(), AllocError>
+    ensures { OnOk result (found.new.items ≡ found.old.items ++ empty_of key.now (field_of field.now)) }
+{
+    if are_blank(&field.value.v) {
+        found.push(empty_finding(alloc, key, field)?)?;
+    }
+    Ok(())
+}
+
+// Appends a finding for each of these fields of the entry with this key whose value is empty.
+fn add_empty_among(
+    alloc: Global,
+    found: &mut Vec<Finding>,
+    key: &str,
+    fields: &[Pair<'_>],
+) -> Result<(), AllocError>
+    ensures { OnOk result (found.new.items ≡ found.old.items ++ flat_map (empty_of key.now) (map field_of fields.now)) }
+{
+    'fields: for field in fields {
+        add_if_empty(alloc, found, key, field)?;
+    }
+    Ok(())
+}
+
+/// Appends a finding for each field of an entry whose value is empty.
+pub(crate) fn add_empty(
+    alloc: Global,
+    found: &mut Vec<Finding>,
+    said: &Spanned<RawEntry<'_>>,
+) -> Result<(), AllocError>
+    ensures { OnOk result (found.new.items ≡ found.old.items ++ empty_findings (entry_reading_of said.now)) }
+{
+    add_empty_among(alloc, found, said.v.key.v, &said.v.fields)
+}
+
+// The ways in which a DOI with an address or a scheme begins.
+static ADDRESS_STARTS: [&str; 3] = ["http://", "https://", "doi:"];
+
+/// Appends a finding if the DOI of an entry begins with an address or a scheme.
+pub(crate) fn add_address(
+    alloc: Global,
+    found: &mut Vec<Finding>,
+    said: &Spanned<RawEntry<'_>>,
+) -> Result<(), AllocError>
+    ensures { OnOk result (found.new.items ≡ found.old.items ++ address_findings (entry_reading_of said.now)) }
+{
+    if !begins_with_any(&ADDRESS_STARTS, own_literal(said, "doi")) {
+        return Ok(());
+    }
+    let after = " begins with an address; BibLaTeX puts `https://doi.org/` before it";
+    let message = named_message(alloc, said.v.key.v, "", "doi", after)?;
+    found.push(Finding {
+        code: Code::DoiAddress,
+        span: field_place(said, "doi"),
+        message: Text::from_string(message),
+    })?;
+    Ok(())
+}
