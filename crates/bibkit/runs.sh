@@ -171,7 +171,7 @@ for code in unread-bytes syntax unread-field circular-abbreviation duplicate-key
     run_start "the meaning of $code" 0 "$code (error): " lint --explain $code no-file.bib
 done
 for code in unknown-abbreviation unread-date unknown-type missing-field superfluous-field malformed-field malformed-date unknown-field repeated-field \
-    wrong-isbn doi-address unknown-reference likely-duplicate key-case unused-entry; do
+    wrong-isbn wrong-issn doi-address empty-key unknown-reference likely-duplicate key-case unused-entry; do
     run_start "the meaning of $code" 0 "$code (warning): " lint --explain $code no-file.bib
 done
 for code in not-a-number foreign-field empty-field; do
@@ -191,6 +191,8 @@ run 'columns are characters' 1 $'columns.bib:2:27: warning: a: unknown field `no
 printf '@misc{a, title={A}, year={2000}, volume={12A}, owner={me}}\n' >infos.bib
 printf '@article{k, titel={A}, title={B}, titel={C}\n' >cut.bib
 run 'findings of an entry that is cut' 1 $'cut.bib:1:13: warning: k: unknown field `titel`; did you mean `title`? [unknown-field]\ncut.bib:1:35: warning: k: unknown field `titel`; did you mean `title`? [unknown-field]\ncut.bib:1:35: warning: k: field `titel` occurs again; BibTeX keeps the first, Biber the last [repeated-field]\ncut.bib:2:1: error: k: expected comma [syntax]\nerrors: 1, warnings: 3\n' lint cut.bib
+printf '@book{a, author={}, title={T}, year=2001, issn={0378-5954}}\n@misc{, title={T}, year=2001}\n' >empty.bib
+run 'a required field that is empty, a wrong ISSN and an empty key' 1 $'empty.bib:1:10: warning: a: empty author [missing-field]\nempty.bib:1:43: warning: a: wrong length or check digit in `issn` [wrong-issn]\nempty.bib:2:7: warning: an entry without a key; Biber skips it [empty-key]\nerrors: 0, warnings: 3\n' lint --only missing-field,empty-field,wrong-isbn,wrong-issn,empty-key empty.bib
 run 'findings that are information' 0 $'infos.bib:1:34: info: a: malformed volume: invalid number [not-a-number]\ninfos.bib:1:48: info: field owner of another program, 1 time [foreign-field]\nerrors: 0, warnings: 0, info: 2\n' lint infos.bib
 "$program" lint --format json infos.bib >output
 holds 'information in JSON' python3 -c 'import json, sys; found = json.load(open("output")); sys.exit([it["severity"] for it in found] != ["info", "info"])'

@@ -1,5 +1,5 @@
 -- Characters of which all bytes pass a test.
-use Rattle.std.proofs.Common.{◌≡◌, ◌==◌, ℕ, Bool, true, false, true≢false, List, ◌∷◌, refl, sym, ap, ◌∙◌, arith}
+use Rattle.std.proofs.Common.{◌≡◌, ◌==◌, ◌||◌, ℕ, Bool, true, false, true≢false, List, ◌∷◌, refl, sym, ap, ◌∙◌, arith}
 use lib.Utf8.{encode, encodes}
 use Rattle.std.specs.List.{list_all}
 use Rattle.std.proofs.lemmas.Bool.{and_parts}
@@ -19,3 +19,18 @@ not_this p k c bad good =
 pub both : (p : ℕ → Bool) (c : ℕ) (cs : List ℕ) → list_all p (encodes (c ∷ cs)) ≡ true
     → (list_all p (encode c) ≡ true) × (list_all p (encodes cs) ≡ true)
 both p c cs h = and_parts (list_all p (encode c)) (list_all p (encodes cs)) (sym (list_all-append p (encode c) (encodes cs)) ∙ h)
+
+-- whether one of six tests passes, however they are joined
+any_of_six : (a b c d e f : Bool) → (((((a || b) || c) || d) || e) || f) ≡ (a || (b || (c || (d || (e || (f || false))))))
+any_of_six true b c d e f = refl
+any_of_six false true c d e f = refl
+any_of_six false false true d e f = refl
+any_of_six false false false true e f = refl
+any_of_six false false false false true f = refl
+any_of_six false false false false false true = refl
+any_of_six false false false false false false = refl
+
+pub same_six : (a b c d e f u v w x y z : Bool) → a ≡ u → b ≡ v → c ≡ w → d ≡ x → e ≡ y → f ≡ z
+    → (((((a || b) || c) || d) || e) || f) ≡ (u || (v || (w || (x || (y || (z || false))))))
+same_six a b c d e f u v w x y z first second third fourth fifth sixth =
+    rw first (rw second (rw third (rw fourth (rw fifth (rw sixth (any_of_six u v w x y z))))))

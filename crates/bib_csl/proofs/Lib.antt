@@ -1,5 +1,6 @@
 pub mod AppendFacts
 pub mod ByteFacts
+mod DoiFacts
 pub mod EditorFacts
 pub mod OrderFacts
 pub mod StandingFacts

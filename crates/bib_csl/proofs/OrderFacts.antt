@@ -10,7 +10,7 @@ use Rattle.bib_csl.specs.declared.item.ItemDate.{ItemDate}
 use Rattle.bib_csl.specs.declared.item.Name.{Name}
 use Rattle.bib_csl.specs.declared.variables.ItemType.{ItemType}
 use Rattle.bib_csl.specs.declared.variables.Variable.{Variable}
-use Rattle.bib_csl.specs.declared.variables.Variable.TheVariants.{Title, TitleShort, VolumeTitle, OriginalTitle, ContainerTitle, ContainerTitleShort, CollectionTitle, EventTitle, EventPlace, Publisher, PublisherPlace, OriginalPublisher, OriginalPublisherPlace, Genre, Volume, NumberOfVolumes, PartNumber, Issue, Number, CollectionNumber, Edition, ChapterNumber, Page, NumberOfPages, Version, Doi, Url, Pmid, Isbn, Issn, Archive, ArchiveLocation, CallNumber, Abstract, Annote, Note, Status, Keyword, Language, Author, Editor, Compiler, Director, Organizer, Translator, ContainerAuthor, Issued, Accessed, EventDate, OriginalDate}
+use Rattle.bib_csl.specs.declared.variables.Variable.TheVariants.{Title, TitleShort, VolumeTitle, OriginalTitle, ContainerTitle, ContainerTitleShort, CollectionTitle, Event, EventTitle, EventPlace, Publisher, PublisherPlace, OriginalPublisher, OriginalPublisherPlace, Genre, Volume, NumberOfVolumes, PartNumber, Issue, Number, CollectionNumber, Edition, ChapterNumber, Page, NumberOfPages, Version, Doi, Url, Pmid, Isbn, Issn, Archive, ArchiveLocation, CallNumber, Abstract, Annote, Note, Status, Keyword, Language, Author, Editor, Compiler, Director, Organizer, Translator, ContainerAuthor, Issued, Accessed, EventDate, OriginalDate}
 use Rattle.bib_csl.specs.Dates.{date_fields}
 use Rattle.bib_csl.specs.Fields.{given, given_people, given_date}
 use Rattle.bib_csl.specs.Identifiers.{identifier_fields, archive_fields}
@@ -26,13 +26,13 @@ use Rattle.bib_csl.specs.Titles.{title_fields, container_fields, event_fields}
 -- the order of variables
 abbrev order : List Variable
 order =
-    Title ∷ TitleShort ∷ VolumeTitle ∷ OriginalTitle ∷ ContainerTitle ∷ ContainerTitleShort ∷ CollectionTitle ∷ EventTitle ∷
-    EventPlace ∷ Publisher ∷ PublisherPlace ∷ OriginalPublisher ∷ OriginalPublisherPlace ∷ Genre ∷ Volume ∷ NumberOfVolumes ∷
-    PartNumber ∷ Issue ∷ Number ∷ CollectionNumber ∷ Edition ∷ ChapterNumber ∷ Page ∷ NumberOfPages ∷
-    Version ∷ Doi ∷ Url ∷ Pmid ∷ Isbn ∷ Issn ∷ Archive ∷ ArchiveLocation ∷
-    CallNumber ∷ Abstract ∷ Annote ∷ Note ∷ Status ∷ Keyword ∷ Language ∷ Author ∷
-    Editor ∷ Compiler ∷ Director ∷ Organizer ∷ Translator ∷ ContainerAuthor ∷ Issued ∷ Accessed ∷
-    EventDate ∷ OriginalDate ∷ []
+    Title ∷ TitleShort ∷ VolumeTitle ∷ OriginalTitle ∷ ContainerTitle ∷ ContainerTitleShort ∷ CollectionTitle ∷ Event ∷
+    EventTitle ∷ EventPlace ∷ Publisher ∷ PublisherPlace ∷ OriginalPublisher ∷ OriginalPublisherPlace ∷ Genre ∷ Volume ∷
+    NumberOfVolumes ∷ PartNumber ∷ Issue ∷ Number ∷ CollectionNumber ∷ Edition ∷ ChapterNumber ∷ Page ∷
+    NumberOfPages ∷ Version ∷ Doi ∷ Url ∷ Pmid ∷ Isbn ∷ Issn ∷ Archive ∷
+    ArchiveLocation ∷ CallNumber ∷ Abstract ∷ Annote ∷ Note ∷ Status ∷ Keyword ∷ Language ∷
+    Author ∷ Editor ∷ Compiler ∷ Director ∷ Organizer ∷ Translator ∷ ContainerAuthor ∷ Issued ∷
+    Accessed ∷ EventDate ∷ OriginalDate ∷ []
 
 -- the place of the variable with this name in it
 abbrev place : List ℕ → List Variable → ℕ
@@ -91,80 +91,80 @@ unfolding container_fields
 container_fields_in_order kind entry =
     joins (text ContainerTitle _) (joins (text ContainerTitleShort _) (text CollectionTitle _))
 
-event_fields_in_order : (entry : Entry) → IsBetween 7 9 (event_fields entry)
+event_fields_in_order : (entry : Entry) → IsBetween 7 10 (event_fields entry)
 unfolding event_fields
 event_fields_in_order entry =
-    joins (text EventTitle _) (text EventPlace _)
+    joins (text Event _) (joins (text EventTitle _) (text EventPlace _))
 
-publisher_fields_in_order : (entry : Entry) → IsBetween 9 11 (publisher_fields entry)
+publisher_fields_in_order : (entry : Entry) → IsBetween 10 12 (publisher_fields entry)
 unfolding publisher_fields
 publisher_fields_in_order entry =
     joins (text Publisher _) (text PublisherPlace _)
 
-original_fields_in_order : (entry : Entry) → IsBetween 11 13 (original_fields entry)
+original_fields_in_order : (entry : Entry) → IsBetween 12 14 (original_fields entry)
 unfolding original_fields
 original_fields_in_order entry =
     joins (text OriginalPublisher _) (text OriginalPublisherPlace _)
 
-volume_fields_in_order : (kind : ItemType) (entry : Entry) → IsBetween 14 20 (volume_fields kind entry)
+volume_fields_in_order : (kind : ItemType) (entry : Entry) → IsBetween 15 21 (volume_fields kind entry)
 unfolding volume_fields
 volume_fields_in_order kind entry =
     joins (text Volume _)
     (joins (text NumberOfVolumes _)
     (joins (text PartNumber _) (joins (text Issue _) (joins (text Number _) (text CollectionNumber _)))))
 
-page_fields_in_order : (entry : Entry) → IsBetween 20 25 (page_fields entry)
+page_fields_in_order : (entry : Entry) → IsBetween 21 26 (page_fields entry)
 unfolding page_fields
 page_fields_in_order entry =
     joins (text Edition _) (joins (text ChapterNumber _) (joins (text Page _) (joins (text NumberOfPages _) (text Version _))))
 
-identifier_fields_in_order : (entry : Entry) → IsBetween 25 30 (identifier_fields entry)
+identifier_fields_in_order : (entry : Entry) → IsBetween 26 31 (identifier_fields entry)
 unfolding identifier_fields
 identifier_fields_in_order entry =
     joins (text Doi _) (joins (text Url _) (joins (text Pmid _) (joins (text Isbn _) (text Issn _))))
 
-archive_fields_in_order : (entry : Entry) → IsBetween 30 33 (archive_fields entry)
+archive_fields_in_order : (entry : Entry) → IsBetween 31 34 (archive_fields entry)
 unfolding archive_fields
 archive_fields_in_order entry =
     joins (text Archive _) (joins (text ArchiveLocation _) (text CallNumber _))
 
-note_fields_in_order : (entry : Entry) → IsBetween 33 39 (note_fields entry)
+note_fields_in_order : (entry : Entry) → IsBetween 34 40 (note_fields entry)
 unfolding note_fields
 note_fields_in_order entry =
     joins (text Abstract _) (joins (text Annote _) (joins (text Note _) (joins (text Status _) (joins (text Keyword _) (text Language _)))))
 
-editor_fields_in_order : (entry : Entry) → IsBetween 40 44 (editor_fields entry)
+editor_fields_in_order : (entry : Entry) → IsBetween 41 45 (editor_fields entry)
 unfolding editor_fields
 editor_fields_in_order entry = joins (people Editor _) (joins (people Compiler _) (joins (people Director _) (people Organizer _)))
 
-people_fields_in_order : (kind : ItemType) (entry : Entry) → IsBetween 39 46 (people_fields kind entry)
+people_fields_in_order : (kind : ItemType) (entry : Entry) → IsBetween 40 47 (people_fields kind entry)
 unfolding people_fields
 people_fields_in_order kind entry =
     joins (people Author _) (joins (editor_fields_in_order entry) (joins (people Translator _) (people ContainerAuthor _)))
 
-date_fields_in_order : (entry : Entry) → IsBetween 46 50 (date_fields entry)
+date_fields_in_order : (entry : Entry) → IsBetween 47 51 (date_fields entry)
 unfolding date_fields
 date_fields_in_order entry =
     joins (date Issued _) (joins (date Accessed _) (joins (date EventDate _) (date OriginalDate _)))
 
-publishing_in_order : (entry : Entry) → IsBetween 9 14 (publishing_fields entry)
+publishing_in_order : (entry : Entry) → IsBetween 10 15 (publishing_fields entry)
 unfolding publishing_fields
 publishing_in_order entry = joins (publisher_fields_in_order entry) (joins (original_fields_in_order entry) (text Genre _))
 
-work_in_order : (kind : ItemType) (entry : Entry) → IsBetween 0 14 (work_fields kind entry)
+work_in_order : (kind : ItemType) (entry : Entry) → IsBetween 0 15 (work_fields kind entry)
 unfolding work_fields
 work_in_order kind entry =
     joins (title_fields_in_order kind entry)
     (joins (container_fields_in_order kind entry) (joins (event_fields_in_order entry) (publishing_in_order entry)))
 
-details_in_order : (kind : ItemType) (entry : Entry) → IsBetween 14 39 (detail_fields kind entry)
+details_in_order : (kind : ItemType) (entry : Entry) → IsBetween 15 40 (detail_fields kind entry)
 unfolding detail_fields
 details_in_order kind entry =
     joins (volume_fields_in_order kind entry) (joins (page_fields_in_order entry) (joins (identifier_fields_in_order entry)
     (joins (archive_fields_in_order entry) (note_fields_in_order entry))))
 
 -- the variables of an item
-all_in_order : (kind : ItemType) (entry : Entry) → IsBetween 0 50 (item_fields kind entry)
+all_in_order : (kind : ItemType) (entry : Entry) → IsBetween 0 51 (item_fields kind entry)
 unfolding item_fields
 all_in_order kind entry =
     joins (work_in_order kind entry)
@@ -220,7 +220,7 @@ pub key_found : (entry : Entry)
     ≡ Some (string entry.key)
 unfolding item_of_entry head_members
 key_found entry =
-    let last : place (codes "id") order ≡ 50 = refl in
+    let last : place (codes "id") order ≡ 51 = refl in
     kept_after (codes "id") _ (omega (arith, last)) (all_in_order (type_of_entry entry) entry)
     ∙ get_member-put_other (codes "id") (codes "type") (string (item_type_name (type_of_entry entry)))
     (put (codes "id") (string entry.key) no_members) id_is_not_type
@@ -231,6 +231,6 @@ pub type_found : (entry : Entry)
     ≡ Some (string (item_type_name (type_of_entry entry)))
 unfolding item_of_entry head_members
 type_found entry =
-    let last : place (codes "type") order ≡ 50 = refl in
+    let last : place (codes "type") order ≡ 51 = refl in
     kept_after (codes "type") _ (omega (arith, last)) (all_in_order (type_of_entry entry) entry)
     ∙ get_member-put (codes "type") (string (item_type_name (type_of_entry entry))) (put (codes "id") (string entry.key) no_members)

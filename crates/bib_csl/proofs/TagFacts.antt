@@ -1,5 +1,5 @@
 -- Texts with tags, character by character.
-use Rattle.std.proofs.Common.{◌≡◌, ◌++◌, ℕ, true, false, List, [], ◌∷◌, Option, None, reverse, refl, sym, ap, ap₂, ◌∙◌, append_assoc}
+use Rattle.std.proofs.Common.{◌≡◌, ◌++◌, ℕ, Bool, true, false, List, [], ◌∷◌, Option, None, reverse, refl, sym, ap, ap₂, ◌∙◌, append_assoc}
 use lib.Utf8.{encode, encodes}
 use Rattle.std.specs.List.{list_all}
 use Rattle.std.specs.Option.{unwrap_or}
@@ -8,24 +8,45 @@ use Rattle.std.proofs.lemmas.List.{reverse-append}
 use Rattle.std.proofs.lemmas.Str.{encodes-chars}
 use Rattle.bib_text.specs.Places.{Place, CharAt, AtEnd}
 use Rattle.bib_text.proofs.TextFacts.{ahead, MovesPast, passed_char, chars_at_end}
-use Rattle.bib_csl.specs.Markup.{untie, untied, said, said_plainly, shown_in, is_address, open_plainly, begins_name, open_after, name_after, said_last, closing_tag, all_ended, marked_from, marked_text}
+use Rattle.bib_csl.specs.Markup.{untie, loosen, loosened, said, said_plainly, shown_in, is_address, open_plainly, begins_name, open_after, name_after, said_last, closing_tag, all_ended, marked_from, marked_text}
+use Rattle.bib_csl.specs.Numbers.{follows_dash_after, page_sign, pages_from}
 use Rattle.bib_csl.specs.Unmarked.{is_unmarked}
 use Rattle.bib_csl.proofs.ByteFacts.{not_this, both}
 
--- a character of a text whose words are tied by spaces
-pub untied_step : (out more total : List ℕ) {u x : Place} {c : ℕ} → CharAt u c x → IsUtf8 (ahead u) → more ≡ out ++ untie c
-    → out ++ untied (chars (ahead u)) ≡ total → (x.text ≡ u.text) × IsUtf8 (ahead x) × (more ++ untied (chars (ahead x)) ≡ total)
-untied_step out more total {u} {x} {c} char utf8 wrote before =
+-- a character of a name
+pub loosened_step : (out more total : List ℕ) {u x : Place} {c : ℕ} → CharAt u c x → IsUtf8 (ahead u) → more ≡ out ++ loosen c
+    → out ++ loosened (chars (ahead u)) ≡ total → (x.text ≡ u.text) × IsUtf8 (ahead x) × (more ++ loosened (chars (ahead x)) ≡ total)
+loosened_step out more total {u} {x} {c} char utf8 wrote before =
     let passed : MovesPast u (c ∷ []) x = passed_char char utf8 in (
       passed.same,
       passed.utf8,
-      ap (λ o. o ++ untied (chars (ahead x))) wrote ∙ append_assoc out (untie c) (untied (chars (ahead x)))
-          ∙ ap (λ cs. out ++ untied cs) (sym passed.spelt) ∙ before,
+      ap (λ o. o ++ loosened (chars (ahead x))) wrote ∙ append_assoc out (loosen c) (loosened (chars (ahead x)))
+          ∙ ap (λ cs. out ++ loosened cs) (sym passed.spelt) ∙ before,
     )
 
 -- its end
-pub untied_end : (out total : List ℕ) (u : Place) → AtEnd u → out ++ untied (chars (ahead u)) ≡ total → out ++ [] ≡ total
-untied_end out total u end before = ap (λ cs. out ++ untied cs) (sym (chars_at_end u end)) ∙ before
+pub loosened_end : (out total : List ℕ) (u : Place) → AtEnd u → out ++ loosened (chars (ahead u)) ≡ total → out ++ [] ≡ total
+loosened_end out total u end before = ap (λ cs. out ++ loosened cs) (sym (chars_at_end u end)) ∙ before
+
+-- a character of ranges of pages
+pub pages_step : (out more total : List ℕ) (before after : Bool) {u x : Place} {c : ℕ} → CharAt u c x → IsUtf8 (ahead u)
+    → more ≡ out ++ page_sign before c → after ≡ follows_dash_after before c
+    → out ++ pages_from before (chars (ahead u)) ≡ total
+    → (x.text ≡ u.text) × IsUtf8 (ahead x) × (more ++ pages_from after (chars (ahead x)) ≡ total)
+pages_step out more total before after {u} {x} {c} char utf8 wrote goes given =
+    let passed : MovesPast u (c ∷ []) x = passed_char char utf8 in
+    let rest = pages_from (follows_dash_after before c) (chars (ahead x)) in (
+      passed.same,
+      passed.utf8,
+      ap (λ b. more ++ pages_from b (chars (ahead x))) goes ∙ ap (λ o. o ++ rest) wrote
+          ∙ append_assoc out (page_sign before c) rest
+          ∙ ap (λ cs. out ++ pages_from before cs) (sym passed.spelt) ∙ given,
+    )
+
+-- their end
+pub pages_end : (out total : List ℕ) (before : Bool) (u : Place) → AtEnd u
+    → out ++ pages_from before (chars (ahead u)) ≡ total → out ++ [] ≡ total
+pages_end out total before u end given = ap (λ cs. out ++ pages_from before cs) (sym (chars_at_end u end)) ∙ given
 
 -- a character of a text with tags
 pub marked_step : (out more total : List ℕ) (tags next : List (List ℕ)) (name after : Option (List ℕ)) {u x : Place}
@@ -92,9 +113,13 @@ name_same : (c : ℕ) → list_all is_unmarked (encode c) ≡ true → name_afte
 unfolding name_after begins_name
 name_same c good = rw (not_this is_unmarked 92 c no_backslash good) refl
 
-untied_same : (cs : List ℕ) → list_all is_unmarked (encodes cs) ≡ true → untied cs ≡ encodes cs
-untied_same [] h = refl
-untied_same (c ∷ cs) h = let p = both is_unmarked c cs h in ap₂ (λ a b. a ++ b) (untie_same c p.0) (untied_same cs p.1)
+loosen_same : (c : ℕ) → list_all is_unmarked (encode c) ≡ true → loosen c ≡ encode c
+unfolding loosen
+loosen_same c good = rw (not_this is_unmarked 126 c no_tilde good) refl
+
+loosened_same : (cs : List ℕ) → list_all is_unmarked (encodes cs) ≡ true → loosened cs ≡ encodes cs
+loosened_same [] h = refl
+loosened_same (c ∷ cs) h = let p = both is_unmarked c cs h in ap₂ (λ a b. a ++ b) (loosen_same c p.0) (loosened_same cs p.1)
 
 marked_same : (cs : List ℕ) → list_all is_unmarked (encodes cs) ≡ true → marked_from [] None cs ≡ encodes cs
 unfolding said_last
@@ -104,9 +129,9 @@ marked_same (c ∷ cs) h =
     ap₂ (λ a b. a ++ b) (said_same c p.0) (ap₂ (λ t n. marked_from t n cs) (open_same c p.0) (name_same c p.0) ∙ marked_same cs p.1)
 
 -- a text without such bytes stays
-pub untied_stays : (bs : List ℕ) → IsUtf8 bs → list_all is_unmarked bs ≡ true → bs ≡ untied (chars bs)
-untied_stays bs utf8 h =
-    let spelt = encodes-chars bs utf8 in sym (untied_same (chars bs) (ap (list_all is_unmarked) spelt ∙ h) ∙ spelt)
+pub loosened_stays : (bs : List ℕ) → IsUtf8 bs → list_all is_unmarked bs ≡ true → bs ≡ loosened (chars bs)
+loosened_stays bs utf8 h =
+    let spelt = encodes-chars bs utf8 in sym (loosened_same (chars bs) (ap (list_all is_unmarked) spelt ∙ h) ∙ spelt)
 
 pub marked_stays : (bs : List ℕ) → IsUtf8 bs → list_all is_unmarked bs ≡ true → bs ≡ marked_text (chars bs)
 unfolding marked_text

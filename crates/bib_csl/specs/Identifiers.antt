@@ -1,6 +1,8 @@
 -- Meaning: words of public contracts.
 -- Identifiers, addresses and archives of an item.
-use Rattle.std.specs.Prelude.{ℕ, ◌==◌, if◌then◌else◌, List, [], ◌++◌, length, codes, bytes_eq, Option, Some, None}
+use Rattle.std.specs.Prelude.{ℕ, ◌==◌, if◌then◌else◌, List, [], ◌∷◌, ◌++◌, length, codes, bytes_eq, eqb, Option, Some, None}
+use Rattle.std.specs.List.{starts_with}
+use Rattle.std.specs.Option.{unwrap_or}
 use Rattle.bib_chunks.specs.Values.{Value, lowercase_text}
 use Rattle.bib_entry.specs.declared.entry.Entry.{Entry}
 use Rattle.bib_entry.specs.Fields.{field_or}
@@ -18,7 +20,7 @@ archive_name (Some chunks) = lowercase_text chunks
 abbrev pub archive_field : Entry → Option Value
 archive_field entry = field_or entry (codes "eprinttype") (codes "archiveprefix")
 
--- the archive of the electronic version of an entry, in lowercase
+-- the archive of the electronic version of an entry, with ASCII letters in lowercase
 unfoldable pub archive_of : Entry → List ℕ
 archive_of entry = archive_name (archive_field entry)
 
@@ -62,10 +64,20 @@ archive_text entry = unaddressed (archive_of entry) (shown_field (archive_field 
 unfoldable pub archive_location : Entry → List ℕ
 archive_location entry = unaddressed (archive_of entry) (eprint_of entry)
 
+-- a text from the first `10.` on, or `None` without one
+abbrev pub from_ten : List ℕ → Option (List ℕ)
+from_ten [] = None
+from_ten (b ∷ rest) = if starts_with eqb (b ∷ rest) (codes "10.") then Some (b ∷ rest) else from_ten rest
+
+-- the DOI in a text. Each DOI begins with `10.` (ISO 26324), so an address or a scheme before it is no part of it. A text without `10.`
+-- stays.
+unfoldable pub bare_doi : List ℕ → List ℕ
+bare_doi text = unwrap_or (from_ten text) text
+
 -- the DOI, the address, the PubMed number, the ISBN and the ISSN
 unfoldable pub identifier_fields : Entry → List Field
 identifier_fields entry =
-    given Doi (shown_field (field entry (codes "doi"))) ++
+    given Doi (bare_doi (shown_field (field entry (codes "doi")))) ++
     (given Url (url_of entry) ++
     (given Pmid (pubmed_number entry) ++
     (given Isbn (shown_field (field entry (codes "isbn"))) ++

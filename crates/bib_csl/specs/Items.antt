@@ -1,6 +1,6 @@
 -- Meaning: words of public contracts.
 -- The item of an entry.
-use Rattle.std.specs.Prelude.{List, ◌++◌, codes}
+use Rattle.std.specs.Prelude.{Bool, List, ◌++◌, ◌||◌, codes, is_some}
 use Rattle.bib_entry.specs.declared.entry.Entry.{Entry}
 use Rattle.bib_csl.specs.declared.item.Field.{Field}
 use Rattle.bib_csl.specs.declared.item.Item.{Item}
@@ -15,9 +15,13 @@ use Rattle.bib_csl.specs.Texts.{field, shown_field}
 use Rattle.bib_csl.specs.Titles.{title_fields, container_fields, event_fields}
 use Rattle.bib_csl.specs.Types.{item_type_of}
 
+-- whether an entry has the title or the place of an event, such as a conference
+unfoldable pub has_event : Entry → Bool
+has_event entry = is_some (field entry (codes "eventtitle")) || is_some (field entry (codes "venue"))
+
 -- the type of the item of an entry
 unfoldable pub type_of_entry : Entry → ItemType
-type_of_entry entry = item_type_of entry.entry_type (shown_field (field entry (codes "entrysubtype")))
+type_of_entry entry = item_type_of entry.entry_type (shown_field (field entry (codes "entrysubtype"))) (has_event entry)
 
 -- the titles, the container, the event, the publishers and the genre of an item
 unfoldable pub work_fields : ItemType → Entry → List Field

@@ -1,8 +1,10 @@
 -- Meaning: words of public contracts.
 -- Texts with HTML tags for the LaTeX commands that the parser leaves in them. A text is given by its characters, and the output by bytes.
-use Rattle.std.specs.Prelude.{ℕ, Bool, false, ◌==◌, if◌then◌else◌, List, [], ◌∷◌, ◌++◌, codes, encode_utf8, encode_utf8_all, Option, Some, None, bytes_eq}
+use Rattle.std.specs.Prelude.{ℕ, Bool, false, ◌==◌, if◌then◌else◌, List, [], ◌∷◌, ◌++◌, length, codes, encode_utf8, encode_utf8_all, Option, Some, None, bytes_eq}
 use Rattle.std.specs.Char.{is_ascii_alphabetic}
-use Rattle.std.specs.Option.{unwrap_or}
+use Rattle.std.specs.List.{list_any}
+use Rattle.std.specs.Option.{option_or, unwrap_or}
+use Rattle.bib_text.specs.Enums.{words}
 use Rattle.bib_text.specs.Characters as char
 
 -- the no-break space
@@ -13,9 +15,35 @@ no_break_space = 160
 unfoldable pub untie : ℕ → List ℕ
 untie c = if c == char.tilde then encode_utf8 no_break_space else encode_utf8 c
 
--- the output for a command with this name and its opening brace: a tag, a quotation mark, a hyphen, or nothing; `None` for other commands
-unfoldable pub opening_tag : List ℕ → Option (List ℕ)
-opening_tag name =
+-- the output for a command that is a sign, whether it has an argument or not; `None` for other commands
+unfoldable pub sign_named : List ℕ → Option (List ℕ)
+sign_named name =
+    if bytes_eq name (codes "hyphen") then Some (codes "-")
+    else if bytes_eq name (codes "slash") then Some (codes "/")
+    else if bytes_eq name (codes "adddot") then Some (codes ".")
+    else if bytes_eq name (codes "ldots") then Some (encode_utf8_all (codes "…"))
+    else if bytes_eq name (codes "dots") then Some (encode_utf8_all (codes "…"))
+    else if bytes_eq name (codes "textellipsis") then Some (encode_utf8_all (codes "…"))
+    else if bytes_eq name (codes "quad") then Some (codes " ")
+    else if bytes_eq name (codes "TeX") then Some (codes "TeX")
+    else if bytes_eq name (codes "LaTeX") then Some (codes "LaTeX")
+    else if bytes_eq name (codes "LaTeXe") then Some (encode_utf8_all (codes "LaTeX2ε"))
+    else if bytes_eq name (codes "BibTeX") then Some (codes "BibTeX")
+    else if bytes_eq name (codes "MF") then Some (codes "METAFONT")
+    else None
+
+-- whether a command changes the font up to the end of its group, or has no output at all
+unfoldable pub is_silent : List ℕ → Bool
+is_silent name =
+    list_any (bytes_eq name) (words (codes "bf bfseries em it itshape relax rm rmfamily sc scshape sf sffamily sl slshape tt ttfamily"))
+
+-- the output for a command without its argument: a sign, or nothing for a silent command; `None` for other commands
+unfoldable pub said_alone : List ℕ → Option (List ℕ)
+said_alone name = option_or (sign_named name) (if is_silent name then Some [] else None)
+
+-- the opening tag or quotation mark for a command with this name; `None` for other commands
+unfoldable pub tag_before : List ℕ → Option (List ℕ)
+tag_before name =
     if bytes_eq name (codes "emph") then Some (codes "<i>")
     else if bytes_eq name (codes "textit") then Some (codes "<i>")
     else if bytes_eq name (codes "mkbibemph") then Some (codes "<i>")
@@ -25,14 +53,11 @@ opening_tag name =
     else if bytes_eq name (codes "textsc") then Some (codes "<span style=\"font-variant:small-caps;\">")
     else if bytes_eq name (codes "enquote") then Some (encode_utf8_all (codes "“"))
     else if bytes_eq name (codes "mkbibquote") then Some (encode_utf8_all (codes "“"))
-    else if bytes_eq name (codes "texttt") then Some []
-    else if bytes_eq name (codes "url") then Some []
-    else if bytes_eq name (codes "hyphen") then Some (codes "-")
     else None
 
--- the output for the closing brace of a command with this name; `None` for other commands
-unfoldable pub closing_tag : List ℕ → Option (List ℕ)
-closing_tag name =
+-- the closing tag or quotation mark for a command with this name; `None` for other commands
+unfoldable pub tag_after : List ℕ → Option (List ℕ)
+tag_after name =
     if bytes_eq name (codes "emph") then Some (codes "</i>")
     else if bytes_eq name (codes "textit") then Some (codes "</i>")
     else if bytes_eq name (codes "mkbibemph") then Some (codes "</i>")
@@ -42,10 +67,16 @@ closing_tag name =
     else if bytes_eq name (codes "textsc") then Some (codes "</span>")
     else if bytes_eq name (codes "enquote") then Some (encode_utf8_all (codes "”"))
     else if bytes_eq name (codes "mkbibquote") then Some (encode_utf8_all (codes "”"))
-    else if bytes_eq name (codes "texttt") then Some []
-    else if bytes_eq name (codes "url") then Some []
-    else if bytes_eq name (codes "hyphen") then Some []
     else None
+
+-- the output for a command and the opening brace of its argument: a tag, a quotation mark or a sign, and nothing for any other command,
+-- of which the argument alone is shown; `None` for a backslash without a name
+unfoldable pub opening_tag : List ℕ → Option (List ℕ)
+opening_tag name = if length name == 0 then None else Some (unwrap_or (tag_before name) (unwrap_or (sign_named name) []))
+
+-- the output for the closing brace of the argument of a command; `None` for a brace without a command
+unfoldable pub closing_tag : List ℕ → Option (List ℕ)
+closing_tag name = if length name == 0 then None else Some (unwrap_or (tag_after name) [])
 
 -- a command as it is: its backslash and its name
 unfoldable pub as_command : List ℕ → List ℕ
@@ -95,17 +126,22 @@ said_plainly names c = if c == char.backslash then [] else if c == char.close_br
 unfoldable pub open_plainly : List (List ℕ) → ℕ → List (List ℕ)
 open_plainly names c = if c == char.open_brace then [] ∷ names else if c == char.close_brace then around names else names
 
--- whether a command is BibLaTeX's `\hyphen`
-unfoldable pub is_hyphen_command : List ℕ → Bool
-is_hyphen_command name = bytes_eq name (codes "hyphen")
-
--- the output for a character after a command that is a sign: nothing for the space that ends the command
+-- the output for a character after a command without an argument: nothing for the space that ends the command
 unfoldable pub after_sign : List (List ℕ) → ℕ → List ℕ
 after_sign names c = if c == char.space then [] else said_plainly names c
 
+-- the output for a command that has none of its own, and the character after it: the command as it is
+unfoldable pub said_as_it_is : List (List ℕ) → List ℕ → ℕ → List ℕ
+said_as_it_is names name c = as_command name ++ said_plainly names c
+
+-- the output for a command without a brace and the character after it, given the output of the command, if it has one
+abbrev pub said_with : Option (List ℕ) → List (List ℕ) → List ℕ → ℕ → List ℕ
+said_with None names name c = said_as_it_is names name c
+said_with (Some sign) names name c = sign ++ after_sign names c
+
 -- the output for a command without a brace and the character after it
 unfoldable pub said_after : List (List ℕ) → List ℕ → ℕ → List ℕ
-said_after names name c = if is_hyphen_command name then codes "-" ++ after_sign names c else as_command name ++ said_plainly names c
+said_after names name c = said_with (said_alone name) names name c
 
 -- the empty name after a backslash, which begins a command
 unfoldable pub begins_name : ℕ → Option (List ℕ)
@@ -143,7 +179,7 @@ all_ended (name ∷ names) = unwrap_or (closing_tag name) [] ++ all_ended names
 -- the output at the end: the command that is being read, and the closing tags of all open braces
 unfoldable pub said_last : List (List ℕ) → Option (List ℕ) → List ℕ
 said_last names None = all_ended names
-said_last names (Some name) = as_command name ++ all_ended names
+said_last names (Some name) = unwrap_or (said_alone name) (as_command name) ++ all_ended names
 
 -- the output for the rest of a text
 abbrev pub marked_from : List (List ℕ) → Option (List ℕ) → List ℕ → List ℕ
@@ -154,7 +190,12 @@ marked_from names name (c ∷ cs) = said names name c ++ marked_from (open_after
 unfoldable pub marked_text : List ℕ → List ℕ
 marked_text text = marked_from [] None text
 
--- a text with no-break spaces for tildes
-abbrev pub untied : List ℕ → List ℕ
-untied [] = []
-untied (c ∷ cs) = untie c ++ untied cs
+-- the output for a character of a name: a space for a tilde, otherwise the character itself. Citation processors look for initials after
+-- spaces, and not after no-break spaces.
+unfoldable pub loosen : ℕ → List ℕ
+loosen c = if c == char.tilde then codes " " else encode_utf8 c
+
+-- a text with spaces for tildes
+abbrev pub loosened : List ℕ → List ℕ
+loosened [] = []
+loosened (c ∷ cs) = loosen c ++ loosened cs

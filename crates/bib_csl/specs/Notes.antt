@@ -1,6 +1,7 @@
 -- Meaning: words of public contracts.
 -- The abstract, the notes, the keywords and the language of an item.
 use Rattle.std.specs.Prelude.{ℕ, if◌then◌else◌, List, [], ◌++◌, codes, bytes_eq, Option, Some, None}
+use Rattle.std.specs.Option.{option_or}
 use Rattle.bib_chunks.specs.Values.{Value, text}
 use Rattle.bib_entry.specs.declared.entry.Entry.{Entry}
 use Rattle.bib_entry.specs.Fields.{field_or}
@@ -11,7 +12,7 @@ use Rattle.bib_values.specs.Enumerations.{language_read}
 use Rattle.bib_csl.specs.declared.item.Field.{Field}
 use Rattle.bib_csl.specs.declared.variables.Variable.TheVariants as variable
 use Rattle.bib_csl.specs.Fields.{given}
-use Rattle.bib_csl.specs.Texts.{field, shown_field, rich_text, rich_text_or, either, joined}
+use Rattle.bib_csl.specs.Texts.{field, shown_field, rich_text, rich_text_or, either, joined_by_mark}
 
 -- the tag of a language (BCP 47)
 unfoldable pub tag_of : Language → List ℕ
@@ -44,10 +45,22 @@ unfoldable pub language_of : Option Value → List ℕ
 language_of None = []
 language_of (Some chunks) = language_or_text (language_read chunks) (text chunks)
 
--- the fields `note`, `addendum` and `howpublished`, with `. ` between them
+-- the publication status for BibLaTeX's keys in the field `pubstate`, or any other text as it is
+unfoldable pub status_named : List ℕ → List ℕ
+status_named text =
+    if bytes_eq text (codes "inpreparation") then codes "in preparation"
+    else if bytes_eq text (codes "inpress") then codes "in press"
+    else if bytes_eq text (codes "prepublished") then codes "pre-published"
+    else text
+
+-- the field with the language: `langid`, or `hyphenation`, its former name, or else `language`
+abbrev pub language_value : Entry → Option Value
+language_value entry = option_or (field_or entry (codes "langid") (codes "hyphenation")) (field entry (codes "language"))
+
+-- the fields `note`, `addendum` and `howpublished`, with full stops between them
 unfoldable pub note_of : Entry → List ℕ
 note_of entry =
-    joined (codes ". ") (joined (codes ". ") (rich_text entry (codes "note")) (rich_text entry (codes "addendum")))
+    joined_by_mark (codes ".") (joined_by_mark (codes ".") (rich_text entry (codes "note")) (rich_text entry (codes "addendum")))
     (rich_text entry (codes "howpublished"))
 
 -- the abstract, the annotation, the note, the publication status, the keywords and the language
@@ -56,6 +69,6 @@ note_fields entry =
     given variable.Abstract (rich_text entry (codes "abstract")) ++
     (given variable.Annote (rich_text_or entry (codes "annotation") (codes "annote")) ++
     (given variable.Note (note_of entry) ++
-    (given variable.Status (shown_field (field entry (codes "pubstate"))) ++
+    (given variable.Status (status_named (shown_field (field entry (codes "pubstate")))) ++
     (given variable.Keyword (shown_field (field entry (codes "keywords"))) ++
-    given variable.Language (language_of (field_or entry (codes "langid") (codes "language")))))))
+    given variable.Language (language_of (language_value entry))))))

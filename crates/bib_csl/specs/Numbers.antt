@@ -1,46 +1,55 @@
 -- Meaning: words of public contracts.
 -- The numbers of an item.
-use Rattle.std.specs.Prelude.{ℕ, ◌==◌, if◌then◌else◌, List, [], ◌∷◌, ◌++◌, codes, encode_utf8, Option, Some, None}
-use Rattle.std.specs.Fmt.{decimal}
+use Rattle.std.specs.Prelude.{ℕ, ◌==◌, Bool, false, if◌then◌else◌, List, [], ◌∷◌, ◌++◌, codes, encode_utf8, Option, Some, None}
+use Rattle.std.specs.Char.{is_whitespace}
+use Rattle.std.specs.Str.{chars}
 use Rattle.std.specs.declared.ops.Range.{Range}
 use Rattle.bib_text.specs.Characters as char
 use Rattle.bib_chunks.specs.Values.{Value, text}
 use Rattle.bib_entry.specs.declared.entry.Entry.{Entry}
-use Rattle.bib_values.specs.Ranges.{ranges_read}
+use Rattle.bib_values.specs.Ranges.{is_dash, ranges_read}
 use Rattle.bib_csl.specs.declared.item.Field.{Field}
 use Rattle.bib_csl.specs.declared.variables.ItemType.{ItemType}
 use Rattle.bib_csl.specs.declared.variables.Variable.TheVariants.{Volume, NumberOfVolumes, PartNumber, Issue, Number, CollectionNumber, Edition, ChapterNumber, Page, NumberOfPages, Version}
 use Rattle.bib_csl.specs.Fields.{given}
-use Rattle.bib_csl.specs.Texts.{field, shown_field, joined}
+use Rattle.bib_csl.specs.Texts.{either, field, shown_field, joined}
 use Rattle.bib_csl.specs.Types.{counts_issues, counts_series}
 
 -- the issue: the fields `number` and `issue` if `number` counts issues, otherwise `issue`
 unfoldable pub issue_of : ItemType → List ℕ → List ℕ → List ℕ
 issue_of kind number issue = if counts_issues kind then joined (codes ", ") number issue else issue
 
--- the number of the item itself: `number`, unless it counts issues or the works of a series
-unfoldable pub own_number : ItemType → List ℕ → List ℕ
-own_number kind number = if counts_issues kind then [] else if counts_series kind then [] else number
+-- the number of the item itself: `number`, or else `eid`, the number of an article in place of its pages; only `eid` if `number` counts the
+-- issues or the works of a series
+unfoldable pub own_number : ItemType → List ℕ → List ℕ → List ℕ
+own_number kind number eid = if counts_issues kind then eid else if counts_series kind then eid else either number eid
 
 -- the number in the series, if `number` counts the works of a series
 unfoldable pub collection_number : ItemType → List ℕ → List ℕ
 collection_number kind number = if counts_series kind then number else []
 
--- the pages of a range: its first and last with an en dash between them, or the one page
-unfoldable pub pages_of : Range ℕ → List ℕ
-pages_of range =
-    if range.start == range.end then decimal range.start
-    else decimal range.start ++ (encode_utf8 char.en_dash ++ decimal range.end)
+-- the output for a character of ranges of pages: nothing for white space, an en dash for the first of several dashes, and a space after a
+-- comma; digits stay, also zeros at the start of a page, which belong to it
+unfoldable pub page_sign : Bool → ℕ → List ℕ
+page_sign follows_dash c =
+    if is_whitespace c then []
+    else if is_dash c then (if follows_dash then [] else encode_utf8 char.en_dash)
+    else if c == char.comma then codes ", "
+    else encode_utf8 c
 
--- ranges of pages after some text, with commas between them
-unfoldable pub pages_after : List ℕ → List (Range ℕ) → List ℕ
-pages_after before [] = before
-pages_after before (range ∷ ranges) = pages_after (joined (codes ", ") before (pages_of range)) ranges
+-- whether the last character so far that isn't white space is a dash
+unfoldable pub follows_dash_after : Bool → ℕ → Bool
+follows_dash_after follows_dash c = if is_whitespace c then follows_dash else is_dash c
 
--- the parsed ranges of pages, or the text if it can't be parsed
+-- ranges of pages with en dashes and with a space after each comma; a text is given by its characters
+abbrev pub pages_from : Bool → List ℕ → List ℕ
+pages_from follows_dash [] = []
+pages_from follows_dash (c ∷ cs) = page_sign follows_dash c ++ pages_from (follows_dash_after follows_dash c) cs
+
+-- the ranges of pages in a text, if it can be parsed as such, otherwise the text
 abbrev pub pages_text : Option (List (Range ℕ)) → List ℕ → List ℕ
 pages_text None whole = whole
-pages_text (Some ranges) whole = pages_after [] ranges
+pages_text (Some ranges) whole = pages_from false (chars whole)
 
 -- the pages of a field
 unfoldable pub pages : Option Value → List ℕ
@@ -55,7 +64,7 @@ volume_fields kind entry =
     (given NumberOfVolumes (shown_field (field entry (codes "volumes"))) ++
     (given PartNumber (shown_field (field entry (codes "part"))) ++
     (given Issue (issue_of kind number (shown_field (field entry (codes "issue")))) ++
-    (given Number (own_number kind number) ++
+    (given Number (own_number kind number (shown_field (field entry (codes "eid")))) ++
     given CollectionNumber (collection_number kind number)))))
 
 -- the edition, the chapter, the pages, the number of pages, and the version

@@ -23,7 +23,7 @@ use Rattle.bib_csl.specs.declared.variables.ItemType.TheVariants as item_type
 use Rattle.bib_csl.specs.declared.variables.Variable.{Variable}
 use Rattle.bib_csl.specs.declared.variables.Variable.TheVariants.{Author, Editor, Compiler, Director, Organizer, Translator, ContainerAuthor}
 use Rattle.bib_csl.specs.Fields.{given_people}
-use Rattle.bib_csl.specs.Markup.{untied}
+use Rattle.bib_csl.specs.Markup.{loosened}
 use Rattle.bib_csl.specs.Names.{variable_name}
 use Rattle.bib_csl.specs.Texts.{field}
 
@@ -37,31 +37,31 @@ is_braced (Math chars) = false
 unfoldable pub is_literal : Value → Bool
 is_literal chunks = list_all (λ c. is_braced c.v) chunks || bytes_eq (text chunks) (codes "others")
 
--- a part of a name, with no-break spaces for tildes
-abbrev pub untied_name : List ℕ → List ℕ
-untied_name text = untied (chars text)
+-- the text of a name or of a part of it, with spaces for tildes
+abbrev pub loosened_name : List ℕ → List ℕ
+loosened_name text = loosened (chars text)
 
 -- the parts of a person's name; the flag says whether the prefix is part of the family name (a non-dropping particle)
 unfoldable pub parts_with : Bool → Person → NameParts
 parts_with true p = record {
-  family = untied_name p.name;
-  given = untied_name p.given_name;
-  suffix = untied_name p.suffix;
+  family = loosened_name p.name;
+  given = loosened_name p.given_name;
+  suffix = loosened_name p.suffix;
   dropping_particle = [];
-  non_dropping_particle = untied_name p.prefix;
+  non_dropping_particle = loosened_name p.prefix;
 }
 parts_with false p = record {
-  family = untied_name p.name;
-  given = untied_name p.given_name;
-  suffix = untied_name p.suffix;
-  dropping_particle = untied_name p.prefix;
+  family = loosened_name p.name;
+  given = loosened_name p.given_name;
+  suffix = loosened_name p.suffix;
+  dropping_particle = loosened_name p.prefix;
   non_dropping_particle = [];
 }
 
 -- the name in chunks; the flag says whether a prefix is part of the family name, unless the name itself says so
 unfoldable pub name_said : Bool → Value → Name
 name_said uses_prefix chunks =
-    if is_literal chunks then Literal (untied_name (text chunks))
+    if is_literal chunks then Literal (loosened_name (text chunks))
     else Parts (parts_with (unwrap_or (person_of chunks).use_prefix uses_prefix) (person_of chunks))
 
 -- whether a name is empty

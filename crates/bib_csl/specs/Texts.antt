@@ -1,9 +1,10 @@
 -- Meaning: words of public contracts.
 -- The texts of fields, plain or with HTML tags, as in CSL-JSON. A text is given by its bytes.
-use Rattle.std.specs.Prelude.{ℕ, Bool, true, false, ◌==◌, if◌then◌else◌, List, [], ◌∷◌, ◌++◌, length, codes, Option, Some, None}
+use Rattle.std.specs.Prelude.{ℕ, Bool, true, false, ◌==◌, if◌then◌else◌, List, [], ◌∷◌, ◌++◌, length, codes, eqb, ◌||◌, Option, Some, None}
 use Rattle.std.specs.FinMap as by_name
-use Rattle.std.specs.List.{flat_map}
+use Rattle.std.specs.List.{ends_with, flat_map, list_any}
 use Rattle.std.specs.Str.{chars}
+use Rattle.bib_text.specs.Enums.{words}
 use Rattle.bib_text.specs.declared.spanned.Spanned.{Spanned}
 use Rattle.bib_chunks.specs.declared.chunk.Chunk.{Chunk}
 use Rattle.bib_chunks.specs.declared.chunk.Chunk.TheVariants.{Normal, Verbatim, Math}
@@ -73,6 +74,27 @@ joined separator first next =
     if length next == 0 then first
     else if length first == 0 then next
     else first ++ (separator ++ next)
+
+-- the marks after which no other mark is written
+abbrev pub marks : List (List ℕ)
+marks = words (codes "? ! . , : ;")
+
+-- whether a text ends with one of these marks and then this end
+abbrev pub ends_with_mark_before : List ℕ → List ℕ → Bool
+ends_with_mark_before end text = list_any (λ mark. ends_with eqb text (mark ++ end)) marks
+
+-- whether a text ends with one of these marks, or with one in emphasis or in a tag that keeps the case
+unfoldable pub ends_with_mark : List ℕ → Bool
+ends_with_mark text =
+    ends_with_mark_before [] text || (ends_with_mark_before (codes "</i>") text || ends_with_mark_before (codes "</span>") text)
+
+-- the separator of two texts: a mark and a space, or the space alone after a text that ends with a mark of its own
+unfoldable pub mark_after : List ℕ → List ℕ → List ℕ
+mark_after mark first = if ends_with_mark first then codes " " else mark ++ codes " "
+
+-- two texts with a mark and a space between them, or only one of them if the other is empty
+unfoldable pub joined_by_mark : List ℕ → List ℕ → List ℕ → List ℕ
+joined_by_mark mark first next = joined (mark_after mark first) first next
 
 -- the texts of a list after another text, with semicolons between them
 abbrev pub listed_after : List ℕ → List Value → List ℕ

@@ -1,19 +1,19 @@
 -- Meaning: words of public contracts.
 -- The titles of an item, of its container and of its event.
-use Rattle.std.specs.Prelude.{ℕ, true, ◌==◌, if◌then◌else◌, List, [], ◌++◌, length, codes, bytes_eq}
+use Rattle.std.specs.Prelude.{ℕ, true, ◌||◌, ◌==◌, if◌then◌else◌, List, [], ◌++◌, length, codes, bytes_eq}
 use Rattle.bib_entry.specs.declared.entry.Entry.{Entry}
 use Rattle.bib_entry.specs.Fields.{field_or}
 use Rattle.bib_csl.specs.declared.item.Field.{Field}
 use Rattle.bib_csl.specs.declared.variables.ItemType.{ItemType}
-use Rattle.bib_csl.specs.declared.variables.Variable.TheVariants.{Title, TitleShort, VolumeTitle, ContainerTitle, ContainerTitleShort, CollectionTitle, OriginalTitle, EventTitle, EventPlace}
+use Rattle.bib_csl.specs.declared.variables.Variable.TheVariants.{Title, TitleShort, VolumeTitle, ContainerTitle, ContainerTitleShort, CollectionTitle, OriginalTitle, Event, EventTitle, EventPlace}
 use Rattle.bib_csl.specs.Fields.{given}
-use Rattle.bib_csl.specs.Texts.{marked_field, title_text, rich_text, either, joined}
+use Rattle.bib_csl.specs.Texts.{marked_field, title_text, rich_text, either, joined_by_mark}
 use Rattle.bib_csl.specs.Types.{is_article, is_in_book, is_volume}
 
 -- a title with its subtitle and its addition, which are in the fields `subtitle` and `addon`
 unfoldable pub with_subtitle : Entry → List ℕ → List ℕ → List ℕ → List ℕ
 with_subtitle entry title subtitle addon =
-    joined (codes ". ") (joined (codes ": ") title (title_text entry subtitle)) (title_text entry addon)
+    joined_by_mark (codes ".") (joined_by_mark (codes ":") title (title_text entry subtitle)) (title_text entry addon)
 
 -- the title of the work itself
 unfoldable pub own_title : Entry → List ℕ
@@ -33,28 +33,32 @@ journal_title entry =
     with_subtitle entry (marked_field true (field_or entry (codes "journaltitle") (codes "journal")))
     (codes "journalsubtitle") (codes "journaltitleaddon")
 
+-- the title of a volume, or else the title of a book
+unfoldable pub title_of_whole : Entry → List ℕ
+title_of_whole entry = either (own_title entry) (title_of_book entry)
+
 -- the title of the item; for a book or a periodical that is a volume of a work, this is the title of the work
 unfoldable pub item_title : ItemType → Entry → List ℕ
-item_title kind entry = if is_volume kind then either (title_of_work entry) (own_title entry) else own_title entry
+item_title kind entry = if is_volume kind then either (title_of_work entry) (title_of_whole entry) else own_title entry
 
 -- the title of the volume, if the work of several volumes has a title of its own
 unfoldable pub volume_title : ItemType → Entry → List ℕ
 volume_title kind entry =
     if length (title_of_work entry) == 0 then []
-    else if is_volume kind then own_title entry
+    else if is_volume kind then title_of_whole entry
     else if is_in_book kind then title_of_book entry
     else []
 
--- the title of the container: the work of several volumes, the book or the journal
+-- the title of the container: the work of several volumes, the book or the journal; a book is in no other book
 unfoldable pub container_title : ItemType → Entry → List ℕ
 container_title kind entry =
     if is_in_book kind then either (title_of_work entry) (title_of_book entry)
-    else if is_article kind then journal_title entry
+    else if is_article kind || is_volume kind then journal_title entry
     else either (journal_title entry) (title_of_book entry)
 
 -- the name of the event, such as a conference
 unfoldable pub event_title : Entry → List ℕ
-event_title entry = joined (codes ". ") (title_text entry (codes "eventtitle")) (title_text entry (codes "eventtitleaddon"))
+event_title entry = joined_by_mark (codes ".") (title_text entry (codes "eventtitle")) (title_text entry (codes "eventtitleaddon"))
 
 -- the title, the short title, the title of the volume and the title of the original
 unfoldable pub title_fields : ItemType → Entry → List Field
@@ -82,6 +86,7 @@ container_fields kind entry =
     (given ContainerTitleShort (title_text entry (codes "shortjournal")) ++
     given CollectionTitle (series_title entry))
 
--- the title and the place of the event, such as a conference
+-- the title of the event, such as a conference, under both of its names, and its place
 unfoldable pub event_fields : Entry → List Field
-event_fields entry = given EventTitle (event_title entry) ++ given EventPlace (rich_text entry (codes "venue"))
+event_fields entry =
+    given Event (event_title entry) ++ (given EventTitle (event_title entry) ++ given EventPlace (rich_text entry (codes "venue")))

@@ -13,48 +13,71 @@ type_of_article subtype =
     else if bytes_eq subtype (codes "newspaper") then item_type.ArticleNewspaper
     else item_type.ArticleJournal
 
--- the type of the item of an entry with this type and this `entrysubtype`
-abbrev pub item_type_of : EntryType → List ℕ → ItemType
-item_type_of Article subtype = type_of_article subtype
-item_type_of SuppPeriodical subtype = type_of_article subtype
-item_type_of Periodical subtype = item_type.Periodical
-item_type_of Book subtype = item_type.Book
-item_type_of MvBook subtype = item_type.Book
-item_type_of Collection subtype = item_type.Book
-item_type_of MvCollection subtype = item_type.Book
-item_type_of Proceedings subtype = item_type.Book
-item_type_of MvProceedings subtype = item_type.Book
-item_type_of Reference subtype = item_type.Book
-item_type_of MvReference subtype = item_type.Book
-item_type_of Manual subtype = item_type.Book
-item_type_of InBook subtype = item_type.Chapter
-item_type_of BookInBook subtype = item_type.Chapter
-item_type_of SuppBook subtype = item_type.Chapter
-item_type_of InCollection subtype = item_type.Chapter
-item_type_of SuppCollection subtype = item_type.Chapter
-item_type_of InReference subtype = item_type.EntryEncyclopedia
-item_type_of InProceedings subtype = item_type.PaperConference
-item_type_of Booklet subtype = item_type.Pamphlet
-item_type_of Thesis subtype = item_type.Thesis
-item_type_of MastersThesis subtype = item_type.Thesis
-item_type_of PhdThesis subtype = item_type.Thesis
-item_type_of Report subtype = item_type.Report
-item_type_of TechReport subtype = item_type.Report
-item_type_of Patent subtype = item_type.Patent
-item_type_of Online subtype = item_type.Webpage
-item_type_of Dataset subtype = item_type.Dataset
-item_type_of Software subtype = item_type.Software
-item_type_of Unpublished subtype = item_type.Manuscript
-item_type_of Misc subtype = item_type.Document
-item_type_of Set subtype = item_type.Document
-item_type_of XData subtype = item_type.Document
-item_type_of (Unknown name) subtype = item_type.Document
+-- the type of the item of an entry with the name of a type that only BibLaTeX's data model has, or of any other type
+unfoldable pub item_type_named : List ℕ → ItemType
+item_type_named name =
+    if bytes_eq name (codes "artwork") then item_type.Graphic
+    else if bytes_eq name (codes "image") then item_type.Graphic
+    else if bytes_eq name (codes "audio") then item_type.Song
+    else if bytes_eq name (codes "music") then item_type.Song
+    else if bytes_eq name (codes "movie") then item_type.MotionPicture
+    else if bytes_eq name (codes "video") then item_type.MotionPicture
+    else if bytes_eq name (codes "jurisdiction") then item_type.LegalCase
+    else if bytes_eq name (codes "legal") then item_type.Treaty
+    else if bytes_eq name (codes "legislation") then item_type.Legislation
+    else if bytes_eq name (codes "letter") then item_type.PersonalCommunication
+    else if bytes_eq name (codes "performance") then item_type.Performance
+    else if bytes_eq name (codes "review") then item_type.Review
+    else if bytes_eq name (codes "standard") then item_type.Standard
+    else item_type.Document
+
+-- the type of an unpublished work: a talk if the entry has an event
+abbrev pub type_of_unpublished : Bool → ItemType
+type_of_unpublished has_event = if has_event then item_type.Speech else item_type.Manuscript
+
+-- the type of the item of an entry with this type and this `entrysubtype`; `has_event` says whether the entry has an event
+abbrev pub item_type_of : EntryType → List ℕ → Bool → ItemType
+item_type_of Article subtype has_event = type_of_article subtype
+item_type_of SuppPeriodical subtype has_event = type_of_article subtype
+item_type_of Periodical subtype has_event = item_type.Periodical
+item_type_of Book subtype has_event = item_type.Book
+item_type_of MvBook subtype has_event = item_type.Book
+item_type_of Collection subtype has_event = item_type.Book
+item_type_of MvCollection subtype has_event = item_type.Book
+item_type_of Proceedings subtype has_event = item_type.Book
+item_type_of MvProceedings subtype has_event = item_type.Book
+item_type_of Reference subtype has_event = item_type.Book
+item_type_of MvReference subtype has_event = item_type.Book
+item_type_of Manual subtype has_event = item_type.Book
+item_type_of InBook subtype has_event = item_type.Chapter
+item_type_of BookInBook subtype has_event = item_type.Chapter
+item_type_of SuppBook subtype has_event = item_type.Chapter
+item_type_of InCollection subtype has_event = item_type.Chapter
+item_type_of SuppCollection subtype has_event = item_type.Chapter
+item_type_of InReference subtype has_event = item_type.EntryEncyclopedia
+item_type_of InProceedings subtype has_event = item_type.PaperConference
+item_type_of Booklet subtype has_event = item_type.Pamphlet
+item_type_of Thesis subtype has_event = item_type.Thesis
+item_type_of MastersThesis subtype has_event = item_type.Thesis
+item_type_of PhdThesis subtype has_event = item_type.Thesis
+item_type_of Report subtype has_event = item_type.Report
+item_type_of TechReport subtype has_event = item_type.Report
+item_type_of Patent subtype has_event = item_type.Patent
+item_type_of Online subtype has_event = item_type.Webpage
+item_type_of Dataset subtype has_event = item_type.Dataset
+item_type_of Software subtype has_event = item_type.Software
+item_type_of Unpublished subtype has_event = type_of_unpublished has_event
+item_type_of Misc subtype has_event = item_type.Document
+item_type_of Set subtype has_event = item_type.Document
+item_type_of XData subtype has_event = item_type.Document
+item_type_of (Unknown name) subtype has_event = item_type_named name
 
 -- whether the item is an article
 abbrev pub is_article : ItemType → Bool
 is_article item_type.ArticleJournal = true
 is_article item_type.ArticleMagazine = true
 is_article item_type.ArticleNewspaper = true
+is_article item_type.Review = true
 is_article other = false
 
 -- whether the item is a part of a book
@@ -76,6 +99,7 @@ counts_issues item_type.ArticleJournal = true
 counts_issues item_type.ArticleMagazine = true
 counts_issues item_type.ArticleNewspaper = true
 counts_issues item_type.Periodical = true
+counts_issues item_type.Review = true
 counts_issues other = false
 
 -- whether the field `number` counts the works of a series

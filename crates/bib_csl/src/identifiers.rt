@@ -132,6 +132,22 @@ fn archive_location(alloc: Global, entry: &Entry) -> Result<Text, AllocError>
     Ok(unaddressed(alloc, archive.as_str(), eprint))
 }
 
+// Returns the DOI in a text: the text from the first `10.` on, or the whole text without one. Each DOI begins with `10.`, so an address or a
+// scheme before it is no part of it.
+#[tactic(auto, unfolding(crate::specs::Identifiers::bare_doi))]
+fn bare_doi(alloc: Global, text: &str) -> Result<Text, AllocError>
+    ensures { IfOk result (λ doi. doi ≡ spec.bare_doi text.now) }
+{
+    match text.split_once("10.") {
+        Some((_, rest)) => {
+            let mut doi = Text::from_str(alloc, "10.")?;
+            doi.push_str(rest)?;
+            Ok(doi)
+        }
+        None => Text::from_str(alloc, text),
+    }
+}
+
 // Appends the DOI, the address, the PubMed number, the ISBN and the ISSN.
 #[tactic(auto, unfolding(crate::specs::Identifiers::identifier_fields))]
 pub(crate) fn add_identifiers(
@@ -141,7 +157,8 @@ pub(crate) fn add_identifiers(
 ) -> Result<(), AllocError>
     ensures { OnOk result (fields.new ≡ fields.old ++ spec.identifier_fields entry.now) }
 {
-    add_plain(alloc, Variable::Doi, entry, "doi", fields)?;
+    let doi = plain_text(alloc, entry, "doi")?;
+    add_text(fields, Variable::Doi, bare_doi(alloc, doi.as_str())?)?;
     add_text(fields, Variable::Url, url_of(alloc, entry)?)?;
     add_text(fields, Variable::Pmid, pubmed_number(alloc, entry)?)?;
     add_plain(alloc, Variable::Isbn, entry, "isbn", fields)?;

@@ -1,7 +1,7 @@
 //! The item of an entry.
 
 ghost use Rattle.std.specs.Prelude.{◌≡◌, ◌++◌, OnOk, IfOk};
-ghost use Rattle.bib_csl.specs.Items.{type_of_entry, work_fields, detail_fields, item_fields, item_of_entry};
+ghost use Rattle.bib_csl.specs.Items.{has_event, type_of_entry, work_fields, detail_fields, item_fields, item_of_entry};
 
 use crate::dates::add_dates;
 use crate::identifiers::{add_archive, add_identifiers};
@@ -21,13 +21,21 @@ use std::alloc::{AllocError, Global};
 // Most items have no more variables.
 const USUAL_FIELDS: usize = 12;
 
+// Returns whether an entry has the title or the place of an event, such as a conference.
+#[tactic(auto, unfolding(crate::specs::Items::has_event))]
+fn has_event(entry: &Entry) -> bool
+    ensures { result ≡ has_event entry.now }
+{
+    entry.get("eventtitle").is_some() || entry.get("venue").is_some()
+}
+
 // Returns the type of the item of an entry.
 #[tactic(auto, unfolding(crate::specs::Items::type_of_entry))]
 fn type_of_entry(alloc: Global, entry: &Entry) -> Result<ItemType, AllocError>
     ensures { IfOk result (λ kind. kind ≡ type_of_entry entry.now) }
 {
     let subtype = plain_text(alloc, entry, "entrysubtype")?;
-    Ok(item_type_of(&entry.entry_type, subtype.as_str()))
+    Ok(item_type_of(&entry.entry_type, subtype.as_str(), has_event(entry)))
 }
 
 // Appends the variables for the titles, the container, the event, the publication and the genre of an item.

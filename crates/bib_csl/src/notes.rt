@@ -9,7 +9,7 @@ use crate::adding::{add_plain, add_rich, add_rich_or};
 use crate::fields::add_text;
 use crate::item::Field;
 use crate::standing::shown;
-use crate::texts::{either, field_or, joined, rich_text};
+use crate::texts::{either, field_or, joined_by_mark, plain_text, rich_text};
 use crate::variables::Variable;
 use bib_chunks::chunk::ChunksRef;
 use bib_entry::entry::Entry;
@@ -73,14 +73,37 @@ fn language_of(alloc: Global, field: Option<ChunksRef<'_>>) -> Result<Text, Allo
     }
 }
 
-// Returns the fields `note`, `addendum` and `howpublished`, with `. ` between them.
+// Returns the publication status for BibLaTeX's keys in the field `pubstate`, or any other text as it is.
+#[tactic(auto, unfolding(crate::specs::Notes::status_named))]
+fn status_named(alloc: Global, text: Text) -> Result<Text, AllocError>
+    ensures { IfOk result (λ named. named ≡ spec.status_named text) }
+{
+    match text.as_str() {
+        "inpreparation" => Text::from_str(alloc, "in preparation"),
+        "inpress" => Text::from_str(alloc, "in press"),
+        "prepublished" => Text::from_str(alloc, "pre-published"),
+        _ => Ok(text),
+    }
+}
+
+// Returns the field with the language: `langid`, or `hyphenation`, its former name, or else `language`.
+fn language_value(entry: &Entry) -> Option<ChunksRef<'_>>
+    ensures { option_copied result ≡ spec.language_value entry.now }
+{
+    match field_or(entry, "langid", "hyphenation") {
+        Some(chunks) => Some(chunks),
+        None => entry.get("language"),
+    }
+}
+
+// Returns the fields `note`, `addendum` and `howpublished`, with full stops between them.
 #[tactic(auto, unfolding(crate::specs::Notes::note_of))]
 fn note_of(alloc: Global, entry: &Entry) -> Result<Text, AllocError>
     ensures { IfOk result (λ text. text ≡ spec.note_of entry.now) }
 {
     let note = rich_text(alloc, entry, "note")?;
-    let both = joined(". ", note, rich_text(alloc, entry, "addendum")?)?;
-    joined(". ", both, rich_text(alloc, entry, "howpublished")?)
+    let both = joined_by_mark(alloc, ".", note, rich_text(alloc, entry, "addendum")?)?;
+    joined_by_mark(alloc, ".", both, rich_text(alloc, entry, "howpublished")?)
 }
 
 // Appends the abstract, the annotation, the note, the publication status, the keywords and the language.
@@ -102,8 +125,9 @@ pub(crate) fn add_notes(
         fields,
     )?;
     add_text(fields, Variable::Note, note_of(alloc, entry)?)?;
-    add_plain(alloc, Variable::Status, entry, "pubstate", fields)?;
+    let status = plain_text(alloc, entry, "pubstate")?;
+    add_text(fields, Variable::Status, status_named(alloc, status)?)?;
     add_plain(alloc, Variable::Keyword, entry, "keywords", fields)?;
-    let language = language_of(alloc, field_or(entry, "langid", "language"))?;
+    let language = language_of(alloc, language_value(entry))?;
     add_text(fields, Variable::Language, language)
 }

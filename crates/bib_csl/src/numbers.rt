@@ -1,23 +1,25 @@
 //! The numbers of an item.
 
-ghost use Rattle.std.specs.Prelude.{◌≡◌, [], ◌++◌, OnOk, IfOk};
+ghost use Rattle.std.specs.Prelude.{◌≡◌, ◌++◌, false, OnOk, IfOk};
 ghost use Rattle.std.specs.Option.{option_copied};
+ghost use Rattle.std.specs.Str.{chars};
+ghost use Rattle.bib_values.specs.Ranges.{is_dash};
 ghost use Rattle.bib_csl.specs.Numbers as spec;
 
 use crate::adding::add_plain;
 use crate::fields::add_text;
 use crate::item::Field;
 use crate::standing::shown;
-use crate::texts::{joined, plain_text};
+use crate::texts::{either, joined, plain_text};
 use crate::types::{counts_issues, counts_series};
 use crate::variables::{ItemType, Variable};
 use bib_chunks::chunk::ChunksRef;
 use bib_entry::entry::Entry;
 use bib_text::items::Items;
+use bib_text::scanner::Scanner;
 use bib_text::text::Text;
 use bib_values::ranges::read_ranges;
 use std::alloc::{AllocError, Global};
-use std::ops::Range;
 
 // Returns the issue: the fields `number` and `issue` if `number` counts issues, otherwise `issue`.
 #[tactic(auto, unfolding(crate::specs::Numbers::issue_of))]
@@ -30,15 +32,16 @@ fn issue_of(kind: ItemType, number: &Text, issue: Text) -> Result<Text, AllocErr
     Ok(issue)
 }
 
-// Returns the number of the item itself: `number`, unless it counts issues or the works of a series.
+// Returns the number of the item itself: `number`, or else `eid`, the number of an article in place of its pages. It is `eid` if `number`
+// counts the issues or the works of a series.
 #[tactic(auto, unfolding(crate::specs::Numbers::own_number))]
-fn own_number(alloc: Global, kind: ItemType, number: &Text) -> Result<Text, AllocError>
-    ensures { IfOk result (λ text. text ≡ spec.own_number kind number.now) }
+fn own_number(kind: ItemType, number: &Text, eid: Text) -> Result<Text, AllocError>
+    ensures { IfOk result (λ text. text ≡ spec.own_number kind number.now eid) }
 {
     if counts_issues(kind) || counts_series(kind) {
-        return Ok(Text::new(alloc));
+        return Ok(eid);
     }
-    number.clone()
+    Ok(either(number.clone()?, eid))
 }
 
 // Returns the number in the series, or an empty text if `number` doesn't count the works of a series.
@@ -52,34 +55,60 @@ fn collection_number(alloc: Global, kind: ItemType, number: &Text) -> Result<Tex
     Ok(Text::new(alloc))
 }
 
-// Returns the text of a range of pages: the first and the last page with an en dash between them, or the only page.
-#[tactic(auto, unfolding(crate::specs::Numbers::pages_of))]
-fn pages_of(alloc: Global, range: &Range<u32>) -> Result<Text, AllocError>
-    ensures { IfOk result (λ text. text ≡ spec.pages_of range.now) }
+// Returns whether a character is a dash between two pages.
+fn is_dash(c: char) -> bool
+    ensures { result ≡ is_dash c }
 {
-    let mut text = Text::from_string(range.start.to_string(alloc)?);
-    if range.start == range.end {
-        return Ok(text);
-    }
-    let end = range.end.to_string(alloc)?;
-    text.push('–')?;
-    text.push_str(end.as_str())?;
-    Ok(text)
+    matches!(c, '-' | '–' | '—')
 }
 
-// Returns the text of ranges of pages, with commas between them.
-#[tactic(auto, unfolding(crate::specs::Numbers::pages_after))]
-fn pages_after(alloc: Global, ranges: &[Range<u32>]) -> Result<Text, AllocError>
-    ensures { IfOk result (λ text. text ≡ spec.pages_after [] ranges.now) }
+// Appends the text for a character of ranges of pages: nothing for white space, an en dash for the first of several dashes, and a space after
+// a comma.
+#[tactic(auto, unfolding(crate::specs::Numbers::page_sign))]
+fn push_page_sign(out: &mut Text, follows_dash: bool, c: char) -> Result<(), AllocError>
+    ensures { OnOk result (out.new ≡ out.old ++ spec.page_sign follows_dash c) }
 {
-    let mut text = Text::new(alloc);
-    'pages: for range in ranges {
-        text = joined(", ", text, pages_of(alloc, range)?)?;
+    if c.is_whitespace() {
+        return Ok(());
     }
-    Ok(text)
+    if is_dash(c) {
+        if follows_dash {
+            return Ok(());
+        }
+        return out.push('–');
+    }
+    if c == ',' {
+        return out.push_str(", ");
+    }
+    out.push(c)
 }
 
-// Returns the pages of a field: the parsed ranges, or else the text of the field.
+// Returns whether the last character so far that isn't white space is a dash.
+#[tactic(auto, unfolding(crate::specs::Numbers::follows_dash_after))]
+fn follows_dash_after(follows_dash: bool, c: char) -> bool
+    ensures { result ≡ spec.follows_dash_after follows_dash c }
+{
+    if c.is_whitespace() {
+        return follows_dash;
+    }
+    is_dash(c)
+}
+
+// Returns ranges of pages with en dashes and with a space after each comma.
+fn with_en_dashes(alloc: Global, text: &str) -> Result<Text, AllocError>
+    ensures { IfOk result (λ pages. pages ≡ spec.pages_from false (chars text.now)) }
+{
+    let mut out = Text::new(alloc);
+    let mut follows_dash = false;
+    let mut scanner = Scanner::new(text);
+    'text: while let Some(c) = scanner.eat() {
+        push_page_sign(&mut out, follows_dash, c)?;
+        follows_dash = follows_dash_after(follows_dash, c);
+    }
+    Ok(out)
+}
+
+// Returns the pages of a field: its text, with en dashes if it can be parsed as ranges of pages.
 #[tactic(auto, unfolding(crate::specs::Numbers::pages))]
 fn pages(alloc: Global, field: Option<ChunksRef<'_>>) -> Result<Text, AllocError>
     ensures { IfOk result (λ text. text ≡ spec.pages (option_copied field.entry)) }
@@ -87,9 +116,10 @@ fn pages(alloc: Global, field: Option<ChunksRef<'_>>) -> Result<Text, AllocError
     let Some(chunks) = field else {
         return Ok(Text::new(alloc));
     };
+    let text = shown(alloc, chunks)?;
     match read_ranges(alloc, chunks)? {
-        Some(ranges) => pages_after(alloc, ranges.as_slice()),
-        None => shown(alloc, chunks),
+        Some(_) => with_en_dashes(alloc, text.as_str()),
+        None => Ok(text),
     }
 }
 
@@ -109,7 +139,8 @@ pub(crate) fn add_volume(
     let number = plain_text(alloc, entry, "number")?;
     let issue = plain_text(alloc, entry, "issue")?;
     add_text(fields, Variable::Issue, issue_of(kind, &number, issue)?)?;
-    add_text(fields, Variable::Number, own_number(alloc, kind, &number)?)?;
+    let eid = plain_text(alloc, entry, "eid")?;
+    add_text(fields, Variable::Number, own_number(kind, &number, eid)?)?;
     let in_series = collection_number(alloc, kind, &number)?;
     add_text(fields, Variable::CollectionNumber, in_series)
 }

@@ -13,7 +13,7 @@ ghost use Rattle.bib_csl.specs.declared.variables.Variable.{Variable as AnyVaria
 use crate::fields::add_names;
 use crate::item::{Field, Name, NameParts};
 use crate::standing::{says_others, shown};
-use crate::tags::untied;
+use crate::tags::loosened;
 use crate::variables::{ItemType, Variable};
 use bib_chunks::chunk::cuts::{and_list, comma_list};
 use bib_chunks::chunk::{Chunk, ChunksRef, format_verbatim};
@@ -55,10 +55,10 @@ fn parts_with(alloc: Global, uses_prefix: bool, person: Person) -> Result<NamePa
         suffix,
         ..
     } = person;
-    let family = untied(alloc, name)?;
-    let given = untied(alloc, given_name)?;
-    let suffix = untied(alloc, suffix)?;
-    let particle = untied(alloc, prefix)?;
+    let family = loosened(alloc, name)?;
+    let given = loosened(alloc, given_name)?;
+    let suffix = loosened(alloc, suffix)?;
+    let particle = loosened(alloc, prefix)?;
     if uses_prefix {
         return Ok(NameParts {
             family,
@@ -99,7 +99,7 @@ pub fn name_said(
     ensures { IfOk result (λ name. name ≡ spec.name_said uses_prefix chunks.now) }
 {
     if is_literal(alloc, chunks)? {
-        return Ok(Name::Literal(untied(alloc, shown(alloc, chunks)?)?));
+        return Ok(Name::Literal(loosened(alloc, shown(alloc, chunks)?)?));
     }
     let person = Person::parse(alloc, chunks)?;
     let uses_prefix = person.use_prefix.unwrap_or(uses_prefix);

@@ -40,33 +40,101 @@ fn is_unmarked(text: &str) -> bool
     text.as_bytes().iter().all(|byte| is_unmarked_byte(*byte))
 }
 
-// Returns the text with no-break spaces for tildes, character by character.
-fn with_ties(alloc: Global, text: &str) -> Result<Text, AllocError>
-    ensures { IfOk result (λ out. out ≡ spec.untied (chars text.now)) }
+// Appends a character of a name, or a space for a tilde.
+#[tactic(auto, unfolding(crate::specs::Markup::loosen))]
+fn push_loosened(out: &mut Text, c: char) -> Result<(), AllocError>
+    ensures { OnOk result (out.new ≡ out.old ++ spec.loosen c) }
+{
+    match c {
+        '~' => out.push(' '),
+        _ => out.push(c),
+    }
+}
+
+// Returns the text with spaces for tildes, character by character.
+fn without_ties(alloc: Global, text: &str) -> Result<Text, AllocError>
+    ensures { IfOk result (λ out. out ≡ spec.loosened (chars text.now)) }
 {
     let mut out = Text::new(alloc);
     let mut scanner = Scanner::new(text);
     'text: while let Some(c) = scanner.eat() {
-        push_untied(&mut out, c)?;
+        push_loosened(&mut out, c)?;
     }
     Ok(out)
 }
 
-// Returns the text with no-break spaces for tildes.
-pub(crate) fn untied(alloc: Global, text: Text) -> Result<Text, AllocError>
-    ensures { IfOk result (λ out. out ≡ spec.untied (chars text)) }
+// Returns the text with spaces for tildes.
+pub(crate) fn loosened(alloc: Global, text: Text) -> Result<Text, AllocError>
+    ensures { IfOk result (λ out. out ≡ spec.loosened (chars text)) }
 {
     if is_unmarked(text.as_str()) {
         return Ok(text);
     }
-    with_ties(alloc, text.as_str())
+    without_ties(alloc, text.as_str())
 }
 
-// Returns the text for a command with this name and its opening brace: a tag, a quotation mark, a hyphen, or an empty text. Returns `None`
-// for other commands.
-#[tactic(auto, unfolding(crate::specs::Markup::opening_tag))]
-fn opening_tag(name: &str) -> Option<&'static str>
-    ensures { option_map (λ tag. tag.now) result ≡ spec.opening_tag name.now }
+// Returns the text for a command that is a sign, whether it has an argument or not, or `None` for other commands.
+#[tactic(auto, unfolding(crate::specs::Markup::sign_named))]
+fn sign_named(name: &str) -> Option<&'static str>
+    ensures { option_map (λ sign. sign.now) result ≡ spec.sign_named name.now }
+{
+    match name {
+        "hyphen" => Some("-"),
+        "slash" => Some("/"),
+        "adddot" => Some("."),
+        "ldots" => Some("…"),
+        "dots" => Some("…"),
+        "textellipsis" => Some("…"),
+        "quad" => Some(" "),
+        "TeX" => Some("TeX"),
+        "LaTeX" => Some("LaTeX"),
+        "LaTeXe" => Some("LaTeX2ε"),
+        "BibTeX" => Some("BibTeX"),
+        "MF" => Some("METAFONT"),
+        _ => None,
+    }
+}
+
+// Returns whether a command changes the font up to the end of its group, or has no output at all.
+#[tactic(auto, unfolding(crate::specs::Markup::is_silent))]
+fn is_silent(name: &str) -> bool
+    ensures { result ≡ spec.is_silent name.now }
+{
+    matches!(
+        name,
+        "bf" | "bfseries"
+            | "em"
+            | "it"
+            | "itshape"
+            | "relax"
+            | "rm"
+            | "rmfamily"
+            | "sc"
+            | "scshape"
+            | "sf"
+            | "sffamily"
+            | "sl"
+            | "slshape"
+            | "tt"
+            | "ttfamily"
+    )
+}
+
+// Returns the text for a command without its argument: a sign, or an empty text for a silent command. Returns `None` for other commands.
+#[tactic(auto, unfolding(crate::specs::Markup::said_alone))]
+fn said_alone(name: &str) -> Option<&'static str>
+    ensures { option_map (λ text. text.now) result ≡ spec.said_alone name.now }
+{
+    match sign_named(name) {
+        Some(sign) => Some(sign),
+        None => { if is_silent(name) { Some("") } else { None } }
+    }
+}
+
+// Returns the opening tag or quotation mark for a command with this name, or `None` for other commands.
+#[tactic(auto, unfolding(crate::specs::Markup::tag_before))]
+fn tag_before(name: &str) -> Option<&'static str>
+    ensures { option_map (λ tag. tag.now) result ≡ spec.tag_before name.now }
 {
     match name {
         "emph" => Some("<i>"),
@@ -78,17 +146,14 @@ fn opening_tag(name: &str) -> Option<&'static str>
         "textsc" => Some("<span style=\"font-variant:small-caps;\">"),
         "enquote" => Some("“"),
         "mkbibquote" => Some("“"),
-        "texttt" => Some(""),
-        "url" => Some(""),
-        "hyphen" => Some("-"),
         _ => None,
     }
 }
 
-// Returns the text for the closing brace of a command with this name, or `None` for other commands.
-#[tactic(auto, unfolding(crate::specs::Markup::closing_tag))]
-fn closing_tag(name: &str) -> Option<&'static str>
-    ensures { option_map (λ tag. tag.now) result ≡ spec.closing_tag name.now }
+// Returns the closing tag or quotation mark for a command with this name, or `None` for other commands.
+#[tactic(auto, unfolding(crate::specs::Markup::tag_after))]
+fn tag_after(name: &str) -> Option<&'static str>
+    ensures { option_map (λ tag. tag.now) result ≡ spec.tag_after name.now }
 {
     match name {
         "emph" => Some("</i>"),
@@ -100,11 +165,34 @@ fn closing_tag(name: &str) -> Option<&'static str>
         "textsc" => Some("</span>"),
         "enquote" => Some("”"),
         "mkbibquote" => Some("”"),
-        "texttt" => Some(""),
-        "url" => Some(""),
-        "hyphen" => Some(""),
         _ => None,
     }
+}
+
+// Returns the text for a command and the opening brace of its argument: a tag, a quotation mark or a sign. It is empty for any other
+// command, of which the argument alone is shown. Returns `None` for a backslash without a name.
+#[tactic(auto, unfolding(crate::specs::Markup::opening_tag))]
+fn opening_tag(name: &str) -> Option<&'static str>
+    ensures { option_map (λ tag. tag.now) result ≡ spec.opening_tag name.now }
+{
+    if name.is_empty() {
+        return None;
+    }
+    match tag_before(name) {
+        Some(tag) => Some(tag),
+        None => Some(sign_named(name).unwrap_or("")),
+    }
+}
+
+// Returns the text for the closing brace of the argument of a command, or `None` for a brace without a command.
+#[tactic(auto, unfolding(crate::specs::Markup::closing_tag))]
+fn closing_tag(name: &str) -> Option<&'static str>
+    ensures { option_map (λ tag. tag.now) result ≡ spec.closing_tag name.now }
+{
+    if name.is_empty() {
+        return None;
+    }
+    Some(tag_after(name).unwrap_or(""))
 }
 
 // Appends a command as it is: its backslash and its name.
@@ -193,15 +281,7 @@ fn open_plainly(alloc: Global, names: &mut Items<Text>, c: char) -> Result<(), A
     }
 }
 
-// Returns whether a command is BibLaTeX's `\hyphen`.
-#[tactic(auto, unfolding(crate::specs::Markup::is_hyphen_command))]
-fn is_hyphen_command(name: &str) -> bool
-    ensures { result ≡ spec.is_hyphen_command name.now }
-{
-    name == "hyphen"
-}
-
-// Appends the text for a character after a command that is a sign: nothing for the space that ends the command.
+// Appends the text for a character after a command without an argument: nothing for the space that ends the command.
 #[tactic(auto, unfolding(crate::specs::Markup::after_sign))]
 fn push_after_sign(out: &mut Text, names: &[Text], c: char) -> Result<(), AllocError>
     ensures { OnOk result (out.new ≡ out.old ++ spec.after_sign (reverse names.now) c) }
@@ -212,17 +292,27 @@ fn push_after_sign(out: &mut Text, names: &[Text], c: char) -> Result<(), AllocE
     push_plainly(out, names, c)
 }
 
+// Appends a command that has no text of its own, and the text for the character after it.
+#[tactic(auto, unfolding(crate::specs::Markup::said_as_it_is))]
+fn push_as_it_is(out: &mut Text, names: &[Text], name: &str, c: char) -> Result<(), AllocError>
+    ensures { OnOk result (out.new ≡ out.old ++ spec.said_as_it_is (reverse names.now) name.now c) }
+{
+    push_command(out, name)?;
+    push_plainly(out, names, c)
+}
+
 // Appends the text for a command without a brace, and for the character after it.
 #[tactic(auto, unfolding(crate::specs::Markup::said_after))]
 fn push_after(out: &mut Text, names: &[Text], name: &str, c: char) -> Result<(), AllocError>
     ensures { OnOk result (out.new ≡ out.old ++ spec.said_after (reverse names.now) name.now c) }
 {
-    if is_hyphen_command(name) {
-        out.push_str("-")?;
-        return push_after_sign(out, names, c);
+    match said_alone(name) {
+        Some(text) => {
+            out.push_str(text)?;
+            push_after_sign(out, names, c)
+        }
+        None => push_as_it_is(out, names, name, c),
     }
-    push_command(out, name)?;
-    push_plainly(out, names, c)
 }
 
 // Appends the text for a character, and for the command before it if the character ends its name.
@@ -312,7 +402,10 @@ fn push_last(out: &mut Text, names: Items<Text>, name: &Option<Text>) -> Result<
     let Some(name) = name else {
         return push_all_ended(out, names);
     };
-    push_command(out, name.as_str())?;
+    match said_alone(name.as_str()) {
+        Some(text) => out.push_str(text)?,
+        None => push_command(out, name.as_str())?,
+    }
     push_all_ended(out, names)
 }
 

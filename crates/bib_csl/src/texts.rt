@@ -1,9 +1,10 @@
 //! The texts of fields, plain or with HTML tags.
 
-ghost use Rattle.std.specs.Prelude.{◌≡◌, [], IfOk};
+ghost use Rattle.std.specs.Prelude.{◌≡◌, [], codes, eqb, IfOk};
+ghost use Rattle.std.specs.List.{ends_with};
 ghost use Rattle.std.specs.Option.{option_copied};
 ghost use Rattle.bib_entry.specs.Fields.{field_or};
-ghost use Rattle.bib_csl.specs.Texts.{field, shown_field, title_text, rich_text, rich_text_or, either, joined, listed_after, listed_field};
+ghost use Rattle.bib_csl.specs.Texts.{field, shown_field, title_text, rich_text, rich_text_or, either, joined, joined_by_mark, ends_with_mark, ends_with_mark_before, listed_after, listed_field};
 
 use crate::markup::{marked_chunks, marked_field};
 use crate::standing::shown;
@@ -93,6 +94,66 @@ pub(crate) fn joined(separator: &str, first: Text, next: Text) -> Result<Text, A
     text.push_str(separator)?;
     text.push_str(next.as_str())?;
     Ok(text)
+}
+
+// Returns whether a text ends with another.
+fn has_end(text: &str, end: &str) -> bool
+    ensures { result ≡ ends_with eqb text.now end.now }
+{
+    text.ends_with(end)
+}
+
+// Returns whether a text ends with a mark after which no other mark is written.
+fn ends_with_plain_mark(text: &str) -> bool
+    ensures { result ≡ ends_with_mark_before [] text.now }
+{
+    let is_end = has_end(text, "?") | has_end(text, "!") | has_end(text, ".");
+    is_end | has_end(text, ",") | has_end(text, ":") | has_end(text, ";")
+}
+
+// Returns whether a text ends with such a mark in emphasis.
+fn ends_with_emphasized_mark(text: &str) -> bool
+    ensures { result ≡ ends_with_mark_before (codes "</i>") text.now }
+{
+    let is_end = has_end(text, "?</i>") | has_end(text, "!</i>") | has_end(text, ".</i>");
+    is_end | has_end(text, ",</i>") | has_end(text, ":</i>") | has_end(text, ";</i>")
+}
+
+// Returns whether a text ends with such a mark in a tag that keeps the case.
+fn ends_with_mark_of_kept_case(text: &str) -> bool
+    ensures { result ≡ ends_with_mark_before (codes "</span>") text.now }
+{
+    let is_end = has_end(text, "?</span>") | has_end(text, "!</span>") | has_end(text, ".</span>");
+    is_end | has_end(text, ",</span>") | has_end(text, ":</span>") | has_end(text, ";</span>")
+}
+
+// Returns whether a text ends with a mark after which no other mark is written, also in emphasis or in a tag that keeps the case.
+#[tactic(auto, unfolding(crate::specs::Texts::ends_with_mark))]
+fn ends_with_mark(text: &str) -> bool
+    ensures { result ≡ ends_with_mark text.now }
+{
+    ends_with_plain_mark(text)
+        || ends_with_emphasized_mark(text)
+        || ends_with_mark_of_kept_case(text)
+}
+
+// Returns two texts with a mark and a space between them, or only one of them if the other is empty. After a text that ends with a mark of
+// its own there is only the space.
+#[tactic(auto, unfolding(crate::specs::Texts::joined_by_mark, crate::specs::Texts::mark_after))]
+pub(crate) fn joined_by_mark(
+    alloc: Global,
+    mark: &str,
+    first: Text,
+    next: Text,
+) -> Result<Text, AllocError>
+    ensures { IfOk result (λ shown. shown ≡ joined_by_mark mark.now first next) }
+{
+    if ends_with_mark(first.as_str()) {
+        return joined(" ", first, next);
+    }
+    let mut separator = Text::from_str(alloc, mark)?;
+    separator.push_str(" ")?;
+    joined(separator.as_str(), first, next)
 }
 
 // Returns the texts of the parts of a list, with semicolons between them.

@@ -7,7 +7,7 @@ use crate::adding::{add_rich, add_title};
 use crate::fields::add_text;
 use crate::item::Field;
 use crate::markup::marked_field;
-use crate::texts::{either, field_or, joined, title_text};
+use crate::texts::{either, field_or, joined_by_mark, title_text};
 use crate::types::{is_article, is_in_book, is_volume};
 use crate::variables::{ItemType, Variable};
 use bib_entry::entry::Entry;
@@ -26,8 +26,8 @@ fn with_subtitle(
 ) -> Result<Text, AllocError>
     ensures { IfOk result (λ text. text ≡ spec.with_subtitle entry.now title subtitle.now addon.now) }
 {
-    let both = joined(": ", title, title_text(alloc, entry, subtitle)?)?;
-    joined(". ", both, title_text(alloc, entry, addon)?)
+    let both = joined_by_mark(alloc, ":", title, title_text(alloc, entry, subtitle)?)?;
+    joined_by_mark(alloc, ".", both, title_text(alloc, entry, addon)?)
 }
 
 // Returns the title of the work itself.
@@ -66,16 +66,23 @@ fn journal_title(alloc: Global, entry: &Entry) -> Result<Text, AllocError>
     with_subtitle(alloc, entry, title, "journalsubtitle", "journaltitleaddon")
 }
 
+// Returns the title of a volume, or else the title of a book.
+#[tactic(auto, unfolding(crate::specs::Titles::title_of_whole))]
+fn title_of_whole(alloc: Global, entry: &Entry) -> Result<Text, AllocError>
+    ensures { IfOk result (λ text. text ≡ spec.title_of_whole entry.now) }
+{
+    Ok(either(own_title(alloc, entry)?, title_of_book(alloc, entry)?))
+}
+
 // Returns the title of the item. For a book or a periodical that is a volume of a work, this is the title of the work.
 #[tactic(auto, unfolding(crate::specs::Titles::item_title))]
 fn item_title(alloc: Global, kind: ItemType, entry: &Entry) -> Result<Text, AllocError>
     ensures { IfOk result (λ text. text ≡ spec.item_title kind entry.now) }
 {
-    let own = own_title(alloc, entry)?;
-    if !is_volume(kind) {
-        return Ok(own);
+    if is_volume(kind) {
+        return Ok(either(title_of_work(alloc, entry)?, title_of_whole(alloc, entry)?));
     }
-    Ok(either(title_of_work(alloc, entry)?, own))
+    own_title(alloc, entry)
 }
 
 // Returns the title of the volume, if the work of several volumes has a title of its own.
@@ -88,7 +95,7 @@ fn volume_title(alloc: Global, kind: ItemType, entry: &Entry) -> Result<Text, Al
         return Ok(main);
     }
     if is_volume(kind) {
-        return own_title(alloc, entry);
+        return title_of_whole(alloc, entry);
     }
     if is_in_book(kind) {
         return title_of_book(alloc, entry);
@@ -96,7 +103,7 @@ fn volume_title(alloc: Global, kind: ItemType, entry: &Entry) -> Result<Text, Al
     Ok(Text::new(alloc))
 }
 
-// Returns the title of the container: the work of several volumes, the book or the journal.
+// Returns the title of the container: the work of several volumes, the book or the journal. A book is in no other book.
 #[tactic(auto, unfolding(crate::specs::Titles::container_title))]
 fn container_title(alloc: Global, kind: ItemType, entry: &Entry) -> Result<Text, AllocError>
     ensures { IfOk result (λ text. text ≡ spec.container_title kind entry.now) }
@@ -105,7 +112,7 @@ fn container_title(alloc: Global, kind: ItemType, entry: &Entry) -> Result<Text,
         return Ok(either(title_of_work(alloc, entry)?, title_of_book(alloc, entry)?));
     }
     let journal = journal_title(alloc, entry)?;
-    if is_article(kind) {
+    if is_article(kind) || is_volume(kind) {
         return Ok(journal);
     }
     Ok(either(journal, title_of_book(alloc, entry)?))
@@ -137,7 +144,12 @@ fn event_title(alloc: Global, entry: &Entry) -> Result<Text, AllocError>
     ensures { IfOk result (λ text. text ≡ spec.event_title entry.now) }
 {
     let title = title_text(alloc, entry, "eventtitle")?;
-    joined(". ", title, title_text(alloc, entry, "eventtitleaddon")?)
+    joined_by_mark(
+        alloc,
+        ".",
+        title,
+        title_text(alloc, entry, "eventtitleaddon")?,
+    )
 }
 
 // Appends the title, the short title, the title of the volume and the title of the original.
@@ -189,7 +201,7 @@ pub(crate) fn add_container(
     )
 }
 
-// Appends the title and the place of the event, such as a conference.
+// Appends the title of the event, such as a conference, under both of its names, and its place.
 #[tactic(auto, unfolding(crate::specs::Titles::event_fields))]
 pub(crate) fn add_event(
     alloc: Global,
@@ -198,6 +210,8 @@ pub(crate) fn add_event(
 ) -> Result<(), AllocError>
     ensures { OnOk result (fields.new ≡ fields.old ++ spec.event_fields entry.now) }
 {
-    add_text(fields, Variable::EventTitle, event_title(alloc, entry)?)?;
+    let title = event_title(alloc, entry)?;
+    add_text(fields, Variable::Event, title.clone()?)?;
+    add_text(fields, Variable::EventTitle, title)?;
     add_rich(alloc, Variable::EventPlace, entry, "venue", fields)
 }

@@ -1,7 +1,7 @@
 //! The type of the item of an entry, and groups of these types.
 
 ghost use Rattle.std.specs.Prelude.{◌≡◌};
-ghost use Rattle.bib_csl.specs.Types.{type_of_article, item_type_of, is_article, is_in_book, is_volume, counts_issues, counts_series};
+ghost use Rattle.bib_csl.specs.Types.{type_of_article, item_type_named, type_of_unpublished, item_type_of, is_article, is_in_book, is_volume, counts_issues, counts_series};
 
 use crate::variables::ItemType;
 use bib_tables::mechanics::EntryType;
@@ -17,9 +17,43 @@ fn type_of_article(subtype: &str) -> ItemType
     }
 }
 
-// Returns the type of the item of an entry with this type and this `entrysubtype`.
-pub(crate) fn item_type_of(entry_type: &EntryType, subtype: &str) -> ItemType
-    ensures { result ≡ item_type_of entry_type.now subtype.now }
+// Returns the type of the item of an entry with the name of a type that only BibLaTeX's data model has, or of any other type.
+#[tactic(auto, unfolding(crate::specs::Types::item_type_named))]
+fn item_type_named(name: &str) -> ItemType
+    ensures { result ≡ item_type_named name.now }
+{
+    match name {
+        "artwork" => ItemType::Graphic,
+        "image" => ItemType::Graphic,
+        "audio" => ItemType::Song,
+        "music" => ItemType::Song,
+        "movie" => ItemType::MotionPicture,
+        "video" => ItemType::MotionPicture,
+        "jurisdiction" => ItemType::LegalCase,
+        "legal" => ItemType::Treaty,
+        "legislation" => ItemType::Legislation,
+        "letter" => ItemType::PersonalCommunication,
+        "performance" => ItemType::Performance,
+        "review" => ItemType::Review,
+        "standard" => ItemType::Standard,
+        _ => ItemType::Document,
+    }
+}
+
+// Returns the type of an unpublished work: a talk if the entry has an event.
+fn type_of_unpublished(has_event: bool) -> ItemType
+    ensures { result ≡ type_of_unpublished has_event }
+{
+    if has_event {
+        ItemType::Speech
+    } else {
+        ItemType::Manuscript
+    }
+}
+
+// Returns the type of the item of an entry with this type and this `entrysubtype`. `has_event` says whether the entry has an event.
+pub(crate) fn item_type_of(entry_type: &EntryType, subtype: &str, has_event: bool) -> ItemType
+    ensures { result ≡ item_type_of entry_type.now subtype.now has_event }
 {
     match entry_type {
         EntryType::Article | EntryType::SuppPeriodical => type_of_article(subtype),
@@ -47,10 +81,9 @@ pub(crate) fn item_type_of(entry_type: &EntryType, subtype: &str) -> ItemType
         EntryType::Online => ItemType::Webpage,
         EntryType::Dataset => ItemType::Dataset,
         EntryType::Software => ItemType::Software,
-        EntryType::Unpublished => ItemType::Manuscript,
-        EntryType::Misc | EntryType::Set | EntryType::XData | EntryType::Unknown(_) => {
-            ItemType::Document
-        }
+        EntryType::Unpublished => type_of_unpublished(has_event),
+        EntryType::Misc | EntryType::Set | EntryType::XData => ItemType::Document,
+        EntryType::Unknown(name) => item_type_named(name.as_str()),
     }
 }
 
@@ -60,7 +93,10 @@ pub(crate) fn is_article(kind: ItemType) -> bool
 {
     matches!(
         kind,
-        ItemType::ArticleJournal | ItemType::ArticleMagazine | ItemType::ArticleNewspaper
+        ItemType::ArticleJournal
+            | ItemType::ArticleMagazine
+            | ItemType::ArticleNewspaper
+            | ItemType::Review
     )
 }
 
@@ -91,6 +127,7 @@ pub(crate) fn counts_issues(kind: ItemType) -> bool
             | ItemType::ArticleMagazine
             | ItemType::ArticleNewspaper
             | ItemType::Periodical
+            | ItemType::Review
     )
 }
 

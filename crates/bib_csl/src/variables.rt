@@ -22,22 +22,44 @@ pub enum ItemType {
     Document,
     /// An article of a work of reference.
     EntryEncyclopedia,
+    /// A picture or another work of art.
+    Graphic,
+    /// The decision of a court.
+    LegalCase,
+    /// A law.
+    Legislation,
     /// An unpublished work.
     Manuscript,
+    /// A film or another moving picture.
+    MotionPicture,
     /// A printed work without a publisher.
     Pamphlet,
     /// A paper in the proceedings of a conference.
     PaperConference,
     /// A patent.
     Patent,
+    /// A performance of a work.
+    Performance,
     /// An issue of a periodical.
     Periodical,
+    /// A letter or another message.
+    PersonalCommunication,
     /// A report.
     Report,
+    /// A review of another work.
+    Review,
     /// Software.
     Software,
+    /// Music or another recording of sound.
+    Song,
+    /// A talk at an event.
+    Speech,
+    /// A standard.
+    Standard,
     /// A thesis.
     Thesis,
+    /// A treaty or another legal document.
+    Treaty,
     /// A web page or a web site.
     Webpage,
 }
@@ -56,14 +78,25 @@ impl ItemType {
             Self::Dataset => "dataset",
             Self::Document => "document",
             Self::EntryEncyclopedia => "entry-encyclopedia",
+            Self::Graphic => "graphic",
+            Self::LegalCase => "legal_case",
+            Self::Legislation => "legislation",
             Self::Manuscript => "manuscript",
+            Self::MotionPicture => "motion_picture",
             Self::Pamphlet => "pamphlet",
             Self::PaperConference => "paper-conference",
             Self::Patent => "patent",
+            Self::Performance => "performance",
             Self::Periodical => "periodical",
+            Self::PersonalCommunication => "personal_communication",
             Self::Report => "report",
+            Self::Review => "review",
             Self::Software => "software",
+            Self::Song => "song",
+            Self::Speech => "speech",
+            Self::Standard => "standard",
             Self::Thesis => "thesis",
+            Self::Treaty => "treaty",
             Self::Webpage => "webpage",
         }
     }
@@ -86,6 +119,8 @@ pub enum Variable {
     CollectionTitle,
     /// The title of the original.
     OriginalTitle,
+    /// The name of the event, such as a conference. Most styles have this older name of `EventTitle`.
+    Event,
     /// The name of the event, such as a conference.
     EventTitle,
     /// The publisher.
@@ -187,6 +222,7 @@ impl Variable {
             Self::ContainerTitleShort => "container-title-short",
             Self::CollectionTitle => "collection-title",
             Self::OriginalTitle => "original-title",
+            Self::Event => "event",
             Self::EventTitle => "event-title",
             Self::Publisher => "publisher",
             Self::PublisherPlace => "publisher-place",

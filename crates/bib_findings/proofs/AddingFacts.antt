@@ -15,11 +15,11 @@ use Rattle.bib_tables.specs.Requirements.{Names}
 use Rattle.bib_syntax.specs.Reading.{EntryReading}
 use Rattle.bib_findings.specs.Adding.{Adds}
 use Rattle.bib_findings.specs.Entries.{AreOfEach, field_finding}
-use Rattle.bib_findings.specs.Reported.{AreOfReport, is_reported_field, malformed_finding, malformed_findings, report_findings, reported_missing, superfluous_fields}
+use Rattle.bib_findings.specs.Reported.{AreOfReport, is_reported_field, malformed_finding, malformed_findings, lacking_finding, report_findings, superfluous_fields}
 use Rattle.bib_findings.specs.Types.{AreOfType}
-use Rattle.bib_findings.specs.Cuts.{is_cut, whole_among}
+use Rattle.bib_findings.specs.Cuts.{whole_among}
 use Rattle.bib_findings.specs.Duplicates.{duplicates, entries_at}
-use Rattle.bib_findings.specs.Findings.{AreBetween, AreFindingsIn, AreOfEntry, AreSortedByPlace, single_findings}
+use Rattle.bib_findings.specs.Findings.{AreBetween, AreFindingsIn, AreOfEntry, AreOfKept, AreSortedByPlace, single_findings}
 use Rattle.bib_findings.specs.Foreign.{foreign_findings}
 use Rattle.bib_findings.specs.KeyCases.{case_findings}
 use Rattle.bib_findings.specs.References.{AreReferences}
@@ -30,7 +30,7 @@ use Rattle.bib_syntax.specs.declared.raw.recovery.SkippedBlock.{SkippedBlock}
 use Rattle.std.specs.Global.{Global}
 use Rattle.std.specs.Prelude.{IfOk, Vec}
 use Rattle.bib_findings.specs.Names.{AreOfUnknown}
-use Rattle.bib_findings.specs.declared.codes.Code.TheVariants.{MissingField, SuperfluousField}
+use Rattle.bib_findings.specs.declared.codes.Code.TheVariants.{SuperfluousField}
 use Rattle.bib_findings.specs.declared.finding.Finding.{Finding}
 
 -- the findings of the first malformed fields and of the next one
@@ -85,33 +85,33 @@ added_four_times old one two three new a b c d first second third fourth =
 -- the findings of the three parts of a report
 abbrev parts : EntryReading → Names → Names → List (List ℕ × TypeError) → List Finding
 parts said missing superfluous errors =
-    map (field_finding said MissingField (codes "missing")) missing
+    map (lacking_finding said) missing
     ++ (map (field_finding said SuperfluousField (codes "superfluous")) superfluous ++ malformed_findings said errors)
 
 -- appending the findings of the three parts of a report adds the findings of the report
-pub report_added : {E U : Type 0} (cut : Bool) (said : EntryReading) (entry : Entry) (missing : Names)
+pub report_added : {E U : Type 0} (said : EntryReading) (entry : Entry) (missing : Names)
     (errors listed : List (List ℕ × TypeError)) (old one two new : List Finding) (r : Result U E)
-    → missing ≡ reported_missing cut said entry → errors ≡ listed → AreMalformed entry listed
-    → one ≡ old ++ map (field_finding said MissingField (codes "missing")) missing
+    → errors ≡ listed → AreMalformed entry listed
+    → one ≡ old ++ map (lacking_finding said) missing
     → two ≡ one ++ map (field_finding said SuperfluousField (codes "superfluous")) (superfluous_fields entry)
-    → OnOk r (new ≡ two ++ malformed_findings said errors) → OnOk r (Adds (AreOfReport cut said entry) old new)
-report_added cut said entry missing errors listed old one two new (Ok u) lacks same_errors malformed first second third = record {
-  added = report_findings cut said entry listed;
+    → OnOk r (new ≡ two ++ malformed_findings said errors) → OnOk r (Adds (AreOfReport missing said entry) old new)
+report_added said entry missing errors listed old one two new (Ok u) same_errors malformed first second third = record {
+  added = report_findings missing said entry listed;
   are = record { errors = listed; malformed = malformed; are = refl };
   new_is =
       added_thrice old one two new _ _ _ first second third
-      ∙ ap (λ names. old ++ parts said names (superfluous_fields entry) errors) lacks
-      ∙ ap (λ all. old ++ parts said (reported_missing cut said entry) (superfluous_fields entry) all) same_errors;
+      ∙ ap (λ all. old ++ parts said missing (superfluous_fields entry) all) same_errors;
 }
-report_added cut said entry missing errors listed old one two new (Err x) lacks same_errors malformed first second third = tt
+report_added said entry missing errors listed old one two new (Err x) same_errors malformed first second third = tt
 
 -- appending the finding of a type, those of a report, those of unknown fields and those of single fields in turn adds the findings of the
 -- entry
-pub entry_added : {E U : Type 0} (cut : Bool) (said : EntryReading) (entry : Entry) (old one two three new : List Finding) (r : Result U E)
-    → Adds (AreOfType said) old one → Adds (AreOfReport cut said entry) one two → Adds (AreOfUnknown said) two three
-    → OnOk r (new ≡ three ++ single_findings cut said entry) → OnOk r (Adds (AreOfEntry cut said entry) old new)
-entry_added cut said entry old one two three new (Ok u) first second third fourth = record {
-  added = first.added ++ (second.added ++ (third.added ++ single_findings cut said entry));
+pub entry_added : {E U : Type 0} (missing : Names) (said : EntryReading) (entry : Entry) (old one two three new : List Finding)
+    (r : Result U E)
+    → Adds (AreOfType said) old one → Adds (AreOfReport missing said entry) one two → Adds (AreOfUnknown said) two three
+    → OnOk r (new ≡ three ++ single_findings missing said entry) → OnOk r (Adds (AreOfEntry missing said entry) old new)
+entry_added missing said entry old one two three new (Ok u) first second third fourth = record {
+  added = first.added ++ (second.added ++ (third.added ++ single_findings missing said entry));
   are = record {
     of_type = first.added;
     type = first.are;
@@ -122,10 +122,10 @@ entry_added cut said entry old one two three new (Ok u) first second third fourt
     are = refl;
   };
   new_is =
-      added_four_times old one two three new first.added second.added third.added (single_findings cut said entry) first.new_is
+      added_four_times old one two three new first.added second.added third.added (single_findings missing said entry) first.new_is
       second.new_is third.new_is fourth;
 }
-entry_added cut said entry old one two three new (Err x) first second third fourth = tt
+entry_added missing said entry old one two three new (Err x) first second third fourth = tt
 
 -- the findings of entries, followed by those of one more entry, are the findings of all of them
 each_more : (Are : EntryReading → Entry → List Finding → Type 0) (said : List EntryReading) (indices : List ℕ)
@@ -210,16 +210,16 @@ between_are skipped names said origins own whole none one two three new are_whol
 }
 
 -- the sorted findings of all parts are the findings of the recovered file
-pub sorted_are : {E : Type 0} (skipped : List SkippedBlock) (errors : List ParseError) (said : List EntryReading)
+pub sorted_are : {E : Type 0} (skipped : List SkippedBlock) (names : ByText ℕ) (errors : List ParseError) (said : List EntryReading)
     (origins : List ℕ) (entries : List Entry) (between of_entries all : List Finding)
     (r : Result (Vec Finding Global) E)
-    → AreOfEach (λ one. AreOfEntry (is_cut skipped one) one) said origins entries of_entries
+    → AreOfEach (AreOfKept skipped names said origins) said origins entries of_entries
     → all ≡ map (block_finding said) skipped ++ (map error_finding errors ++ (of_entries ++ between))
     → IfOk r (λ sorted. AreSortedByPlace all sorted.items)
-    → IfOk r (λ found. AreFindingsIn skipped errors said origins entries between found.items)
-sorted_are skipped errors said origins entries between of_entries all (Ok found) reports are sorted = record {
+    → IfOk r (λ found. AreFindingsIn skipped names errors said origins entries between found.items)
+sorted_are skipped names errors said origins entries between of_entries all (Ok found) reports are sorted = record {
   of_entries = of_entries;
   reports = reports;
   sorted = subst (λ l. AreSortedByPlace l found.items) are sorted;
 }
-sorted_are skipped errors said origins entries between of_entries all (Err e) reports are sorted = tt
+sorted_are skipped names errors said origins entries between of_entries all (Err e) reports are sorted = tt

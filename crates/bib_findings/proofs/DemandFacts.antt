@@ -13,8 +13,8 @@ unmet-append : (said : EntryReading) (entry : Entry) (demands others : List Name
     → unmet_fields said entry (demands ++ others) ≡ unmet_fields said entry demands ++ unmet_fields said entry others
 unmet-append said entry demands others =
     let unmet : Names → Bool = λ demand. not (is_met said entry demand) in
-    ap (map demanded_field) (filter-append unmet demands others)
-    ∙ map-append demanded_field (filter unmet demands) (filter unmet others)
+    ap (map (demanded_field said)) (filter-append unmet demands others)
+    ∙ map-append (demanded_field said) (filter unmet demands) (filter unmet others)
 
 -- the fields for all requirements are those for the requirements of the type and then that for a date
 pub unmet_in_turn : (said : EntryReading) (entry : Entry) (none first all : Names) (demands dates : List Names)

@@ -61,18 +61,18 @@ within_of said origins indices n within are count =
     subst (λ m. All (λ index. index < m) indices) count (subst (λ l. All (λ index. index < length said) l) (sym are) within)
 
 -- the findings of a recovered file are those for equal lists
-pub findings_of : (skipped skipped' : List SkippedBlock) (errors errors' : List ParseError)
+pub findings_of : (skipped skipped' : List SkippedBlock) (names : ByText ℕ) (errors errors' : List ParseError)
     (said said' : List EntryReading) (origins origins' : List ℕ) (entries entries' : List Entry)
     (between found : List Finding)
     → skipped ≡ skipped' → errors ≡ errors' → said ≡ said' → origins ≡ origins' → entries ≡ entries'
-    → AreFindingsIn skipped errors said origins entries between found
-    → AreFindingsIn skipped' errors' said' origins' entries' between found
-findings_of skipped skipped' errors errors' said said' origins origins' entries entries' between found a b c d e are =
-    subst (λ x. AreFindingsIn skipped' errors' said' origins' x between found) e
-    (subst (λ x. AreFindingsIn skipped' errors' said' x entries between found) d
-    (subst (λ x. AreFindingsIn skipped' errors' x origins entries between found) c
-    (subst (λ x. AreFindingsIn skipped' x said origins entries between found) b
-    (subst (λ x. AreFindingsIn x errors said origins entries between found) a are))))
+    → AreFindingsIn skipped names errors said origins entries between found
+    → AreFindingsIn skipped' names errors' said' origins' entries' between found
+findings_of skipped skipped' names errors errors' said said' origins origins' entries entries' between found a b c d e are =
+    subst (λ x. AreFindingsIn skipped' names errors' said' origins' x between found) e
+    (subst (λ x. AreFindingsIn skipped' names errors' said' x entries between found) d
+    (subst (λ x. AreFindingsIn skipped' names errors' x origins entries between found) c
+    (subst (λ x. AreFindingsIn skipped' names x said origins entries between found) b
+    (subst (λ x. AreFindingsIn x names errors said origins entries between found) a are))))
 
 -- the findings between entries are those for equal lists
 pub between_of : (skipped skipped' : List SkippedBlock) (names : ByText ℕ) (said said' : List EntryReading) (origins origins' : List ℕ)

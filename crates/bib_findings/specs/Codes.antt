@@ -2,7 +2,7 @@
 -- Codes of findings: their names and severities.
 use Rattle.std.specs.Prelude.{ℕ, List, [], ◌∷◌, Option, bytes_eq, codes, find}
 use Rattle.bib_findings.specs.declared.codes.Code.{Code}
-use Rattle.bib_findings.specs.declared.codes.Code.TheVariants.{UnreadBytes, Syntax, UnreadField, UnknownAbbreviation, CircularAbbreviation, DuplicateKey, CircularReference, UnreadDate, UnknownType, MissingField, SuperfluousField, MalformedField, NotANumber, MalformedDate, UnknownField, ForeignField, RepeatedField, EmptyField, WrongIsbn, DoiAddress, UnknownReference, LikelyDuplicate, KeyCase, MissingEntry, UnusedEntry}
+use Rattle.bib_findings.specs.declared.codes.Code.TheVariants.{UnreadBytes, Syntax, UnreadField, UnknownAbbreviation, CircularAbbreviation, DuplicateKey, CircularReference, UnreadDate, UnknownType, MissingField, SuperfluousField, MalformedField, NotANumber, MalformedDate, UnknownField, ForeignField, RepeatedField, EmptyField, WrongIsbn, WrongIssn, DoiAddress, EmptyKey, UnknownReference, LikelyDuplicate, KeyCase, MissingEntry, UnusedEntry}
 use Rattle.bib_findings.specs.declared.codes.Severity.{Severity}
 use Rattle.bib_findings.specs.declared.codes.Severity.TheVariants.{Error, Warning, Info}
 
@@ -33,7 +33,9 @@ code_name ForeignField = codes "foreign-field"
 code_name RepeatedField = codes "repeated-field"
 code_name EmptyField = codes "empty-field"
 code_name WrongIsbn = codes "wrong-isbn"
+code_name WrongIssn = codes "wrong-issn"
 code_name DoiAddress = codes "doi-address"
+code_name EmptyKey = codes "empty-key"
 code_name UnknownReference = codes "unknown-reference"
 code_name LikelyDuplicate = codes "likely-duplicate"
 code_name KeyCase = codes "key-case"
@@ -45,8 +47,8 @@ abbrev pub all_codes : List Code
 all_codes =
     UnreadBytes ∷ Syntax ∷ UnreadField ∷ UnknownAbbreviation ∷ CircularAbbreviation ∷ DuplicateKey ∷ CircularReference ∷ UnreadDate
     ∷ UnknownType ∷ MissingField ∷ SuperfluousField ∷ MalformedField ∷ NotANumber ∷ MalformedDate ∷ UnknownField ∷ ForeignField
-    ∷ RepeatedField ∷ EmptyField ∷ WrongIsbn ∷ DoiAddress ∷ UnknownReference ∷ LikelyDuplicate ∷ KeyCase ∷ MissingEntry
-    ∷ UnusedEntry ∷ []
+    ∷ RepeatedField ∷ EmptyField ∷ WrongIsbn ∷ WrongIssn ∷ DoiAddress ∷ EmptyKey ∷ UnknownReference ∷ LikelyDuplicate ∷ KeyCase
+    ∷ MissingEntry ∷ UnusedEntry ∷ []
 
 -- the code that has this name, if there is one
 abbrev pub code_named : List ℕ → Option Code

@@ -1,14 +1,14 @@
 -- Meaning: words of public contracts.
 -- The fields that BibLaTeX requires of an entry, by its type: the mandatory fields of its default data model (blx-dm.def of BibLaTeX
 -- 3.18b).
-use Rattle.std.specs.Prelude.{ℕ, Bool, not, ◌||◌, find, is_some, List, [], ◌∷◌, ◌++◌, if◌then◌else◌, map}
+use Rattle.std.specs.Prelude.{ℕ, Bool, not, find, List, [], ◌∷◌, ◌++◌, if◌then◌else◌, map}
 use Rattle.std.specs.List.{filter, list_any}
 use Rattle.std.specs.Option.{option_map_or}
 use Rattle.bib_entry.specs.Reports.{has_field}
 use Rattle.bib_entry.specs.declared.entry.Entry.{Entry}
 use Rattle.bib_tables.specs.Requirements.{Names, fields}
 use Rattle.bib_syntax.specs.Reading.{EntryReading}
-use Rattle.bib_findings.specs.Entries.{last_named}
+use Rattle.bib_findings.specs.Entries.{is_empty_value, has_own_field, last_named}
 use Rattle.bib_findings.specs.Nearest.{is_known_name}
 
 -- The fields of which an entry needs one. Findings name the first. The others replace it: BibTeX's names, and for the author of a whole
@@ -49,26 +49,30 @@ demands_of entry_type = option_map_or (λ row. row.1) (find (λ row. is_known_na
 abbrev pub date_demand : List ℕ → List Demand
 date_demand entry_type = if is_known_name dated_types entry_type then fields "year date" ∷ [] else []
 
--- whether an entry has a field, maybe by inheritance, or has it in the file, where its value may be unreadable
-abbrev pub has_or_writes : EntryReading → Entry → List ℕ → Bool
-has_or_writes said entry name = has_field entry name || is_some (last_named said.fields name)
+-- whether an entry has a value of a field: one in the file that isn't empty and may be unreadable, or an inherited one
+abbrev pub has_value : EntryReading → Entry → List ℕ → Bool
+has_value said entry name = option_map_or (λ f. not (is_empty_value f)) (last_named said.fields name) (has_field entry name)
 
--- whether an entry has one of these fields
+-- whether an entry has a value of one of these fields
 abbrev pub is_met : EntryReading → Entry → Demand → Bool
-is_met said entry demand = list_any (has_or_writes said entry) demand
+is_met said entry demand = list_any (has_value said entry) demand
 
 -- the requirements of a type
 abbrev pub all_demands : List ℕ → List Demand
 all_demands entry_type = demands_of entry_type ++ date_demand entry_type
 
--- the field that a finding names for a requirement: its first
-abbrev pub demanded_field : Demand → List ℕ
-demanded_field [] = []
-demanded_field (name ∷ others) = name
+-- the first field of a requirement
+abbrev pub leading_field : Demand → List ℕ
+leading_field [] = []
+leading_field (name ∷ others) = name
+
+-- the field that a finding names for a requirement: the first that the entry has in the file, where it is empty, or else the first
+abbrev pub demanded_field : EntryReading → Demand → List ℕ
+demanded_field said demand = option_map_or (λ name. name) (find (has_own_field said) demand) (leading_field demand)
 
 -- the fields that findings name for those of the requirements that an entry doesn't meet
 abbrev pub unmet_fields : EntryReading → Entry → List Demand → Names
-unmet_fields said entry demands = map demanded_field (filter (λ demand. not (is_met said entry demand)) demands)
+unmet_fields said entry demands = map (demanded_field said) (filter (λ demand. not (is_met said entry demand)) demands)
 
 -- the fields that are required of an entry and that it lacks
 abbrev pub missing_fields : EntryReading → Entry → Names

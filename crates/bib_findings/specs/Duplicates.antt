@@ -5,6 +5,7 @@ use Rattle.std.specs.List.{filter, filter_map}
 use Rattle.std.specs.Option.{option_map_or}
 use Rattle.bib_syntax.specs.Reading.{EntryReading}
 use Rattle.bib_findings.specs.Entries.{part_range}
+use Rattle.bib_findings.specs.EntryNames.{entry_name}
 use Rattle.bib_findings.specs.Errors.{finding_at}
 use Rattle.bib_findings.specs.Identities.{are_told_apart, has_identity, identities}
 use Rattle.bib_findings.specs.declared.codes.Code.TheVariants.{LikelyDuplicate}
@@ -16,7 +17,7 @@ entries_at said indices = filter_map (slice_get said) indices
 
 -- the message for an entry with this key that is likely the same work as the entry with the key `first`
 abbrev pub duplicate_message : List ℕ → List ℕ → List ℕ
-duplicate_message key first = key ++ (codes ": likely the same as \"" ++ (first ++ codes "\""))
+duplicate_message key first = entry_name key ++ (codes ": likely the same as \"" ++ (first ++ codes "\""))
 
 -- the finding of an entry that is likely the same work as the entry `first`; its place is the key of the later entry
 abbrev pub duplicate_finding : EntryReading → EntryReading → Finding

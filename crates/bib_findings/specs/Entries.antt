@@ -1,11 +1,13 @@
 -- Meaning: words of public contracts.
 -- The places of an entry's fields in the file, and findings about fields.
-use Rattle.std.specs.Prelude.{◌≡◌, ℕ, List, [], ◌∷◌, ◌++◌, codes, reverse, slice_get, Option, Some, None}
-use Rattle.std.specs.List.{find}
-use Rattle.std.specs.Str.{str_eq_ignore_ascii_case}
+use Rattle.std.specs.Prelude.{◌≡◌, ℕ, Bool, false, ◌==◌, List, [], ◌∷◌, ◌++◌, codes, is_some, length, reverse, slice_get, Option, Some, None}
+use Rattle.std.specs.List.{find, list_all}
+use Rattle.std.specs.Str.{str_eq_ignore_ascii_case, trim}
 use Rattle.std.specs.declared.ops.Range.{Range}
 use Rattle.bib_entry.specs.declared.entry.Entry.{Entry}
-use Rattle.bib_syntax.specs.Reading.{Part, EntryReading, FieldReading}
+use Rattle.bib_syntax.specs.Reading.{Part, EntryReading, FieldReading, Piece}
+use Rattle.bib_syntax.specs.Reading.Piece.{literal, abbreviation}
+use Rattle.bib_findings.specs.EntryNames.{entry_name}
 use Rattle.bib_findings.specs.Errors.{finding_at}
 use Rattle.bib_findings.specs.declared.codes.Code.{Code}
 use Rattle.bib_findings.specs.declared.finding.Finding.{Finding}
@@ -27,9 +29,22 @@ range_or other (Some f) = part_range f.name
 abbrev pub field_place : EntryReading → List ℕ → Range ℕ
 field_place said name = range_or (part_range said.key) (last_named said.fields name)
 
+-- whether a piece of a value is a literal without a character, or with only white space
+abbrev pub is_blank_piece : Piece → Bool
+is_blank_piece (literal p) = length (trim p.text) == 0
+is_blank_piece (abbreviation p) = false
+
+-- whether the value of a field is empty: all of its pieces are blank
+abbrev pub is_empty_value : FieldReading → Bool
+is_empty_value f = list_all is_blank_piece f.value.pieces
+
+-- whether an entry has a field of this name in the file
+abbrev pub has_own_field : EntryReading → List ℕ → Bool
+has_own_field said name = is_some (last_named said.fields name)
+
 -- the message about a field of the entry with this key: the key, what is wrong, and the field's name
 abbrev pub field_message : List ℕ → List ℕ → List ℕ → List ℕ
-field_message key wrong name = key ++ (codes ": " ++ (wrong ++ (codes " " ++ name)))
+field_message key wrong name = entry_name key ++ (codes ": " ++ (wrong ++ (codes " " ++ name)))
 
 -- the finding of a field of an entry, with a code and the word for what is wrong
 abbrev pub field_finding : EntryReading → Code → List ℕ → List ℕ → Finding

@@ -11,6 +11,7 @@ use Rattle.bib_syntax.specs.declared.raw.ParseErrorKind.{ParseErrorKind}
 use Rattle.bib_syntax.specs.declared.raw.ParseErrorKind.TheVariants.{UnexpectedEof, Unexpected, Expected, UnknownAbbreviation, MalformedCommand, DuplicateKey, ResolutionError, AbbreviationCycle, ReferenceCycle}
 use Rattle.bib_syntax.specs.declared.raw.recovery.SkippedBlock.{SkippedBlock}
 use Rattle.bib_findings.specs.Cuts.{entry_from}
+use Rattle.bib_findings.specs.EntryNames.{entry_name}
 use Rattle.bib_findings.specs.declared.codes.Code.{Code}
 use Rattle.bib_findings.specs.declared.codes.Code.TheVariants as code
 use Rattle.bib_findings.specs.declared.finding.Finding.{Finding}
@@ -49,9 +50,13 @@ error_code _ = code.UnreadField
 abbrev pub error_finding : ParseError → Finding
 error_finding e = finding_at (error_code e.kind) e.span (error_message e.kind)
 
--- whether a field after the complete ones of a skipped block never ends: the error is reported where the block ends, or later
+-- whether a block has no end: its error is reported where the skipped text ends, or later
+abbrev pub is_endless : SkippedBlock → Bool
+is_endless block = not (nat_lt block.error.span.start block.span.end)
+
+-- whether a field after the complete ones of a skipped block never ends
 abbrev pub is_unclosed : SkippedBlock → EntryReading → Bool
-is_unclosed block e = not (nat_lt block.error.span.start block.span.end) && nat_lt e.end block.span.end
+is_unclosed block e = is_endless block && nat_lt e.end block.span.end
 
 -- the finding of a skipped block of which the entry `e` is kept. It names the entry. It is at the place of the error or, if a field never
 -- ends, at the start of this field
@@ -59,12 +64,17 @@ abbrev pub kept_finding : SkippedBlock → EntryReading → Finding
 kept_finding block e =
     if is_unclosed block e
     then finding_at code.Syntax (record { start = e.end; end = e.end })
-    (e.key.text ++ codes ": incomplete field; is a brace or a quote open?")
-    else finding_at code.Syntax block.error.span (e.key.text ++ (codes ": " ++ error_message block.error.kind))
+    (entry_name e.key.text ++ codes ": incomplete field; is a brace or a quote open?")
+    else finding_at code.Syntax block.error.span (entry_name e.key.text ++ (codes ": " ++ error_message block.error.kind))
 
--- the finding of a skipped block of which no entry is kept, at the place of its error
+-- the finding of a skipped block of which no entry is kept, such as one of abbreviations: at its start if it has no end, or else at the
+-- place of its error
 abbrev pub lost_finding : SkippedBlock → Finding
-lost_finding block = finding_at code.Syntax block.error.span (error_message block.error.kind)
+lost_finding block =
+    if is_endless block
+    then finding_at code.Syntax (record { start = block.span.start; end = block.span.start })
+    (codes "a block without an end; is a brace or a quote open?")
+    else finding_at code.Syntax block.error.span (error_message block.error.kind)
 
 -- the finding of a skipped block; the entry that is kept of it, if there is one, begins where the block begins
 abbrev pub block_finding : List EntryReading → SkippedBlock → Finding

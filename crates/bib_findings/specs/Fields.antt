@@ -1,22 +1,22 @@
 -- Meaning: words of public contracts.
--- The findings of fields that are repeated or empty, and of DOIs with an address.
-use Rattle.std.specs.Prelude.{ℕ, Bool, false, ◌==◌, List, [], ◌∷◌, ◌++◌, codes, if◌then◌else◌, length}
-use Rattle.std.specs.List.{flat_map, list_all, list_any}
-use Rattle.std.specs.Str.{trim}
+-- The findings of fields that are repeated or empty, of empty keys, and of DOIs with an address.
+use Rattle.std.specs.Prelude.{ℕ, not, ◌==◌, ◌&&◌, List, [], ◌∷◌, ◌++◌, codes, if◌then◌else◌, length}
+use Rattle.std.specs.List.{flat_map, list_any}
 use Rattle.bib_tables.specs.Requirements.{Names, fields}
-use Rattle.bib_syntax.specs.Reading.{EntryReading, FieldReading, Piece}
-use Rattle.bib_syntax.specs.Reading.Piece.{literal, abbreviation}
+use Rattle.bib_syntax.specs.Reading.{EntryReading, FieldReading}
 use Rattle.bib_findings.specs.After.{each_after}
-use Rattle.bib_findings.specs.Entries.{field_place, part_range}
+use Rattle.bib_findings.specs.Entries.{field_place, is_empty_value, part_range}
+use Rattle.bib_findings.specs.EntryNames.{entry_name}
 use Rattle.bib_findings.specs.Errors.{finding_at}
 use Rattle.bib_findings.specs.Foreign.{begins_in_any_case, have_one_name}
 use Rattle.bib_findings.specs.Identities.{own_literal}
-use Rattle.bib_findings.specs.declared.codes.Code.TheVariants.{RepeatedField, EmptyField, DoiAddress}
+use Rattle.bib_findings.specs.Nearest.{is_known_name}
+use Rattle.bib_findings.specs.declared.codes.Code.TheVariants.{RepeatedField, EmptyField, DoiAddress, EmptyKey}
 use Rattle.bib_findings.specs.declared.finding.Finding.{Finding}
 
 -- the message about a name of the entry with this key, with words before and after the name
 abbrev pub named_message : List ℕ → List ℕ → List ℕ → List ℕ → List ℕ
-named_message key before name after = key ++ (codes ": " ++ (before ++ (codes "`" ++ (name ++ (codes "`" ++ after)))))
+named_message key before name after = entry_name key ++ (codes ": " ++ (before ++ (codes "`" ++ (name ++ (codes "`" ++ after)))))
 
 -- the finding of a field whose name an earlier field of the entry has: BibTeX keeps the first of these fields, Biber and this library the
 -- last
@@ -33,22 +33,17 @@ repeated_after key earlier f = if list_any (have_one_name f) earlier then repeat
 abbrev pub repeated_findings : EntryReading → List Finding
 repeated_findings said = each_after (repeated_after said.key.text) [] said.fields
 
--- whether a piece of a value is a literal without a character, or with only white space
-abbrev pub is_blank_piece : Piece → Bool
-is_blank_piece (literal p) = length (trim p.text) == 0
-is_blank_piece (abbreviation p) = false
-
 -- the finding of an empty field
 abbrev pub empty_finding : List ℕ → FieldReading → Finding
 empty_finding key f = finding_at EmptyField (part_range f.name) (named_message key (codes "field ") f.name.text (codes " is empty"))
 
--- the finding of a field if its value is empty: all of its pieces are blank
-abbrev pub empty_of : List ℕ → FieldReading → List Finding
-empty_of key f = if list_all is_blank_piece f.value.pieces then empty_finding key f ∷ [] else []
+-- the finding of a field if its value is empty, and its name isn't one of the missing fields
+abbrev pub empty_of : List ℕ → Names → FieldReading → List Finding
+empty_of key missing f = if is_empty_value f && not (is_known_name missing f.name.text) then empty_finding key f ∷ [] else []
 
--- the findings of the empty fields of an entry
-abbrev pub empty_findings : EntryReading → List Finding
-empty_findings said = flat_map (empty_of said.key.text) said.fields
+-- the findings of the empty fields of an entry, except of those that are reported as missing
+abbrev pub empty_findings : Names → EntryReading → List Finding
+empty_findings missing said = flat_map (empty_of said.key.text missing) said.fields
 
 -- the ways in which a DOI with an address or a scheme begins
 abbrev pub address_starts : Names
@@ -60,5 +55,11 @@ abbrev pub address_findings : EntryReading → List Finding
 address_findings said =
     if list_any (λ start. begins_in_any_case start (own_literal said (codes "doi"))) address_starts
     then finding_at DoiAddress (field_place said (codes "doi"))
-    (named_message said.key.text [] (codes "doi") (codes " begins with an address; BibLaTeX puts `https://doi.org/` before it")) ∷ []
+    (named_message said.key.text [] (codes "doi") (codes " doesn't begin with `10.`; BibLaTeX puts `https://doi.org/` before it")) ∷ []
+    else []
+
+-- the finding of an entry with an empty key
+abbrev pub key_findings : EntryReading → List Finding
+key_findings said =
+    if length said.key.text == 0 then finding_at EmptyKey (part_range said.key) (codes "an entry without a key; Biber skips it") ∷ []
     else []

@@ -1,9 +1,10 @@
 -- Meaning: words of public contracts.
 -- All findings of a file: those of what recovery reports, and those of each entry that it keeps.
-use Rattle.std.specs.Prelude.{◌≡◌, ℕ, Bool, List, ◌++◌, map}
+use Rattle.std.specs.Prelude.{◌≡◌, ℕ, List, ◌++◌, map}
 use Rattle.std.specs.declared.ops.Range.{Range}
 use Rattle.std.specs.List.Sorted.{IsPermutation, IsSortedByKey, IsStableByKey}
 use Rattle.std.specs.Ordering.{nat_cmp}
+use Rattle.bib_tables.specs.Requirements.{Names}
 use Rattle.bib_entry.specs.declared.entry.Entry.{Entry}
 use Rattle.bib_file_entries.specs.Claiming.{IsKeptSoFar}
 use Rattle.bib_file_entries.specs.Loaded.{definition_in}
@@ -16,18 +17,19 @@ use Rattle.bib_syntax.specs.declared.raw.RawEntry.{RawEntry}
 use Rattle.bib_text.specs.declared.spanned.Spanned.{Spanned}
 use Rattle.bib_syntax.specs.declared.raw.recovery.SkippedBlock.{SkippedBlock}
 use Rattle.bib_collections.specs.Sorted.{ByText}
-use Rattle.bib_findings.specs.BookNumbers.{number_findings}
-use Rattle.bib_findings.specs.Cuts.{is_cut, whole_among}
+use Rattle.bib_findings.specs.StandardNumbers.{number_findings}
+use Rattle.bib_findings.specs.Cuts.{whole_among}
 use Rattle.bib_findings.specs.Duplicates.{duplicates, entries_at}
 use Rattle.bib_findings.specs.Entries.{AreOfEach}
 use Rattle.bib_findings.specs.Errors.{block_finding, error_finding}
-use Rattle.bib_findings.specs.Fields.{address_findings, empty_findings, repeated_findings}
+use Rattle.bib_findings.specs.Fields.{address_findings, empty_findings, key_findings, repeated_findings}
 use Rattle.bib_findings.specs.Foreign.{foreign_findings}
 use Rattle.bib_findings.specs.KeyCases.{case_findings}
+use Rattle.bib_findings.specs.Lacking.{may_lack}
 use Rattle.bib_findings.specs.MalformedDates.{date_findings}
 use Rattle.bib_findings.specs.Names.{AreOfUnknown}
 use Rattle.bib_findings.specs.References.{AreReferences}
-use Rattle.bib_findings.specs.Reported.{AreOfReport}
+use Rattle.bib_findings.specs.Reported.{AreOfReport, reported_missing}
 use Rattle.bib_findings.specs.Types.{AreOfType}
 use Rattle.bib_findings.specs.declared.finding.Finding.{Finding}
 
@@ -35,22 +37,30 @@ use Rattle.bib_findings.specs.declared.finding.Finding.{Finding}
 abbrev pub entries_said : List (Spanned RawEntry) → List EntryReading
 entries_said = map entry_reading_of
 
--- the findings of single fields of an entry: repeated and empty ones, wrong numbers, DOIs with an address, and dates that aren't one
-abbrev pub single_findings : Bool → EntryReading → Entry → List Finding
-single_findings cut said entry =
-    repeated_findings said
-    ++ (empty_findings said ++ (number_findings said ++ (address_findings said ++ date_findings cut said entry)))
+-- the findings of an empty key and of single fields of an entry with these missing fields: repeated and empty ones, wrong numbers, DOIs
+-- with an address, and dates that aren't one
+abbrev pub single_findings : Names → EntryReading → Entry → List Finding
+single_findings missing said entry =
+    key_findings said
+    ++ (repeated_findings said
+    ++ (empty_findings missing said ++ (number_findings said ++ (address_findings said ++ date_findings said entry))))
 
--- whether these are the findings of an entry, with its raw form `said`: that of its type, then those of its report, then those of unknown
--- field names, then those of its single fields; `cut` says whether the entry is cut
-pub record AreOfEntry (cut : Bool) (said : EntryReading) (entry : Entry) (found : List Finding) : Type 0 where
+-- whether these are the findings of an entry, with its raw form `said` and these missing fields: that of its type, then those of its
+-- report, then those of unknown field names, then those of its key and its single fields
+pub record AreOfEntry (missing : Names) (said : EntryReading) (entry : Entry) (found : List Finding) : Type 0 where
   pub of_type : List Finding
   pub type : AreOfType said of_type
   pub of_report : List Finding
-  pub report : AreOfReport cut said entry of_report
+  pub report : AreOfReport missing said entry of_report
   pub of_unknown : List Finding
   pub unknown : AreOfUnknown said of_unknown
-  pub are : found ≡ of_type ++ (of_report ++ (of_unknown ++ single_findings cut said entry))
+  pub are : found ≡ of_type ++ (of_report ++ (of_unknown ++ single_findings missing said entry))
+
+-- whether these are the findings of an entry of a recovered file, with its raw form `one`. No field is missing if fields of the entry may
+-- be lost.
+abbrev pub AreOfKept : List SkippedBlock → ByText ℕ → List EntryReading → List ℕ → EntryReading → Entry → List Finding → Type 0
+AreOfKept skipped names said origins one entry found =
+    AreOfEntry (reported_missing (may_lack skipped names said origins one entry) one entry) one entry found
 
 -- whether `found` is `all`, sorted by the start of the span; findings with the same start keep their order
 pub record AreSortedByPlace (all found : List Finding) : Type 0 where
@@ -71,10 +81,10 @@ pub record AreBetween (skipped : List SkippedBlock) (names : ByText ℕ) (said :
 
 -- whether these are the findings of a recovered file, sorted by where they start: those of skipped blocks, of errors, of each kept
 -- entry, and those between entries
-pub record AreFindingsIn (skipped : List SkippedBlock) (errors : List ParseError) (said : List EntryReading)
+pub record AreFindingsIn (skipped : List SkippedBlock) (names : ByText ℕ) (errors : List ParseError) (said : List EntryReading)
     (origins : List ℕ) (entries : List Entry) (between found : List Finding) : Type 0 where
   pub of_entries : List Finding
-  pub reports : AreOfEach (λ one. AreOfEntry (is_cut skipped one) one) said origins entries of_entries
+  pub reports : AreOfEach (AreOfKept skipped names said origins) said origins entries of_entries
   pub sorted : AreSortedByPlace (map (block_finding said) skipped ++ (map error_finding errors ++ (of_entries ++ between))) found
 
 -- whether these are all findings of a file with this text, with the complete parts of its skipped blocks. Each kept entry is reported with
@@ -94,4 +104,4 @@ pub record AreFindings (text : List ℕ) (found : List Finding) : Type 0 where
   pub resolved : AreRecovered places names own entries of_references
   pub between : List Finding
   pub are_between : AreBetween skipped names says.entries origins own between
-  pub are : AreFindingsIn skipped (of_entries ++ of_references) says.entries origins entries between found
+  pub are : AreFindingsIn skipped names (of_entries ++ of_references) says.entries origins entries between found

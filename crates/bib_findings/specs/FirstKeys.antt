@@ -9,7 +9,7 @@ use Rattle.bib_syntax.specs.Reading.{EntryReading}
 abbrev pub lowercase_key : EntryReading → List ℕ
 lowercase_key said = str_to_ascii_lowercase said.key.text
 
--- whether each key in lowercase has the key of the first of the earlier entries that have it
+-- whether `firsts` returns for each text the key of the first of the earlier entries whose key in lowercase is this text, if there is one
 abbrev pub AreFirstKeys : (List ℕ → Option (Bor (List ℕ))) → List EntryReading → Type 0
 AreFirstKeys firsts earlier =
     (name : List ℕ) → option_map (λ key. key.now) (firsts name) ≡

@@ -1,5 +1,5 @@
 -- Meaning: words of public contracts.
--- The findings of keys that equal an earlier key except for ASCII case: BibTeX takes the entries for one.
+-- The findings of keys that equal an earlier key except for ASCII case: BibTeX reports a repeated entry, and skips the later one.
 use Rattle.std.specs.Prelude.{ℕ, Bool, List, [], ◌∷◌, codes, find}
 use Rattle.std.specs.Option.{option_map_or}
 use Rattle.std.specs.Str.{str_eq_ignore_ascii_case}

@@ -1,10 +1,10 @@
 pub mod Adding
 pub mod After
-pub mod BookNumbers
 pub mod Codes
 pub mod Counted
 pub mod Cuts
 pub mod Entries
+pub mod EntryNames
 pub mod Errors
 pub mod Fields
 pub mod DemandRows
@@ -15,6 +15,7 @@ pub mod FirstKeys
 pub mod Foreign
 pub mod Identities
 pub mod KeyCases
+pub mod Lacking
 pub mod MalformedDates
 pub mod Marks
 pub mod Met
@@ -24,6 +25,7 @@ pub mod Nearest
 pub mod References
 pub mod Reported
 pub mod Seen
+pub mod StandardNumbers
 pub mod Starts
 pub mod Types
 pub mod Words

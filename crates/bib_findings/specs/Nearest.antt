@@ -5,6 +5,7 @@ use Rattle.std.specs.List.{All, ends_with, filter, list_any, starts_with}
 use Rattle.std.specs.Str.{chars, str_eq_ignore_ascii_case}
 use Rattle.strsim.specs.Edits.{osa_table}
 use Rattle.bib_tables.specs.Requirements.{Names}
+use Rattle.bib_findings.specs.EntryNames.{entry_name}
 
 -- whether a list contains a name, in any ASCII case
 abbrev pub is_known_name : Names → List ℕ → Bool
@@ -55,6 +56,6 @@ IsNearest all name None = All (λ known. is_plausible name known ≡ false) all
 
 -- the message about an unknown name of the entry with this key, such as `unknown field`, with a suggestion if there is one
 abbrev pub unknown_message : List ℕ → List ℕ → List ℕ → Option (List ℕ) → List ℕ
-unknown_message key wrong name None = key ++ (codes ": " ++ (wrong ++ (codes " `" ++ (name ++ codes "`"))))
+unknown_message key wrong name None = entry_name key ++ (codes ": " ++ (wrong ++ (codes " `" ++ (name ++ codes "`"))))
 unknown_message key wrong name (Some known) =
-    key ++ (codes ": " ++ (wrong ++ (codes " `" ++ (name ++ (codes "`; did you mean `" ++ (known ++ codes "`?"))))))
+    entry_name key ++ (codes ": " ++ (wrong ++ (codes " `" ++ (name ++ (codes "`; did you mean `" ++ (known ++ codes "`?"))))))

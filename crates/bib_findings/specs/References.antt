@@ -12,6 +12,7 @@ use Rattle.bib_collections.specs.Sorted.{ByText}
 use Rattle.bib_chunks.specs.Lists.{comma_texts}
 use Rattle.bib_syntax.specs.Reading.{EntryReading}
 use Rattle.bib_findings.specs.Entries.{field_place}
+use Rattle.bib_findings.specs.EntryNames.{entry_name}
 use Rattle.bib_findings.specs.Errors.{finding_at}
 use Rattle.bib_findings.specs.declared.codes.Code.TheVariants.{UnknownReference}
 use Rattle.bib_findings.specs.declared.finding.Finding.{Finding}
@@ -34,7 +35,7 @@ is_unknown names key = not (length key == 0) && is_none (by_name.get names key)
 
 -- the message for a key that no entry has and that this field of the entry with the key `key` refers to
 abbrev pub reference_message : List ℕ → List ℕ → List ℕ → List ℕ
-reference_message key field named = key ++ (codes ": no entry \"" ++ (named ++ (codes "\" (" ++ (field ++ codes ")"))))
+reference_message key field named = entry_name key ++ (codes ": no entry \"" ++ (named ++ (codes "\" (" ++ (field ++ codes ")"))))
 
 -- the finding of a key that a field refers to, at the name of the field
 abbrev pub reference_finding : EntryReading → List ℕ → List ℕ → Finding

@@ -12,7 +12,7 @@ use Rattle.bib_entry.specs.Reports.{AreMalformed, superfluous_of}
 use Rattle.bib_entry.specs.declared.entry.Entry.{Entry}
 use Rattle.bib_syntax.specs.Reading.{EntryReading}
 use Rattle.bib_findings.specs.Demands.{missing_fields}
-use Rattle.bib_findings.specs.Entries.{field_finding, field_message, field_place, last_named, range_or}
+use Rattle.bib_findings.specs.Entries.{field_finding, field_message, field_place, has_own_field, last_named, range_or}
 use Rattle.bib_findings.specs.Errors.{finding_at}
 use Rattle.bib_findings.specs.Identities.{own_literal}
 use Rattle.bib_findings.specs.declared.codes.Code.{Code}
@@ -70,19 +70,27 @@ superfluous_fields entry =
     if is_unknown_type entry.entry_type then []
     else filter (λ name. not (is_in_data_model entry.entry_type name)) (superfluous_of entry)
 
--- the missing fields that are reported: none if the entry is cut, because its other fields may be lost
+-- the missing fields that are reported: none if fields of the entry may be lost
 abbrev pub reported_missing : Bool → EntryReading → Entry → Names
-reported_missing cut said entry = if cut then [] else missing_fields said entry
+reported_missing may_lack said entry = if may_lack then [] else missing_fields said entry
+
+-- the word for what is wrong with a required field of which the entry has no value
+abbrev pub lacking_word : EntryReading → List ℕ → List ℕ
+lacking_word said name = if has_own_field said name then codes "empty" else codes "missing"
+
+-- the finding of a required field of which the entry has no value: at the field if it is empty
+abbrev pub lacking_finding : EntryReading → List ℕ → Finding
+lacking_finding said name = field_finding said code.MissingField (lacking_word said name) name
 
 -- the findings of a report: first of the missing fields, then of the superfluous ones, then of the malformed ones
-abbrev pub report_findings : Bool → EntryReading → Entry → List (List ℕ × TypeError) → List Finding
-report_findings cut said entry errors =
-    map (field_finding said code.MissingField (codes "missing")) (reported_missing cut said entry)
+abbrev pub report_findings : Names → EntryReading → Entry → List (List ℕ × TypeError) → List Finding
+report_findings missing said entry errors =
+    map (lacking_finding said) missing
     ++ (map (field_finding said code.SuperfluousField (codes "superfluous")) (superfluous_fields entry)
     ++ malformed_findings said errors)
 
--- whether these are the findings of the report on an entry, with its raw form `said`; `cut` says whether the entry is cut
-pub record AreOfReport (cut : Bool) (said : EntryReading) (entry : Entry) (found : List Finding) : Type 0 where
+-- whether these are the findings of the report on an entry, with its raw form `said` and these missing fields
+pub record AreOfReport (missing : Names) (said : EntryReading) (entry : Entry) (found : List Finding) : Type 0 where
   pub errors : List (List ℕ × TypeError)
   pub malformed : AreMalformed entry errors
-  pub are : found ≡ report_findings cut said entry errors
+  pub are : found ≡ report_findings missing said entry errors

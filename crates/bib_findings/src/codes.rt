@@ -66,10 +66,14 @@ pub enum Code {
     RepeatedField,
     /// A field whose value is empty or only white space.
     EmptyField,
-    /// A field with a wrong ISBN or ISSN.
+    /// A field with a wrong ISBN.
     WrongIsbn,
+    /// A field with a wrong ISSN.
+    WrongIssn,
     /// A DOI that begins with an address or a scheme.
     DoiAddress,
+    /// An entry with an empty key.
+    EmptyKey,
     /// A key that an entry refers to and no entry has.
     UnknownReference,
     /// An entry that is likely the same work as an earlier one.
@@ -84,7 +88,7 @@ pub enum Code {
 
 // The codes in the order of their listing: errors of parsing and of inheriting, then findings about an entry's type and fields, then about
 // references, duplicates and keys, then about documents.
-static CODES: [Code; 25] = [
+static CODES: [Code; 27] = [
     Code::UnreadBytes,
     Code::Syntax,
     Code::UnreadField,
@@ -104,7 +108,9 @@ static CODES: [Code; 25] = [
     Code::RepeatedField,
     Code::EmptyField,
     Code::WrongIsbn,
+    Code::WrongIssn,
     Code::DoiAddress,
+    Code::EmptyKey,
     Code::UnknownReference,
     Code::LikelyDuplicate,
     Code::KeyCase,
@@ -144,7 +150,9 @@ impl Code {
             Self::RepeatedField => "repeated-field",
             Self::EmptyField => "empty-field",
             Self::WrongIsbn => "wrong-isbn",
+            Self::WrongIssn => "wrong-issn",
             Self::DoiAddress => "doi-address",
+            Self::EmptyKey => "empty-key",
             Self::UnknownReference => "unknown-reference",
             Self::LikelyDuplicate => "likely-duplicate",
             Self::KeyCase => "key-case",
@@ -184,7 +192,9 @@ impl Code {
             | Self::UnknownField
             | Self::RepeatedField
             | Self::WrongIsbn
+            | Self::WrongIssn
             | Self::DoiAddress
+            | Self::EmptyKey
             | Self::UnknownReference
             | Self::LikelyDuplicate
             | Self::KeyCase
@@ -214,7 +224,7 @@ impl Code {
             Self::UnknownType =>
                 "BibLaTeX doesn't know this entry type. It treats the entry as `misc`. Correct the type. If a known one is nearly the same, the message names it. A type of a style of your own is also unknown; then ignore this code.",
             Self::MissingField =>
-                "BibLaTeX's data model requires this field of an entry of this type, and the entry neither has nor inherits it.",
+                "BibLaTeX's data model requires this field of an entry of this type. The entry neither has nor inherits it, or has it without a value.",
             Self::SuperfluousField =>
                 "An entry of this type must not have this field. Remove it, or change the type of the entry.",
             Self::MalformedField =>
@@ -232,15 +242,19 @@ impl Code {
             Self::EmptyField =>
                 "The value of the field is empty or only white space. BibLaTeX takes the field for missing. Remove the field, or add its value.",
             Self::WrongIsbn =>
-                "The number isn't an ISBN, or in the field `issn` no ISSN: its length or its last digit, which checks the others, is wrong. Copy the number again from the book or journal.",
+                "A number in the field isn't an ISBN: its length or its last digit, which checks the others, is wrong. Copy the number again from the book.",
+            Self::WrongIssn =>
+                "A number in the field isn't an ISSN: its length or its last digit, which checks the others, is wrong. Copy the number again from the journal.",
             Self::DoiAddress =>
                 "The DOI begins with an address or with `doi:`. BibLaTeX puts `https://doi.org/` before the field, so the link is wrong. Keep only the DOI itself, which begins with `10.`.",
+            Self::EmptyKey =>
+                "The entry has no key, so no document can cite it. Biber skips it. Write a key and a comma after the opening brace.",
             Self::UnknownReference =>
                 "A field refers to a key that no entry of the file has as its key or in its field `ids`. Nothing is inherited from it. Correct the key, or add the entry.",
             Self::LikelyDuplicate =>
                 "An earlier entry has the same DOI, the same ISBN of a whole book, or the same title, first person and year, and no volume, number, pages, chapter, part, edition or subtitle differs. Keep one of the two, and name the key of the other in its field `ids`.",
             Self::KeyCase =>
-                "The key equals the key of an earlier entry except for case. BibTeX takes the two entries for one, and Biber for two. Give one of them another key.",
+                "The key equals the key of an earlier entry except for case. BibTeX reports a repeated entry and skips this one. Biber keeps both and warns of a typing error. Give one of them another key.",
             Self::MissingEntry =>
                 "A document cites a key that no entry of the files has as its key or in its field `ids`. Correct the key, or add the entry.",
             Self::UnusedEntry =>

@@ -7,8 +7,9 @@ ghost use Rattle.bib_findings.specs.DemandRows.{demand_texts, demands_in};
 ghost use Rattle.bib_findings.specs.Demands as spec;
 ghost use Rattle.bib_findings.specs.Reported.{reported_missing};
 
+use crate::fields::is_empty_value;
 use crate::nearest::is_among;
-use crate::places::last_named;
+use crate::places::{has_own_field, last_named};
 use bib_entry::entry::Entry;
 use bib_syntax::raw::RawEntry;
 use bib_text::spanned::Spanned;
@@ -162,33 +163,48 @@ fn date_demand(entry_type: &str) -> &'static [&'static [&'static str]]
     }
 }
 
-// Returns whether an entry has a field, or has it in the file.
-fn has_or_writes(said: &Spanned<RawEntry<'_>>, entry: &Entry, name: &str) -> bool
-    ensures { result ≡ spec.has_or_writes (entry_reading_of said.now) entry.now name.now }
+// Returns whether an entry has a value of a field: one in the file that isn't empty, or an inherited one.
+fn has_value(said: &Spanned<RawEntry<'_>>, entry: &Entry, name: &str) -> bool
+    ensures { result ≡ spec.has_value (entry_reading_of said.now) entry.now name.now }
 {
-    entry.fields.get(name).is_some() || last_named(said.v.fields.as_slice(), name).is_some()
+    match last_named(said.v.fields.as_slice(), name) {
+        Some(field) => !is_empty_value(field),
+        None => entry.fields.get(name).is_some(),
+    }
 }
 
-// Returns whether an entry has one of these fields.
+// Returns whether an entry has a value of one of these fields.
 fn is_met(said: &Spanned<RawEntry<'_>>, entry: &Entry, demand: &[&'static str]) -> bool
     ensures { result ≡ spec.is_met (entry_reading_of said.now) entry.now (texts demand.now) }
 {
     'names: for name in demand {
-        if has_or_writes(said, entry, name) {
+        if has_value(said, entry, name) {
             return true;
         }
     }
     false
 }
 
-// Returns the field that a finding names for a requirement: its first.
-fn demanded_field(demand: &[&'static str]) -> &'static str
-    ensures { result.now ≡ spec.demanded_field (texts demand.now) }
+// Returns the first field of a requirement.
+fn leading_field(demand: &[&'static str]) -> &'static str
+    ensures { result.now ≡ spec.leading_field (texts demand.now) }
 {
     match demand {
         [name, ..] => *name,
         [] => "",
     }
+}
+
+// Returns the field that a finding names for a requirement: the first that the entry has in the file, or else the first.
+fn demanded_field(said: &Spanned<RawEntry<'_>>, demand: &[&'static str]) -> &'static str
+    ensures { result.now ≡ spec.demanded_field (entry_reading_of said.now) (texts demand.now) }
+{
+    'names: for name in demand {
+        if has_own_field(said, name) {
+            return *name;
+        }
+    }
+    leading_field(demand)
 }
 
 // Appends the fields that findings name for those of the requirements that an entry doesn't meet.
@@ -203,7 +219,7 @@ fn push_unmet(
 {
     'demands: for demand in demands {
         if !is_met(said, entry, demand) {
-            missing.push(demanded_field(demand))?;
+            missing.push(demanded_field(said, demand))?;
         }
     }
     Ok(())
@@ -224,16 +240,16 @@ fn missing_fields(
     Ok(missing)
 }
 
-/// Returns the missing fields that are reported: none if the entry is cut, because its other fields may be lost.
+/// Returns the missing fields that are reported: none if fields of the entry may be lost.
 pub(crate) fn reported_missing(
     alloc: Global,
-    is_cut: bool,
+    may_lack: bool,
     said: &Spanned<RawEntry<'_>>,
     entry: &Entry,
 ) -> Result<Vec<&'static str>, AllocError>
-    ensures { IfOk result (λ missing. texts missing.items ≡ reported_missing is_cut (entry_reading_of said.now) entry.now) }
+    ensures { IfOk result (λ missing. texts missing.items ≡ reported_missing may_lack (entry_reading_of said.now) entry.now) }
 {
-    if is_cut {
+    if may_lack {
         return Ok(Vec::new(alloc));
     }
     missing_fields(alloc, said, entry)

@@ -9,6 +9,7 @@ ghost use Rattle.bib_findings.specs.Duplicates.{duplicate_finding, duplicate_mes
 ghost use Rattle.bib_findings.specs.Seen.{AreFirstWith, AreThere, alike_among, alike_by, first_alike, remembered, same_finding, stored_indices, with_entry_index};
 
 use crate::codes::Code;
+use crate::entry_names::entry_name;
 use crate::finding::Finding;
 use crate::identities::{are_told_apart, identities};
 use crate::marks::candidates;
@@ -126,7 +127,8 @@ fn remember(
 fn duplicate_message(alloc: Global, key: &str, first: &str) -> Result<String, AllocError>
     ensures { IfOk result (λ text. string_bytes text ≡ duplicate_message key.now first.now) }
 {
-    format!(in alloc; "{key}: likely the same as \"{first}\"")
+    let entry = entry_name(key);
+    format!(in alloc; "{entry}: likely the same as \"{first}\"")
 }
 
 // Returns the finding of an entry that is likely the same work as `first`, an earlier one.

@@ -8,14 +8,14 @@ ghost use Rattle.bib_syntax.specs.Views.{entry_reading_of};
 ghost use Rattle.bib_findings.specs.Adding.{Adds};
 ghost use Rattle.bib_entry.specs.Reports.{superfluous_of};
 ghost use Rattle.bib_findings.specs.Entries.{field_finding, field_message};
-ghost use Rattle.bib_findings.specs.Reported.{AreOfReport, is_in_data_model, is_reported_field, malformed_code, malformed_finding, malformed_findings, superfluous_fields};
-ghost use Rattle.bib_findings.specs.declared.codes.Code.TheVariants.{MissingField, SuperfluousField};
+ghost use Rattle.bib_findings.specs.Reported.{AreOfReport, is_in_data_model, is_reported_field, lacking_word, malformed_code, malformed_finding, malformed_findings, lacking_finding, superfluous_fields};
+ghost use Rattle.bib_findings.specs.declared.codes.Code.TheVariants.{SuperfluousField};
 
 use crate::codes::Code;
-use crate::demands::reported_missing;
+use crate::entry_names::entry_name;
 use crate::finding::Finding;
 use crate::identities::own_literal;
-use crate::places::{field_place, malformed_place};
+use crate::places::{field_place, has_own_field, malformed_place};
 use bib_entry::entry::Entry;
 use bib_syntax::raw::RawEntry;
 use bib_tables::mechanics::EntryType;
@@ -28,7 +28,8 @@ use std::alloc::{AllocError, Global};
 fn field_message(alloc: Global, key: &str, wrong: &str, name: &str) -> Result<String, AllocError>
     ensures { IfOk result (λ text. string_bytes text ≡ field_message key.now wrong.now name.now) }
 {
-    format!(in alloc; "{key}: {wrong} {name}")
+    let entry = entry_name(key);
+    format!(in alloc; "{entry}: {wrong} {name}")
 }
 
 // Returns the finding of a field of an entry, with `wrong`, the word for what is wrong.
@@ -50,7 +51,30 @@ pub(crate) fn field_finding(
     })
 }
 
-// Appends a finding for each of these field names, which an entry lacks.
+// Returns the word for what is wrong with a required field of which the entry has no value.
+fn lacking_word(said: &Spanned<RawEntry<'_>>, name: &str) -> &'static str
+    ensures { result.now ≡ lacking_word (entry_reading_of said.now) name.now }
+{
+    if has_own_field(said, name) {
+        "empty"
+    } else {
+        "missing"
+    }
+}
+
+// Returns the finding of a required field of which the entry has no value.
+fn lacking_finding(
+    alloc: Global,
+    said: &Spanned<RawEntry<'_>>,
+    name: &str,
+) -> Result<Finding, AllocError>
+    ensures { IfOk result (λ finding. finding ≡ lacking_finding (entry_reading_of said.now) name.now) }
+{
+    let word = lacking_word(said, name);
+    field_finding(alloc, said, Code::MissingField, word, name)
+}
+
+// Appends a finding for each of these required fields, of which an entry has no value.
 fn add_missing(
     alloc: Global,
     found: &mut Vec<Finding>,
@@ -58,10 +82,10 @@ fn add_missing(
     names: &[&'static str],
 ) -> Result<(), AllocError>
     ensures { OnOk result (found.new.items ≡ found.old.items ++
-        map (field_finding (entry_reading_of said.now) MissingField (codes "missing")) (texts names.now)) }
+        map (lacking_finding (entry_reading_of said.now)) (texts names.now)) }
 {
     'names: for name in names {
-        found.push(field_finding(alloc, said, Code::MissingField, "missing", *name)?)?;
+        found.push(lacking_finding(alloc, said, *name)?)?;
     }
     Ok(())
 }
@@ -170,18 +194,17 @@ fn add_superfluous(
     }
 }
 
-// Appends the findings of the report on an entry. `is_cut` says whether the entry is cut.
+// Appends the findings of the report on an entry, with these missing fields.
 pub(crate) fn add_report(
     alloc: Global,
     found: &mut Vec<Finding>,
-    is_cut: bool,
+    missing: &[&'static str],
     said: &Spanned<RawEntry<'_>>,
     entry: &Entry,
 ) -> Result<(), AllocError>
-    ensures { OnOk result (Adds (AreOfReport is_cut (entry_reading_of said.now) entry.now) found.old.items found.new.items) }
+    ensures { OnOk result (Adds (AreOfReport (texts missing.now) (entry_reading_of said.now) entry.now) found.old.items found.new.items) }
 {
-    let missing = reported_missing(alloc, is_cut, said, entry)?;
-    add_missing(alloc, found, said, &missing)?;
+    add_missing(alloc, found, said, missing)?;
     let report = entry.verify(alloc)?;
     add_superfluous(alloc, found, said, entry, &report.superfluous)?;
     add_malformed(alloc, found, said, &report.malformed)

@@ -9,6 +9,7 @@ ghost use Rattle.bib_findings.specs.Starts.{AreEntriesByStart};
 
 use crate::codes::Code;
 use crate::cuts::entries_by_start;
+use crate::entry_names::entry_name;
 use crate::finding::Finding;
 use bib_syntax::raw::{ParseError, ParseErrorKind, RawEntry, SkippedBlock};
 use bib_text::spanned::Spanned;
@@ -73,11 +74,18 @@ fn error_finding(alloc: Global, error: &ParseError) -> Result<Finding, AllocErro
     })
 }
 
+// Returns whether a block has no end.
+fn is_endless(block: &SkippedBlock) -> bool
+    ensures { result ≡ spec.is_endless block.now }
+{
+    !(block.error.span.start < block.span.end)
+}
+
 // Returns whether a field after the complete ones of a skipped block never ends.
 fn is_unclosed(block: &SkippedBlock, entry: &Spanned<RawEntry<'_>>) -> bool
     ensures { result ≡ spec.is_unclosed block.now (entry_reading_of entry.now) }
 {
-    !(block.error.span.start < block.span.end) && entry.span.end < block.span.end
+    is_endless(block) && entry.span.end < block.span.end
 }
 
 // Returns the finding of a skipped block of which `entry` is kept.
@@ -88,9 +96,9 @@ fn kept_finding(
 ) -> Result<Finding, AllocError>
     ensures { IfOk result (λ finding. finding ≡ spec.kept_finding block.now (entry_reading_of entry.now)) }
 {
-    let key = entry.v.key.v;
+    let name = entry_name(entry.v.key.v);
     if is_unclosed(block, entry) {
-        let message = format!(in alloc; "{key}: incomplete field; is a brace or a quote open?")?;
+        let message = format!(in alloc; "{name}: incomplete field; is a brace or a quote open?")?;
         return Ok(Finding {
             code: Code::Syntax,
             span: entry.span.end..entry.span.end,
@@ -98,7 +106,7 @@ fn kept_finding(
         });
     }
     let error = error_message(alloc, &block.error.kind)?;
-    let message = format!(in alloc; "{key}: {error}")?;
+    let message = format!(in alloc; "{name}: {error}")?;
     Ok(Finding {
         code: Code::Syntax,
         span: block.error.span.start..block.error.span.end,
@@ -110,6 +118,14 @@ fn kept_finding(
 fn lost_finding(alloc: Global, block: &SkippedBlock) -> Result<Finding, AllocError>
     ensures { IfOk result (λ finding. finding ≡ spec.lost_finding block.now) }
 {
+    if is_endless(block) {
+        let words = "a block without an end; is a brace or a quote open?";
+        return Ok(Finding {
+            code: Code::Syntax,
+            span: block.span.start..block.span.start,
+            message: Text::from_string(String::from_str(alloc, words)?),
+        });
+    }
     let message = error_message(alloc, &block.error.kind)?;
     Ok(Finding {
         code: Code::Syntax,

@@ -1,16 +1,20 @@
-//! Findings of fields that are repeated or empty, and of DOIs with an address.
+//! Findings of fields that are repeated or empty, of empty keys, and of DOIs with an address.
 
 ghost use Rattle.std.specs.Prelude.{◌≡◌, ◌++◌, [], ◌∷◌, codes, if◌then◌else◌, map, IfOk, OnOk};
 ghost use Rattle.std.specs.List.{flat_map, list_all};
 ghost use Rattle.std.specs.String.{string_bytes};
+ghost use Rattle.bib_tables.specs.Requirements.{texts};
 ghost use Rattle.bib_syntax.specs.Views.{entry_reading_of, field_of, piece_of};
+ghost use Rattle.bib_findings.specs.Entries.{is_blank_piece, is_empty_value};
 ghost use Rattle.bib_findings.specs.Fields as spec;
-ghost use Rattle.bib_findings.specs.Fields.{address_findings, empty_finding, empty_findings, empty_of, is_blank_piece, repeated_finding, repeated_findings};
+ghost use Rattle.bib_findings.specs.Fields.{address_findings, empty_finding, empty_findings, empty_of, key_findings, repeated_finding, repeated_findings};
 
 use crate::codes::Code;
+use crate::entry_names::entry_name;
 use crate::finding::Finding;
 use crate::foreign::begins_with_any;
 use crate::identities::own_literal;
+use crate::nearest::is_among;
 use crate::places::field_place;
 use bib_syntax::raw::{Pair, RawChunk, RawEntry};
 use bib_text::spanned::Spanned;
@@ -28,7 +32,8 @@ pub(crate) fn named_message(
 ) -> Result<String, AllocError>
     ensures { IfOk result (λ text. string_bytes text ≡ spec.named_message key.now before.now name.now after.now) }
 {
-    format!(in alloc; "{key}: {before}`{name}`{after}")
+    let entry = entry_name(key);
+    format!(in alloc; "{entry}: {before}`{name}`{after}")
 }
 
 // Returns the finding of a field whose name an earlier field of the entry with this key has.
@@ -95,6 +100,13 @@ fn are_blank(pieces: &[Spanned<RawChunk<'_>>]) -> bool
     pieces.iter().all(is_blank_piece)
 }
 
+/// Returns whether the value of a field is empty: all of its pieces are blank.
+pub(crate) fn is_empty_value(field: &Pair<'_>) -> bool
+    ensures { result ≡ is_empty_value (field_of field.now) }
+{
+    are_blank(&field.value.v)
+}
+
 // Returns the finding of an empty field of the entry with this key.
 fn empty_finding(alloc: Global, key: &str, field: &Pair<'_>) -> Result<Finding, AllocError>
     ensures { IfOk result (λ finding. finding ≡ empty_finding key.now (field_of field.now)) }
@@ -107,45 +119,70 @@ fn empty_finding(alloc: Global, key: &str, field: &Pair<'_>) -> Result<Finding, 
     })
 }
 
-// Appends the finding of a field, if its value is empty.
+// Appends the finding of a field, if its value is empty and its name isn't one of the missing fields.
 fn add_if_empty(
     alloc: Global,
     found: &mut Vec<Finding>,
+    missing: &[&'static str],
     key: &str,
     field: &Pair<'_>,
 ) -> Result<(), AllocError>
-    ensures { OnOk result (found.new.items ≡ found.old.items ++ empty_of key.now (field_of field.now)) }
+    ensures { OnOk result (found.new.items ≡ found.old.items ++ empty_of key.now (texts missing.now) (field_of field.now)) }
 {
-    if are_blank(&field.value.v) {
+    if is_empty_value(field) && !is_among(missing, field.key.v) {
         found.push(empty_finding(alloc, key, field)?)?;
     }
     Ok(())
 }
 
-// Appends a finding for each of these fields of the entry with this key whose value is empty.
+// Appends a finding for each of these fields of the entry with this key whose value is empty, except of the missing fields.
 fn add_empty_among(
     alloc: Global,
     found: &mut Vec<Finding>,
+    missing: &[&'static str],
     key: &str,
     fields: &[Pair<'_>],
 ) -> Result<(), AllocError>
-    ensures { OnOk result (found.new.items ≡ found.old.items ++ flat_map (empty_of key.now) (map field_of fields.now)) }
+    ensures { OnOk result (found.new.items ≡ found.old.items ++
+        flat_map (empty_of key.now (texts missing.now)) (map field_of fields.now)) }
 {
     'fields: for field in fields {
-        add_if_empty(alloc, found, key, field)?;
+        add_if_empty(alloc, found, missing, key, field)?;
     }
     Ok(())
 }
 
-/// Appends a finding for each field of an entry whose value is empty.
+/// Appends a finding for each field of an entry whose value is empty, except of those that are reported as missing.
 pub(crate) fn add_empty(
+    alloc: Global,
+    found: &mut Vec<Finding>,
+    missing: &[&'static str],
+    said: &Spanned<RawEntry<'_>>,
+) -> Result<(), AllocError>
+    ensures { OnOk result (found.new.items ≡ found.old.items ++ empty_findings (texts missing.now) (entry_reading_of said.now)) }
+{
+    add_empty_among(alloc, found, missing, said.v.key.v, &said.v.fields)
+}
+
+/// Appends a finding if the key of an entry is empty.
+pub(crate) fn add_empty_key(
     alloc: Global,
     found: &mut Vec<Finding>,
     said: &Spanned<RawEntry<'_>>,
 ) -> Result<(), AllocError>
-    ensures { OnOk result (found.new.items ≡ found.old.items ++ empty_findings (entry_reading_of said.now)) }
+    ensures { OnOk result (found.new.items ≡ found.old.items ++ key_findings (entry_reading_of said.now)) }
 {
-    add_empty_among(alloc, found, said.v.key.v, &said.v.fields)
+    let key = &said.v.key;
+    if !key.v.is_empty() {
+        return Ok(());
+    }
+    let message = String::from_str(alloc, "an entry without a key; Biber skips it")?;
+    found.push(Finding {
+        code: Code::EmptyKey,
+        span: key.span.start..key.span.end,
+        message: Text::from_string(message),
+    })?;
+    Ok(())
 }
 
 // The ways in which a DOI with an address or a scheme begins.
@@ -162,7 +199,7 @@ pub(crate) fn add_address(
     if !begins_with_any(&ADDRESS_STARTS, own_literal(said, "doi")) {
         return Ok(());
     }
-    let after = " begins with an address; BibLaTeX puts `https://doi.org/` before it";
+    let after = " doesn't begin with `10.`; BibLaTeX puts `https://doi.org/` before it";
     let message = named_message(alloc, said.v.key.v, "", "doi", after)?;
     found.push(Finding {
         code: Code::DoiAddress,

@@ -2,25 +2,27 @@
 
 ghost use Rattle.std.specs.Prelude.{◌≡◌, ◌<◌, ◌++◌, All, length, map, IfOk, OnOk};
 ghost use Rattle.std.specs.BTreeMap.{get_by_text};
+ghost use Rattle.bib_tables.specs.Requirements.{texts};
 ghost use Rattle.bib_syntax.specs.Views.{entry_reading_of};
 ghost use Rattle.bib_findings.specs.Adding.{Adds};
-ghost use Rattle.bib_findings.specs.Cuts.{is_cut};
 ghost use Rattle.bib_findings.specs.Entries.{AreOfEach};
-ghost use Rattle.bib_findings.specs.Findings.{AreBetween, AreFindings, AreFindingsIn, AreOfEntry, AreSortedByPlace, entries_said, single_findings};
+ghost use Rattle.bib_findings.specs.Findings.{AreBetween, AreFindings, AreFindingsIn, AreOfEntry, AreOfKept, AreSortedByPlace, entries_said, single_findings};
 ghost use Rattle.bib_findings.specs.Met.{AreFieldNames};
 
-use crate::book_numbers::add_numbers;
 use crate::cuts::{block_starts, whole_origins};
+use crate::demands::reported_missing;
 use crate::duplicates::add_duplicates;
 use crate::entries::add_report;
 use crate::errors::{add_blocks, add_errors};
-use crate::fields::{add_address, add_empty, add_repeated};
+use crate::fields::{add_address, add_empty, add_empty_key, add_repeated};
 use crate::finding::Finding;
 use crate::foreign::add_foreign_fields;
 use crate::key_cases::add_cases;
+use crate::lacking::may_lack;
 use crate::malformed_dates::add_dates;
 use crate::names::{FieldName, add_unknown_fields};
 use crate::references::add_references;
+use crate::standard_numbers::add_numbers;
 use crate::types::add_unknown_type;
 use bib_collections::names::Names;
 use bib_entry::entry::Entry;
@@ -31,74 +33,79 @@ use bib_text::spanned::Spanned;
 use std::alloc::{AllocError, Global};
 use std::collections::BTreeMap;
 
-// Appends the findings of single fields of an entry: repeated and empty ones, wrong numbers, DOIs with an address, and dates that aren't
-// one.
+// Appends the findings of an empty key and of single fields of an entry with these missing fields: repeated and empty ones, wrong numbers,
+// DOIs with an address, and dates that aren't one.
 fn add_single(
     alloc: Global,
     found: &mut Vec<Finding>,
-    is_cut: bool,
+    missing: &[&'static str],
     said: &Spanned<RawEntry<'_>>,
     entry: &Entry,
 ) -> Result<(), AllocError>
     ensures { OnOk result (found.new.items ≡ found.old.items ++
-        single_findings is_cut (entry_reading_of said.now) entry.now) }
+        single_findings (texts missing.now) (entry_reading_of said.now) entry.now) }
 {
+    add_empty_key(alloc, found, said)?;
     add_repeated(alloc, found, said)?;
-    add_empty(alloc, found, said)?;
+    add_empty(alloc, found, missing, said)?;
     add_numbers(alloc, found, said)?;
     add_address(alloc, found, said)?;
-    add_dates(alloc, found, is_cut, said, entry)
+    add_dates(alloc, found, said, entry)
 }
 
-// Appends the findings of an entry, with its raw form `said`. `met` caches the field names, and `is_cut` says whether the entry is cut.
+// Appends the findings of an entry, with its raw form `said` and these missing fields. `met` caches the field names.
 fn add_entry(
     alloc: Global,
     found: &mut Vec<Finding>,
     met: &mut BTreeMap<String, FieldName>,
-    is_cut: bool,
+    missing: &[&'static str],
     said: &Spanned<RawEntry<'_>>,
     entry: &Entry,
 ) -> Result<(), AllocError>
     requires { AreFieldNames (get_by_text met.old) }
     ensures met { OnOk result (AreFieldNames (get_by_text met.new)) }
-    ensures added { OnOk result (Adds (AreOfEntry is_cut (entry_reading_of said.now) entry.now)
+    ensures added { OnOk result (Adds (AreOfEntry (texts missing.now) (entry_reading_of said.now) entry.now)
         found.old.items found.new.items) }
 {
     add_unknown_type(alloc, found, said)?;
-    add_report(alloc, found, is_cut, said, entry)?;
+    add_report(alloc, found, missing, said, entry)?;
     add_unknown_fields(alloc, found, met, said)?;
-    add_single(alloc, found, is_cut, said, entry)
+    add_single(alloc, found, missing, said, entry)
 }
 
-// Appends the findings of entries. `origins` contains the index of each in `said`, and `skipped` the skipped blocks.
+// Appends the findings of entries. `origins` contains the index of each in `said`, `names` points to the entries, and `skipped` contains the
+// skipped blocks.
 fn add_entries(
     alloc: Global,
     found: &mut Vec<Finding>,
     skipped: &[SkippedBlock],
+    names: &Names,
     said: &[Spanned<RawEntry<'_>>],
     origins: &[usize],
     entries: &[Entry],
 ) -> Result<(), AllocError>
     requires same_length { length origins.now ≡ length entries.now }
     requires there { All (λ index. index < length said.now) origins.now }
-    ensures { OnOk result (Adds (AreOfEach (λ one. AreOfEntry (is_cut skipped.now one) one) (map entry_reading_of said.now) origins.now
-        entries.now) found.old.items found.new.items) }
+    ensures { OnOk result (Adds (AreOfEach (AreOfKept skipped.now names.now (map entry_reading_of said.now) origins.now)
+        (map entry_reading_of said.now) origins.now entries.now) found.old.items found.new.items) }
 {
     let starts = block_starts(alloc, skipped)?;
     let mut met = BTreeMap::new(alloc);
     'entries: for index in 0..entries.len() {
         let one = &said[origins[index]];
         let entry = &entries[index];
-        let is_cut = starts.contains(&one.span.start);
-        add_entry(alloc, found, &mut met, is_cut, one, entry)?;
+        let may_lack = may_lack(alloc, &starts, names, said, origins, one, entry)?;
+        let missing = reported_missing(alloc, may_lack, one, entry)?;
+        add_entry(alloc, found, &mut met, &missing, one, entry)?;
     }
     Ok(())
 }
 
 /// Returns the findings between entries, with only the fields that each entry has itself. They are keys that an entry
 /// refers to and no entry has, entries that are likely the same work as an earlier one, keys that differ only in case, and fields
-/// that other programs write for themselves. `origins` contains the index of each entry in `said`, the raw entries of the file, and `skipped` its skipped
-/// blocks. An entry that begins where a skipped block begins is no likely duplicate. Fails only if out of memory.
+/// that other programs write for themselves. `origins` contains the index of each entry in `said`, the raw entries of the
+/// file, and `skipped` its skipped blocks. An entry that begins where a skipped block begins is no likely duplicate. Fails
+/// only if out of memory.
 pub fn between(
     alloc: Global,
     skipped: &[SkippedBlock],
@@ -130,11 +137,12 @@ fn sorted_by_place(found: Vec<Finding>) -> Result<Vec<Finding>, AllocError>
 }
 
 /// Returns all findings of a recovered file, sorted by where they start. `skipped` contains its skipped blocks,
-/// `errors` the errors, `entries` the kept entries, and `between` the findings between them. `origins` contains the
-/// index of each kept entry in `said`, the raw entries of the file. Fails only if out of memory.
+/// `errors` the errors, `entries` the kept entries, and `between` the findings between them. `names` points to the kept
+/// entries, and `origins` contains the index of each in `said`, the raw entries of the file. Fails only if out of memory.
 pub fn findings_in(
     alloc: Global,
     skipped: &[SkippedBlock],
+    names: &Names,
     errors: &[ParseError],
     said: &[Spanned<RawEntry<'_>>],
     origins: &[usize],
@@ -143,14 +151,14 @@ pub fn findings_in(
 ) -> Result<Vec<Finding>, AllocError>
     requires same_length { length origins.now ≡ length entries.now }
     requires there { All (λ index. index < length said.now) origins.now }
-    ensures { IfOk result (λ found. AreFindingsIn skipped.now errors.now (entries_said said.now)
+    ensures { IfOk result (λ found. AreFindingsIn skipped.now names.now errors.now (entries_said said.now)
         origins.now entries.now between.items found.items) }
 {
     let mut between = between;
     let mut found = Vec::new(alloc);
     add_blocks(alloc, &mut found, said, skipped)?;
     add_errors(alloc, &mut found, errors)?;
-    add_entries(alloc, &mut found, skipped, said, origins, entries)?;
+    add_entries(alloc, &mut found, skipped, names, said, origins, entries)?;
     found.append(&mut between)?;
     sorted_by_place(found)
 }
@@ -174,5 +182,7 @@ pub fn findings(alloc: Global, text: &str) -> Result<Vec<Finding>, AllocError>
     let linked = between(alloc, &skipped, said, &origins, &names, &entries)?;
     let mut unresolved = resolve_readable(alloc, &spans, &names, &mut entries)?;
     errors.append(&mut unresolved)?;
-    findings_in(alloc, &skipped, &errors, said, &origins, &entries, linked)
+    findings_in(
+        alloc, &skipped, &names, &errors, said, &origins, &entries, linked,
+    )
 }

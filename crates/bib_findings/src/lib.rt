@@ -12,12 +12,12 @@
 //! `malformed_dates`, `references`, `duplicates`, `key_cases` and `foreign` make the findings; `duplicates` uses `identities`.
 #![tactic(auto)]
 
-mod book_numbers;
 pub mod codes;
 mod cuts;
 mod demands;
 mod duplicates;
 mod entries;
+mod entry_names;
 mod errors;
 mod fields;
 pub mod finding;
@@ -25,10 +25,12 @@ pub mod findings;
 mod foreign;
 pub mod identities;
 mod key_cases;
+mod lacking;
 mod malformed_dates;
 mod marks;
 mod names;
 mod nearest;
 mod places;
 mod references;
+mod standard_numbers;
 mod types;

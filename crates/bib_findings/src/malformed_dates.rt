@@ -1,17 +1,20 @@
 //! Findings of fields that should be a date and aren't one.
 
-ghost use Rattle.std.specs.Prelude.{◌≡◌, ◌++◌, ◌==◌, codes, is_none, nat_eq, IfOk, OnOk};
-ghost use Rattle.std.specs.List.{ends_with, list_any, slice_split};
-ghost use Rattle.bib_text.specs.Characters as char;
+ghost use Rattle.std.specs.Prelude.{◌≡◌, ◌++◌, ◌==◌, ◌||◌, bytes_eq, codes, is_none, IfOk, OnOk};
+ghost use Rattle.std.specs.List.{list_any};
 ghost use Rattle.bib_tables.specs.Requirements.{texts};
 ghost use Rattle.bib_dates.specs.Chunks.{date_read};
+ghost use Rattle.bib_dates.specs.Dates.{is_approximate, is_open, is_uncertain, without_mark};
 ghost use Rattle.bib_syntax.specs.Views.{entry_reading_of};
-ghost use Rattle.bib_findings.specs.MalformedDates.{date_findings, dates_among, has_division, has_no_date, is_edtf_character, is_no_date, may_be_edtf};
+ghost use Rattle.bib_findings.specs.MalformedDates as spec;
+ghost use Rattle.bib_findings.specs.MalformedDates.{date_findings, dates_among, has_no_date, is_no_date};
 
 use crate::codes::Code;
 use crate::entries::field_finding;
 use crate::finding::Finding;
 use crate::places::last_named;
+use crate::standard_numbers::are_digits;
+use bib_chunks::chunk::making::normal;
 use bib_chunks::chunk::{ChunksRef, format_verbatim};
 use bib_dates::date::Date;
 use bib_entry::entry::Entry;
@@ -28,53 +31,98 @@ static YEAR_DIVISIONS: [&str; 21] = [
     "-34", "-35", "-36", "-37", "-38", "-39", "-40", "-41",
 ];
 
-// Returns whether a byte is a character of forms that the library doesn't parse everywhere.
-fn is_edtf_character(b: u8) -> bool
-    ensures { result ≡ is_edtf_character b }
+// Returns a text without the hyphen at its start.
+fn unsigned(text: &[u8]) -> &[u8]
+    ensures { result.now ≡ spec.unsigned text.now }
 {
-    matches!(b, b'X' | b'Y' | b'?' | b'~' | b'%')
+    match text {
+        [b'-', rest @ ..] => rest,
+        _ => text,
+    }
 }
 
-// Returns whether a text ends with another.
-fn ends_with(text: &str, end: &str) -> bool
-    ensures { result ≡ ends_with nat_eq text.now end.now }
+// Returns whether a mark at the end of a date says that it is uncertain or approximate.
+fn is_mark(b: u8) -> bool
+    ensures { result ≡ (is_uncertain b || is_approximate b) }
 {
-    text.ends_with(end)
+    b == b'%' || b == b'?' || b == b'~'
 }
 
-// Returns whether a text ends with one of these.
-fn ends_with_any(side: &str, divisions: &[&'static str]) -> bool
-    ensures { result ≡ list_any (λ division. ends_with nat_eq side.now division) (texts divisions.now) }
+// Returns a text without the mark at its end.
+fn without_mark(text: &[u8]) -> &[u8]
+    ensures { result.now ≡ without_mark text.now }
 {
-    divisions.iter().any(|division| ends_with(side, division))
+    match text {
+        [rest @ .., last] if is_mark(*last) => rest,
+        _ => text,
+    }
 }
 
-// Returns whether a side of a range is a year with a division.
-fn has_division(side: &str) -> bool
-    ensures { result ≡ has_division side.now }
+// Returns whether a text is one of the numbers of divisions, with a hyphen before it.
+fn is_division_number(number: &[u8], divisions: &[&'static str]) -> bool
+    ensures { result ≡ list_any (λ division. bytes_eq division number.now) (texts divisions.now) }
 {
-    side.len() == 7 && ends_with_any(side, &YEAR_DIVISIONS)
+    divisions
+        .iter()
+        .any(|division| division.as_bytes() == number)
 }
 
-// Returns whether one of the bytes of a text is a character of forms that the library doesn't parse everywhere.
-fn has_edtf_character(bytes: &[u8]) -> bool
-    ensures { result ≡ list_any is_edtf_character bytes.now }
+// Returns whether a text without a sign is a year with a division.
+fn is_division(year: &[u8]) -> bool
+    ensures { result ≡ spec.is_division year.now }
 {
-    bytes.iter().any(|b| is_edtf_character(*b))
+    match year {
+        [a, b, c, d, number @ ..] => {
+            are_digits(&[*a, *b, *c, *d]) && is_division_number(number, &YEAR_DIVISIONS)
+        }
+        _ => false,
+    }
 }
 
-// Returns whether a side of a range is a year with a division.
-fn has_side_with_division(text: &str) -> bool
-    ensures { result ≡ list_any has_division (slice_split (λ b. b == char.slash) text.now) }
+// Returns whether a text is a long year: `Y`, maybe a minus sign, and at least five digits.
+fn is_long_year(text: &[u8]) -> bool
+    ensures { result ≡ spec.is_long_year text.now }
 {
-    text.split('/').any(has_division)
+    match text {
+        [b'Y', year @ ..] => unsigned(year).len() > 4 && are_digits(unsigned(year)),
+        _ => false,
+    }
 }
 
-// Returns whether a text may be a date in a form that Biber reads and the library doesn't.
-fn may_be_edtf(text: &str) -> bool
-    ensures { result ≡ may_be_edtf text.now }
+// Returns whether a text is the zone of a time: nothing, `Z`, or an offset.
+fn is_zone(zone: &[u8]) -> bool
+    ensures { result ≡ spec.is_zone zone.now }
 {
-    has_edtf_character(text.as_bytes()) || has_side_with_division(text)
+    match zone {
+        [] | [b'Z'] => true,
+        [b'+' | b'-', a, b, b':', c, d] => are_digits(&[*a, *b, *c, *d]),
+        _ => false,
+    }
+}
+
+// Returns whether a text is three decimals of a second and a zone.
+fn is_fraction(text: &[u8]) -> bool
+    ensures { result ≡ spec.is_fraction text.now }
+{
+    match text {
+        [a, b, c, zone @ ..] => are_digits(&[*a, *b, *c]) && is_zone(zone),
+        _ => false,
+    }
+}
+
+// Returns whether a side of a range is open.
+fn is_open(side: &str) -> bool
+    ensures { result ≡ is_open side.now }
+{
+    side.trim().is_empty() || side == ".."
+}
+
+// Returns whether a text is a year with a division or a long year, maybe with a mark at its end.
+fn is_special_year(side: &str) -> bool
+    ensures { result ≡ spec.is_special_year side.now }
+{
+    let year = without_mark(side.as_bytes());
+    is_division(unsigned(year)) || is_long_year(year)
 }
 
 // Returns whether a value can't be parsed as a date.
@@ -90,14 +138,78 @@ fn is_unread(alloc: Global, chunks: ChunksRef<'_>) -> Result<bool, AllocError>
     }
 }
 
-// Returns whether a value is neither a date nor blank, and may not be a date in a form that Biber reads and the library doesn't.
+// Returns whether the library reads a text as a date.
+fn reads_as_date(alloc: Global, text: &str) -> Result<bool, AllocError>
+    ensures { IfOk result (λ date. date ≡ spec.reads_as_date text.now) }
+{
+    let chunks = normal(alloc, text)?;
+    Ok(!is_unread(alloc, chunks.as_slice())?)
+}
+
+// Returns whether a text is a date and a time to the second, with three decimals and maybe a zone.
+fn has_decimals(alloc: Global, side: &str) -> Result<bool, AllocError>
+    ensures { IfOk result (λ decimals. decimals ≡ spec.has_decimals side.now) }
+{
+    let Some((clock, after)) = side.split_once('.') else {
+        return Ok(false);
+    };
+    if is_fraction(without_mark(after.as_bytes())) && unsigned(clock.as_bytes()).len() == 19 {
+        return reads_as_date(alloc, clock);
+    }
+    Ok(false)
+}
+
+// Returns whether a text may be a side of a range, or a whole date.
+fn is_side(alloc: Global, side: &str) -> Result<bool, AllocError>
+    ensures { IfOk result (λ is. is ≡ spec.is_side side.now) }
+{
+    if is_open(side) || is_special_year(side) {
+        return Ok(true);
+    }
+    if reads_as_date(alloc, side)? {
+        return Ok(true);
+    }
+    has_decimals(alloc, side)
+}
+
+// Returns whether two texts are the sides of a range.
+fn are_sides(alloc: Global, from: &str, to: &str) -> Result<bool, AllocError>
+    ensures { IfOk result (λ are. are ≡ spec.are_sides from.now to.now) }
+{
+    if to.as_bytes().contains(&b'/') || !is_side(alloc, from)? {
+        return Ok(false);
+    }
+    is_side(alloc, to)
+}
+
+// Returns whether a text is a date in the form of the Extended Date/Time Format that Biber reads.
+fn is_edtf(alloc: Global, text: &str) -> Result<bool, AllocError>
+    ensures { IfOk result (λ edtf. edtf ≡ spec.is_edtf text.now) }
+{
+    match text.split_once('/') {
+        Some((from, to)) => {
+            if text == "/" {
+                return Ok(false);
+            }
+            are_sides(alloc, from, to)
+        }
+        None => is_side(alloc, text),
+    }
+}
+
+// Returns whether a value is neither a date that the library reads, nor blank, nor a date that Biber reads.
 fn is_no_date(alloc: Global, chunks: ChunksRef<'_>) -> Result<bool, AllocError>
     ensures { IfOk result (λ no_date. no_date ≡ is_no_date chunks.now) }
 {
-    let is_unread = is_unread(alloc, chunks)?;
+    if !is_unread(alloc, chunks)? {
+        return Ok(false);
+    }
     let text = format_verbatim(alloc, chunks)?;
     let text = text.as_str();
-    Ok(is_unread && !(text.trim().is_empty() || may_be_edtf(text)))
+    if text.trim().is_empty() {
+        return Ok(false);
+    }
+    Ok(!is_edtf(alloc, text)?)
 }
 
 // Returns whether a field of an entry isn't a date, and is written in the entry itself.
@@ -137,19 +249,14 @@ fn add_dates_among(
     Ok(())
 }
 
-/// Appends a finding for each field of an entry that should be a date and isn't one, unless the entry is cut.
+/// Appends a finding for each field of an entry that should be a date and isn't one.
 pub(crate) fn add_dates(
     alloc: Global,
     found: &mut Vec<Finding>,
-    is_cut: bool,
     said: &Spanned<RawEntry<'_>>,
     entry: &Entry,
 ) -> Result<(), AllocError>
-    ensures { OnOk result (found.new.items ≡ found.old.items ++
-        date_findings is_cut (entry_reading_of said.now) entry.now) }
+    ensures { OnOk result (found.new.items ≡ found.old.items ++ date_findings (entry_reading_of said.now) entry.now) }
 {
-    if is_cut {
-        return Ok(());
-    }
     add_dates_among(alloc, found, said, entry, &DATE_FIELDS)
 }

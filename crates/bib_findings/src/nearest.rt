@@ -7,6 +7,7 @@ ghost use Rattle.bib_findings.specs.Near.{plausible_distance};
 ghost use Rattle.bib_findings.specs.Nearest as spec;
 ghost use Rattle.bib_findings.specs.Nearest.{IsNearest};
 
+use crate::entry_names::entry_name;
 use std::alloc::{AllocError, Global};
 use strsim::osa_distance;
 
@@ -103,8 +104,9 @@ pub(crate) fn unknown_message(
     ensures { IfOk result (λ text. string_bytes text ≡
         spec.unknown_message key.now wrong.now name.now (option_copied meant.entry)) }
 {
+    let entry = entry_name(key);
     match meant {
-        Some(known) => format!(in alloc; "{key}: {wrong} `{name}`; did you mean `{known}`?"),
-        None => format!(in alloc; "{key}: {wrong} `{name}`"),
+        Some(known) => format!(in alloc; "{entry}: {wrong} `{name}`; did you mean `{known}`?"),
+        None => format!(in alloc; "{entry}: {wrong} `{name}`"),
     }
 }

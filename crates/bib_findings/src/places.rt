@@ -2,7 +2,7 @@
 
 ghost use Rattle.std.specs.Prelude.{◌≡◌, map, option_map};
 ghost use Rattle.bib_syntax.specs.Views.{entry_reading_of, field_of};
-ghost use Rattle.bib_findings.specs.Entries.{field_place, last_named, range_or};
+ghost use Rattle.bib_findings.specs.Entries.{field_place, has_own_field, last_named, range_or};
 ghost use Rattle.bib_findings.specs.Reported.{malformed_place, year_name};
 
 use bib_syntax::raw::{Pair, RawEntry};
@@ -16,6 +16,13 @@ pub(crate) fn last_named<'f, 's>(fields: &'f [Pair<'s>], name: &str) -> Option<&
         .iter()
         .rev()
         .find(|field| field.key.v.eq_ignore_ascii_case(name))
+}
+
+// Returns whether an entry has a field of this name in the file.
+pub(crate) fn has_own_field(said: &Spanned<RawEntry<'_>>, name: &str) -> bool
+    ensures { result ≡ has_own_field (entry_reading_of said.now) name.now }
+{
+    last_named(said.v.fields.as_slice(), name).is_some()
 }
 
 // Returns the place of the name of the last field of this name, or `other` if the entry has none.

@@ -11,6 +11,7 @@ ghost use Rattle.bib_findings.specs.Entries.{AreOfEach};
 ghost use Rattle.bib_findings.specs.References.{AreReferences, entry_references, field_references, is_unknown, keys_in, keys_of, reference_finding, reference_message};
 
 use crate::codes::Code;
+use crate::entry_names::entry_name;
 use crate::finding::Finding;
 use crate::places::field_place;
 use bib_chunks::chunk::{ChunksRef, format_styled};
@@ -40,8 +41,8 @@ fn keys_of(alloc: Global, field: &str, chunks: ChunksRef<'_>) -> Result<Vec<Text
     Ok(keys)
 }
 
-// Returns the keys in this field of an entry, or none if the entry lacks the field.
-fn keys_in(alloc: Global, entry: &Entry, field: &str) -> Result<Vec<Text>, AllocError>
+/// Returns the keys in this field of an entry, or none if the entry lacks the field.
+pub(crate) fn keys_in(alloc: Global, entry: &Entry, field: &str) -> Result<Vec<Text>, AllocError>
     ensures { IfOk result (λ keys. keys.items ≡ keys_in entry.now field.now) }
 {
     match entry.get(field) {
@@ -66,7 +67,8 @@ fn reference_message(
 ) -> Result<String, AllocError>
     ensures { IfOk result (λ text. string_bytes text ≡ reference_message key.now field.now named.now) }
 {
-    format!(in alloc; "{key}: no entry \"{named}\" ({field})")
+    let entry = entry_name(key);
+    format!(in alloc; "{entry}: no entry \"{named}\" ({field})")
 }
 
 // Returns the finding of a key that a field refers to and no entry has.

@@ -25,10 +25,11 @@ use Rattle.bib_chunks.proofs.CutFacts.{split_none}
 use Rattle.bib_chunks.proofs.FormattedFacts.{goes_on}
 use Rattle.bib_chunks.proofs.SeparatedFacts.{no_place}
 use Rattle.bib_chunks.proofs.ValueFacts.{flowing_whole, is_simple, simple_ascii}
-use Rattle.bib_values.specs.Ranges.{EndsRange, IsNumber, IsRange, RangeKept, RangesKept, all_of, range_of, ranges_read, with_first}
+use Rattle.bib_values.specs.Ranges.{EndsRange, IsNumber, IsRange, RangeKept, RangesKept, is_dash, all_of, range_of, ranges_read, with_first}
 use Rattle.bib_values.specs.Ranges.EndsRange.{lone, dashed}
 use Rattle.bib_values.proofs.RangeGrammar.{range_read_of}
-use Rattle.bib_csl.specs.Numbers.{pages, pages_after, pages_of, pages_text}
+use Rattle.bib_csl.specs.Numbers.{follows_dash_after, page_sign, pages, pages_from, pages_text}
+use Rattle.bib_from_csl.specs.PlainPages.{pages_after, pages_of}
 use Rattle.bib_csl.specs.Texts.{joined}
 use Rattle.bib_values.proofs.RangeLaws.{decimal_digits}
 
@@ -52,6 +53,9 @@ of_page_scalar c is = grind (arith, nat_tests)
 
 digit_of_page : (c : ℕ) → is_ascii_digit c ≡ true → is_of_page c ≡ true
 digit_of_page c is = grind (arith, nat_tests)
+
+digit_no_dash : (c : ℕ) → is_ascii_digit c ≡ true → is_dash c ≡ false
+digit_no_dash c is = grind (arith, nat_tests)
 
 digit_simple : (c : ℕ) → is_ascii_digit c ≡ true → is_simple c ≡ true
 digit_simple c is = grind (arith, nat_tests)
@@ -365,8 +369,115 @@ ranges_are r rs first rest =
     ∙ ap (λ ps. all_of (map range_of ps)) (all_parts (encode_utf8_all cs) no_place r rs first rest)
     ∙ each_read (r ∷ rs) (first, rest)
 
+-- ---- what is shown of them
+
+sign_of_digit : (b : Bool) (c : ℕ) → is_ascii_digit c ≡ true → page_sign b c ≡ encode_utf8 c
+unfolding page_sign
+sign_of_digit b c is =
+    let whole = digit_of_page c is in
+    rw (of_page_white c whole) (rw (digit_no_dash c is) (rw (of_page_comma c whole) refl))
+
+after_digit : (b : Bool) (c : ℕ) → is_ascii_digit c ≡ true → follows_dash_after b c ≡ false
+unfolding follows_dash_after
+after_digit b c is = rw (of_page_white c (digit_of_page c is)) (digit_no_dash c is)
+
+digits_shown : (b : Bool) (d : ℕ) (ds rest : List ℕ) → list_all is_ascii_digit (d ∷ ds) ≡ true
+    → pages_from b ((d ∷ ds) ++ rest) ≡ encode_utf8_all (d ∷ ds) ++ pages_from false rest
+digits_shown b d [] rest all =
+    let is = (and_parts (is_ascii_digit d) true all).0 in
+    rw (after_digit b d is) (rw (sign_of_digit b d is) (ap (λ s. s ++ pages_from false rest) (sym (append-nil (encode_utf8 d)))))
+digits_shown b d (e ∷ ds) rest all =
+    let parts = and_parts (is_ascii_digit d) (list_all is_ascii_digit (e ∷ ds)) all in
+    rw (after_digit b d parts.0)
+    (rw (sign_of_digit b d parts.0)
+    (ap (λ s. encode_utf8 d ++ s) (digits_shown false e ds rest parts.1)
+    ∙ sym (append_assoc (encode_utf8 d) (encode_utf8_all (e ∷ ds)) (pages_from false rest))))
+
+decimal_shown : (b : Bool) (digits rest : List ℕ) → 0 < length digits → list_all is_ascii_digit digits ≡ true
+    → pages_from b (digits ++ rest) ≡ encode_utf8_all digits ++ pages_from false rest
+decimal_shown b [] rest some all = absurd (omega (arith, some))
+decimal_shown b (d ∷ ds) rest some all = digits_shown b d ds rest all
+
+dash_shown : (rest : List ℕ) → pages_from false (8211 ∷ rest) ≡ encode_utf8 8211 ++ pages_from true rest
+unfolding page_sign follows_dash_after
+dash_shown rest = refl
+
+comma_shown : (rest : List ℕ) → pages_from false (44 ∷ 32 ∷ rest) ≡ codes ", " ++ pages_from false rest
+unfolding page_sign follows_dash_after
+comma_shown rest = refl
+
+comma_bytes : (rest : List ℕ) → codes ", " ++ encode_utf8_all rest ≡ encode_utf8_all (44 ∷ 32 ∷ rest)
+unfolding lib.Utf8.encode
+comma_bytes rest = refl
+
+page_shown : (b : Bool) (r : Range ℕ) (rest : List ℕ) → RangeKept r
+    → pages_from false (page_chars_if b r ++ rest) ≡ encode_utf8_all (page_chars_if b r) ++ pages_from false rest
+page_shown true r rest kept =
+    decimal_shown false (decimal r.start) rest (decimal_some r.start kept.0) (decimal_digits r.start kept.0)
+page_shown false r rest kept =
+    let start : List ℕ = decimal r.start in
+    let end : List ℕ = decimal r.end in
+    ap (pages_from false) (append_assoc start (8211 ∷ end) rest)
+    ∙ decimal_shown false start (8211 ∷ (end ++ rest)) (decimal_some r.start kept.0) (decimal_digits r.start kept.0)
+    ∙ ap (λ s. encode_utf8_all start ++ s) (dash_shown (end ++ rest))
+    ∙ ap (λ s. encode_utf8_all start ++ (encode_utf8 8211 ++ s))
+    (decimal_shown true end rest (decimal_some r.end kept.1) (decimal_digits r.end kept.1))
+    ∙ ap (λ s. encode_utf8_all start ++ s) (sym (append_assoc (encode_utf8 8211) (encode_utf8_all end) (pages_from false rest)))
+    ∙ sym (append_assoc (encode_utf8_all start) (encode_utf8_all (8211 ∷ end)) (pages_from false rest))
+    ∙ ap (λ s. s ++ pages_from false rest) (sym (encodes-append start (8211 ∷ end)))
+
+more_shown : (rs : List (Range ℕ)) → AllByRecursion RangeKept rs → pages_from false (more_chars rs) ≡ encode_utf8_all (more_chars rs)
+more_shown [] kept = refl
+more_shown (r ∷ rs) kept =
+    comma_shown (page_chars r ++ more_chars rs)
+    ∙ ap (λ s. codes ", " ++ s) (page_shown (r.start == r.end) r (more_chars rs) kept.0)
+    ∙ ap (λ s. codes ", " ++ (encode_utf8_all (page_chars r) ++ s)) (more_shown rs kept.1)
+    ∙ ap (λ s. codes ", " ++ s) (sym (encodes-append (page_chars r) (more_chars rs)))
+    ∙ comma_bytes (page_chars r ++ more_chars rs)
+
+all_shown : (r : Range ℕ) (rs : List (Range ℕ)) → RangeKept r → AllByRecursion RangeKept rs
+    → pages_from false (page_chars r ++ more_chars rs) ≡ encode_utf8_all (page_chars r ++ more_chars rs)
+all_shown r rs first rest =
+    page_shown (r.start == r.end) r (more_chars rs) first
+    ∙ ap (λ s. encode_utf8_all (page_chars r) ++ s) (more_shown rs rest)
+    ∙ sym (encodes-append (page_chars r) (more_chars rs))
+
+-- ---- the text of the field
+
+page_goes : (cs : List ℕ) → list_all is_of_page cs ≡ true → list_all goes_on cs ≡ true
+page_goes cs all = weaker is_of_page goes_on of_page_goes cs all
+
+more_goes : (rs : List (Range ℕ)) → AllByRecursion RangeKept rs → list_all goes_on (more_chars rs) ≡ true
+more_goes [] kept = refl
+more_goes (r ∷ rs) kept =
+    list_all-append goes_on (page_chars r) (more_chars rs)
+    ∙ and_from _ _ (page_goes (page_chars r) (page_of r kept.0)) (more_goes rs kept.1)
+
+text_stays : (cs : List ℕ) → scalars cs ≡ true → list_all goes_on cs ≡ true
+    → text (alone (Normal (encode_utf8_all cs))) ≡ encode_utf8_all cs
+text_stays cs valid goes =
+    ap (λ t. encode_utf8_all (flowing false t ++ [])) (chars-encodes cs valid)
+    ∙ ap (λ t. encode_utf8_all (t ++ [])) (flowing_whole false cs goes) ∙ ap encode_utf8_all (append-nil cs)
+
+shown_again : (r : Range ℕ) (rs : List (Range ℕ)) → RangeKept r → AllByRecursion RangeKept rs
+    → pages_from false (chars (text (alone (Normal (pages_after [] (r ∷ rs)))))) ≡ pages_after [] (r ∷ rs)
+shown_again r rs first rest =
+    let cs : List ℕ = page_chars r ++ more_chars rs in
+    let is = all_pages r rs first rest in
+    let valid : scalars cs ≡ true =
+    scalars_both (page_chars r) (more_chars rs) (all_scalar (page_chars r) (page_of r first)) (more_scalar rs rest) in
+    let goes : list_all goes_on cs ≡ true =
+    list_all-append goes_on (page_chars r) (more_chars rs)
+    ∙ and_from _ _ (page_goes (page_chars r) (page_of r first)) (more_goes rs rest) in
+    ap (λ t. pages_from false (chars (text (alone (Normal t))))) is
+    ∙ ap (λ t. pages_from false (chars t)) (text_stays cs valid goes)
+    ∙ ap (pages_from false) (chars-encodes cs valid)
+    ∙ all_shown r rs first rest ∙ sym is
+
 pub pages_read : (ranges : List (Range ℕ)) → RangesKept ranges
     → pages (Some (alone (Normal (pages_after [] ranges)))) ≡ pages_after [] ranges
 unfolding pages
 pages_read [] kept = absurd (omega (arith, kept.0))
-pages_read (r ∷ rs) kept = ap (λ o. pages_text o (text (alone (Normal (pages_after [] (r ∷ rs)))))) (ranges_are r rs kept.1.0 kept.1.1)
+pages_read (r ∷ rs) kept =
+    ap (λ o. pages_text o (text (alone (Normal (pages_after [] (r ∷ rs)))))) (ranges_are r rs kept.1.0 kept.1.1)
+    ∙ shown_again r rs kept.1.0 kept.1.1

@@ -26,8 +26,8 @@ use Rattle.bib_people.proofs.SurviveFacts.{people_survive}
 use Rattle.bib_csl.specs.declared.item.Name.{Name}
 use Rattle.bib_csl.specs.declared.item.Name.TheVariants.{Literal, Parts}
 use Rattle.bib_csl.specs.declared.item.NameParts.{NameParts}
-use Rattle.bib_csl.specs.Markup.{untie, untied}
-use Rattle.bib_csl.specs.People.{is_braced, is_literal, says_nothing, name_said, names_listed, parts_with, unless_empty, untied_name}
+use Rattle.bib_csl.specs.Markup.{loosen, loosened}
+use Rattle.bib_csl.specs.People.{is_braced, is_literal, says_nothing, name_said, names_listed, parts_with, unless_empty, loosened_name}
 use Rattle.bib_from_csl.specs.PlainPeople.{ArePlainNames, IsPlainLiteral, IsPlainName, IsPlainParts}
 use Rattle.bib_from_csl.specs.WrittenPeople.{name_chunks, names_chunks, names_from, particle}
 use Rattle.bib_from_csl.proofs.PlainFacts.{name_free, kept_parts, text_of_parts, parts_written, parts_part, named_person, kept_person, person_is, line_comma, line_shown}
@@ -70,12 +70,12 @@ shown_verbatim t true following utf8 =
     ∙ append-nil (chars t)) ∙ encodes-chars t utf8
 
 -- a text without a tilde has no ties
-untied_same : (cs : List ℕ) → list_any (λ c. c == 126) cs ≡ false → untied cs ≡ encode_utf8_all cs
-unfolding untie
-untied_same [] none = refl
-untied_same (c ∷ cs) none =
+loosened_same : (cs : List ℕ) → list_any (λ c. c == 126) cs ≡ false → loosened cs ≡ encode_utf8_all cs
+unfolding loosen
+loosened_same [] none = refl
+loosened_same (c ∷ cs) none =
     let both = or_parts (c == 126) (list_any (λ d. d == 126) cs) none in
-    ap₂ (λ a b. a ++ b) (ap (λ b. cond b (encode_utf8 160) (encode_utf8 c)) both.0) (untied_same cs both.1)
+    ap₂ (λ a b. a ++ b) (ap (λ b. cond b (codes " ") (encode_utf8 c)) both.0) (loosened_same cs both.1)
 
 no_tilde : (word : List ℕ) → is_kept_word is_name_byte word ≡ true → list_all (λ b. not (b == 126)) word ≡ true
 no_tilde word kept =
@@ -83,30 +83,30 @@ no_tilde word kept =
     (λ b name. (and_parts (not (b == 32)) (not (b == 126)) (name_free b name)).1) word
     (kept_parts is_name_byte word kept).bytes
 
-untied_words : (words : List (List ℕ)) → AllWords is_name_byte words → untied_name (spaced words) ≡ spaced words
-untied_words words all =
+loosened_words : (words : List (List ℕ)) → AllWords is_name_byte words → loosened_name (spaced words) ≡ spaced words
+loosened_words words all =
     let is = is_text words all in
-    ap untied is.same
-    ∙ untied_same (spaced words)
+    ap loosened is.same
+    ∙ loosened_same (spaced words)
     (none_of (λ c. c == 126) (spaced words)
     (spaced_all (λ b. not (b == 126)) refl words
     (all_follow (is_kept_word is_name_byte) (λ w. list_all (λ b. not (b == 126)) w) no_tilde words all)))
     ∙ is.spelt
 
-same_family : (uses : Bool) (p : NameParts) (k : IsPlainParts uses p) → untied_name p.family ≡ p.family
+same_family : (uses : Bool) (p : NameParts) (k : IsPlainParts uses p) → loosened_name p.family ≡ p.family
 same_family uses p k =
-    ap untied_name k.family.spell ∙ untied_words k.family.words (all_any is_capital_letter k.family.words k.family.kept)
+    ap loosened_name k.family.spell ∙ loosened_words k.family.words (all_any is_capital_letter k.family.words k.family.kept)
     ∙ sym k.family.spell
 
-same_given : (uses : Bool) (p : NameParts) (k : IsPlainParts uses p) → untied_name p.given ≡ p.given
-same_given uses p k = ap untied_name k.given_name.spell ∙ untied_words k.given_name.words k.given_name.kept ∙ sym k.given_name.spell
+same_given : (uses : Bool) (p : NameParts) (k : IsPlainParts uses p) → loosened_name p.given ≡ p.given
+same_given uses p k = ap loosened_name k.given_name.spell ∙ loosened_words k.given_name.words k.given_name.kept ∙ sym k.given_name.spell
 
-same_suffix : (uses : Bool) (p : NameParts) (k : IsPlainParts uses p) → untied_name p.suffix ≡ p.suffix
-same_suffix uses p k = ap untied_name k.suffix.spell ∙ untied_words k.suffix.words k.suffix.kept ∙ sym k.suffix.spell
+same_suffix : (uses : Bool) (p : NameParts) (k : IsPlainParts uses p) → loosened_name p.suffix ≡ p.suffix
+same_suffix uses p k = ap loosened_name k.suffix.spell ∙ loosened_words k.suffix.words k.suffix.kept ∙ sym k.suffix.spell
 
-same_prefix : (uses : Bool) (p : NameParts) (k : IsPlainParts uses p) → untied_name (particle uses p) ≡ particle uses p
+same_prefix : (uses : Bool) (p : NameParts) (k : IsPlainParts uses p) → loosened_name (particle uses p) ≡ particle uses p
 same_prefix uses p k =
-    ap untied_name k.prefix.spell ∙ untied_words k.prefix.words (all_any is_small_letter k.prefix.words k.prefix.kept)
+    ap loosened_name k.prefix.spell ∙ loosened_words k.prefix.words (all_any is_small_letter k.prefix.words k.prefix.kept)
     ∙ sym k.prefix.spell
 
 parts_of_person : (uses : Bool) (p : NameParts) → IsPlainParts uses p → parts_with uses (named_person uses p) ≡ p
@@ -116,19 +116,19 @@ parts_of_person true p k =
     (λ x.
     record {
       family = x;
-      given = untied_name p.given;
-      suffix = untied_name p.suffix;
+      given = loosened_name p.given;
+      suffix = loosened_name p.suffix;
       dropping_particle = [];
-      non_dropping_particle = untied_name p.non_dropping_particle;
+      non_dropping_particle = loosened_name p.non_dropping_particle;
     }) (same_family true p k)
     ∙ ap
     (λ x.
     record {
       family = p.family;
       given = x;
-      suffix = untied_name p.suffix;
+      suffix = loosened_name p.suffix;
       dropping_particle = [];
-      non_dropping_particle = untied_name p.non_dropping_particle;
+      non_dropping_particle = loosened_name p.non_dropping_particle;
     }) (same_given true p k)
     ∙ ap
     (λ x.
@@ -137,7 +137,7 @@ parts_of_person true p k =
       given = p.given;
       suffix = x;
       dropping_particle = [];
-      non_dropping_particle = untied_name p.non_dropping_particle;
+      non_dropping_particle = loosened_name p.non_dropping_particle;
     }) (same_suffix true p k)
     ∙ ap
     (λ x.
@@ -162,9 +162,9 @@ parts_of_person false p k =
     (λ x.
     record {
       family = x;
-      given = untied_name p.given;
-      suffix = untied_name p.suffix;
-      dropping_particle = untied_name p.dropping_particle;
+      given = loosened_name p.given;
+      suffix = loosened_name p.suffix;
+      dropping_particle = loosened_name p.dropping_particle;
       non_dropping_particle = [];
     }) (same_family false p k)
     ∙ ap
@@ -172,8 +172,8 @@ parts_of_person false p k =
     record {
       family = p.family;
       given = x;
-      suffix = untied_name p.suffix;
-      dropping_particle = untied_name p.dropping_particle;
+      suffix = loosened_name p.suffix;
+      dropping_particle = loosened_name p.dropping_particle;
       non_dropping_particle = [];
     }) (same_given false p k)
     ∙ ap
@@ -182,7 +182,7 @@ parts_of_person false p k =
       family = p.family;
       given = p.given;
       suffix = x;
-      dropping_particle = untied_name p.dropping_particle;
+      dropping_particle = loosened_name p.dropping_particle;
       non_dropping_particle = [];
     }) (same_suffix false p k)
     ∙ ap
@@ -233,7 +233,7 @@ parts_said uses p k before following =
     let chunks = padded before following (Normal (text_of_parts uses p k)) in
     ap
     (λ b.
-    cond b (Literal (untied_name (text chunks)))
+    cond b (Literal (loosened_name (text chunks)))
     (Parts (parts_with (unwrap_or (person_of chunks).use_prefix uses) (person_of chunks))))
     (no_literal uses p k before following)
     ∙ ap (λ q. Parts (parts_with (unwrap_or q.use_prefix uses) q))
@@ -270,11 +270,11 @@ literal_said uses t k before following =
     let chunks = padded before following (Verbatim t) in
     ap
     (λ b.
-    cond b (Literal (untied_name (text chunks)))
+    cond b (Literal (loosened_name (text chunks)))
     (Parts (parts_with (unwrap_or (person_of chunks).use_prefix uses) (person_of chunks))))
     (braced_whole t before following)
-    ∙ ap (λ x. Literal (untied_name x)) (shown_verbatim t before following k.utf8)
-    ∙ ap Literal (untied_same (chars t) k.untied ∙ encodes-chars t k.utf8)
+    ∙ ap (λ x. Literal (loosened_name x)) (shown_verbatim t before following k.utf8)
+    ∙ ap Literal (loosened_same (chars t) k.untied ∙ encodes-chars t k.utf8)
 
 literal_something : (t : List ℕ) → IsPlainLiteral t → unless_empty (Literal t) ≡ Literal t ∷ []
 unfolding unless_empty says_nothing

@@ -1,8 +1,9 @@
 -- Meaning: words of public contracts.
 -- The types of the entries of items.
-use Rattle.std.specs.Prelude.{ℕ, Bool, true, false, if◌then◌else◌, List, [], ◌∷◌, codes, bytes_eq, Option, Some, None, unwrap_or}
+use Rattle.std.specs.Prelude.{ℕ, Bool, true, false, ◌==◌, if◌then◌else◌, List, [], ◌∷◌, length, codes, bytes_eq, Option, Some, None, unwrap_or}
 use Rattle.std.specs.List.{list_any}
 use Rattle.bib_text.specs.Enums.{words}
+use Rattle.bib_tables.specs.EntryType.{entry_type_name}
 use Rattle.bib_tables.specs.declared.mechanics.EntryType.{EntryType}
 use Rattle.bib_tables.specs.declared.mechanics.EntryType.TheVariants as entry_type
 
@@ -10,7 +11,7 @@ use Rattle.bib_tables.specs.declared.mechanics.EntryType.TheVariants as entry_ty
 abbrev pub is_among_words : List ℕ → List ℕ → Bool
 is_among_words list name = list_any (bytes_eq name) (words list)
 
--- the type of the entry of an item that is part of another work, or one issue of a periodical
+-- the type whose fields the entry of an item has, if the item is part of another work, or one issue of a periodical
 abbrev pub part_type : List ℕ → Option EntryType
 part_type kind =
     if is_among_words (codes "article article-journal article-magazine article-newspaper review review-book") kind
@@ -21,7 +22,7 @@ part_type kind =
     else if is_among_words (codes "periodical") kind then Some entry_type.Periodical
     else None
 
--- the type of the entry of any other item
+-- the type whose fields the entry of any other item has
 abbrev pub whole_type : List ℕ → EntryType
 whole_type kind =
     if is_among_words (codes "book classic") kind then entry_type.Book
@@ -36,9 +37,29 @@ whole_type kind =
     else if is_among_words (codes "post post-weblog webpage") kind then entry_type.Online
     else entry_type.Misc
 
--- the type of the entry of an item with this type
+-- the type whose fields the entry of an item with this type has
 abbrev pub type_for_item : List ℕ → EntryType
 type_for_item kind = unwrap_or (part_type kind) (whole_type kind)
+
+-- the name of the entry type for an item of a type that only BibLaTeX's data model has, or nothing
+unfoldable pub own_type_name : List ℕ → List ℕ
+own_type_name kind =
+    if bytes_eq kind (codes "graphic") then codes "artwork"
+    else if bytes_eq kind (codes "song") then codes "music"
+    else if bytes_eq kind (codes "motion_picture") then codes "movie"
+    else if bytes_eq kind (codes "legal_case") then codes "jurisdiction"
+    else if bytes_eq kind (codes "treaty") then codes "legal"
+    else if bytes_eq kind (codes "legislation") then codes "legislation"
+    else if bytes_eq kind (codes "personal_communication") then codes "letter"
+    else if bytes_eq kind (codes "performance") then codes "performance"
+    else if bytes_eq kind (codes "review") then codes "review"
+    else if bytes_eq kind (codes "review-book") then codes "review"
+    else if bytes_eq kind (codes "standard") then codes "standard"
+    else []
+
+-- the name of the entry type for an item with this type, as it is written
+unfoldable pub written_type_name : List ℕ → List ℕ
+written_type_name kind = if length (own_type_name kind) == 0 then entry_type_name (type_for_item kind) else own_type_name kind
 
 -- the value of the field `entrysubtype` for an item with this type, or nothing
 abbrev pub subtype_of : List ℕ → List ℕ

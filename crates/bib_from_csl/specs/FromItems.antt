@@ -5,13 +5,12 @@ use Rattle.std.specs.List.{flat_map, list_any}
 use Rattle.std.specs.Str.{chars}
 use Rattle.bib_text.specs.Characters as char
 use Rattle.bib_syntax.specs.Characters.{is_key}
-use Rattle.bib_tables.specs.EntryType.{entry_type_name}
 use Rattle.bib_csl.specs.declared.item.Content.{Content}
 use Rattle.bib_csl.specs.declared.item.Content.TheVariants as content
 use Rattle.bib_from_csl.specs.declared.given.Given.{Given}
 use Rattle.bib_from_csl.specs.declared.given.GivenItem.{GivenItem}
 use Rattle.bib_from_csl.specs.declared.writing.Work.{Work}
-use Rattle.bib_from_csl.specs.EntryTypes.{type_for_item, subtype_of}
+use Rattle.bib_from_csl.specs.EntryTypes.{type_for_item, subtype_of, written_type_name}
 use Rattle.bib_from_csl.specs.LanguageNames.{language_name}
 use Rattle.bib_from_csl.specs.Values.{braced, listed_value, pages_value, plain_value, tagged_value}
 use Rattle.bib_from_csl.specs.Variables.{beside_field, beside_text, variable_field, is_list_variable, is_tagged}
@@ -21,6 +20,10 @@ use Rattle.bib_from_csl.specs.WrittenPeople.{have_fixed_prefix, names_value}
 -- whether a member is the title of a volume
 abbrev pub is_volume_title : Given → Bool
 is_volume_title given = bytes_eq given.name (codes "volume-title")
+
+-- whether a member is the title of an event, under its newer name
+abbrev pub is_event_title : Given → Bool
+is_event_title given = bytes_eq given.name (codes "event-title")
 
 -- whether a content has a name with a prefix that is part of the family name
 abbrev pub content_has_prefix : Option Content → Bool
@@ -37,6 +40,7 @@ work_for_item item = record {
   kind = type_for_item item.kind;
   in_work = list_any is_volume_title item.fields;
   uses_prefix = list_any has_prefix item.fields;
+  has_event_title = list_any is_event_title item.fields;
 }
 
 -- the line of a field
@@ -86,10 +90,11 @@ valued_lines work field name content = lines_with field name (content_source wor
 abbrev pub lines_in : Work → List ℕ → List ℕ → Content → List ℕ
 lines_in work field name content = if length field == 0 then [] else valued_lines work field name content
 
--- the lines of a variable
+-- the lines of a variable; the older name of the title of an event has none beside the newer one, which has the same field
 abbrev pub content_lines : Work → List ℕ → Content → List ℕ
 content_lines work name (content.Text text) =
     if bytes_eq name (codes "language") then language_line text
+    else if work.has_event_title && bytes_eq name (codes "event") then []
     else lines_in work (variable_field work.kind work.in_work name) name (content.Text text)
 content_lines work name (content.Names names) = lines_in work (variable_field work.kind work.in_work name) name (content.Names names)
 content_lines work name (content.Date date) = lines_in work (variable_field work.kind work.in_work name) name (content.Date date)
@@ -129,7 +134,7 @@ key_text = flat_map key_character
 
 -- the start of an entry, up to the comma after its key
 unfoldable pub head : GivenItem → List ℕ
-head item = codes "@" ++ (entry_type_name (type_for_item item.kind) ++ (codes "{" ++ (key_text (chars item.id) ++ codes ",\n")))
+head item = codes "@" ++ (written_type_name item.kind ++ (codes "{" ++ (key_text (chars item.id) ++ codes ",\n")))
 
 -- the value of the field `options`, or nothing
 abbrev pub options_of : Bool → List ℕ

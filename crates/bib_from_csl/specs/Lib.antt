@@ -8,6 +8,7 @@ pub mod LanguageNames
 pub mod Losses
 pub mod Objects
 pub mod PlainDates
+pub mod PlainPages
 pub mod PlainPeople
 pub mod Tags
 pub mod Values

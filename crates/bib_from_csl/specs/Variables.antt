@@ -21,7 +21,7 @@ abbrev pub is_title : List ℕ → Bool
 is_title =
     is_among_words
     (codes
-    "title title-short volume-title container-title container-title-short collection-title original-title event-title")
+    "title title-short volume-title container-title container-title-short collection-title original-title event event-title")
 
 -- whether the field of a variable is a list of texts with `and` between them
 abbrev pub is_list_variable : List ℕ → Bool
@@ -77,6 +77,7 @@ title_field kind in_work name =
     else if bytes_eq name (codes "container-title-short") then codes "shortjournal"
     else if bytes_eq name (codes "collection-title") then codes "series"
     else if bytes_eq name (codes "original-title") then codes "origtitle"
+    else if bytes_eq name (codes "event") then codes "eventtitle"
     else if bytes_eq name (codes "event-title") then codes "eventtitle"
     else []
 
@@ -109,9 +110,9 @@ word_field kind name =
 abbrev pub issue_field : EntryType → List ℕ
 issue_field kind = if numbers_issues kind then codes "number" else codes "issue"
 
--- the field for the number of the work itself, or nothing
+-- the field for the number of the work itself: `eid` if the type uses `number` for issues or series
 abbrev pub own_number_field : EntryType → List ℕ
-own_number_field kind = if numbers_issues kind || numbers_series kind then [] else codes "number"
+own_number_field kind = if numbers_issues kind || numbers_series kind then codes "eid" else codes "number"
 
 -- the field for the number in the series, or nothing
 abbrev pub series_number_field : EntryType → List ℕ

@@ -5,13 +5,14 @@ ghost use Rattle.std.specs.declared.ops.Range.{Range as ARange};
 ghost use Rattle.bib_chunks.specs.Values.{alone};
 ghost use Rattle.bib_chunks.specs.declared.chunk.Chunk.TheVariants.{Normal};
 ghost use Rattle.bib_csl.specs.Dates.{date_item};
-ghost use Rattle.bib_csl.specs.Numbers.{pages, pages_after};
+ghost use Rattle.bib_csl.specs.Numbers.{pages};
 ghost use Rattle.bib_csl.specs.People.{names_listed};
 ghost use Rattle.bib_csl.specs.declared.item.Name.{Name as AName};
 ghost use Rattle.bib_dates.specs.Kept.{IsKeptDate};
 ghost use Rattle.bib_dates.specs.declared.date.Date.{Date as ADate};
 ghost use Rattle.bib_values.specs.Ranges.{RangesKept};
 ghost use Rattle.bib_from_csl.specs.PlainDates.{HasBothEnds, IsDateReadBack};
+ghost use Rattle.bib_from_csl.specs.PlainPages.{pages_after};
 ghost use Rattle.bib_from_csl.specs.PlainPeople.{ArePlainNames};
 ghost use Rattle.bib_from_csl.specs.WrittenPeople.{names_chunks};
 

@@ -5,7 +5,7 @@ ghost use Rattle.bib_from_csl.specs.EntryTypes as spec;
 
 use bib_tables::mechanics::EntryType;
 
-// Returns the type of the entry of an item that is part of another work, or one issue of a periodical.
+// Returns the type whose fields the entry of an item has, if the item is part of another work, or one issue of a periodical.
 fn part_type(kind: &str) -> Option<EntryType>
     ensures { result ≡ spec.part_type kind.now }
 {
@@ -24,7 +24,7 @@ fn part_type(kind: &str) -> Option<EntryType>
     }
 }
 
-// Returns the type of the entry of any other item.
+// Returns the type whose fields the entry of any other item has.
 fn whole_type(kind: &str) -> EntryType
     ensures { result ≡ spec.whole_type kind.now }
 {
@@ -43,7 +43,7 @@ fn whole_type(kind: &str) -> EntryType
     }
 }
 
-// Returns the type of the entry of an item with this type.
+// Returns the type whose fields the entry of an item with this type has.
 pub(crate) fn entry_type_of(kind: &str) -> EntryType
     ensures { result ≡ spec.type_for_item kind.now }
 {
@@ -51,6 +51,39 @@ pub(crate) fn entry_type_of(kind: &str) -> EntryType
         Some(part) => part,
         None => whole_type(kind),
     }
+}
+
+// Returns the name of the entry type for an item of a type that only BibLaTeX's data model has, or an empty text.
+#[tactic(auto, unfolding(crate::specs::EntryTypes::own_type_name))]
+fn own_type_name(kind: &str) -> &'static str
+    ensures { result.now ≡ spec.own_type_name kind.now }
+{
+    match kind {
+        "graphic" => "artwork",
+        "song" => "music",
+        "motion_picture" => "movie",
+        "legal_case" => "jurisdiction",
+        "treaty" => "legal",
+        "legislation" => "legislation",
+        "personal_communication" => "letter",
+        "performance" => "performance",
+        "review" => "review",
+        "review-book" => "review",
+        "standard" => "standard",
+        _ => "",
+    }
+}
+
+// Returns the name of the entry type for an item with this type, as it is written.
+#[tactic(auto, unfolding(crate::specs::EntryTypes::written_type_name))]
+pub(crate) fn written_type_name(kind: &str) -> &'static str
+    ensures { result.now ≡ spec.written_type_name kind.now }
+{
+    let own = own_type_name(kind);
+    if own.is_empty() {
+        return entry_type_of(kind).name();
+    }
+    own
 }
 
 // Returns the value of the field `entrysubtype` for an item with this type, or an empty text.

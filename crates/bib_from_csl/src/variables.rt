@@ -71,6 +71,7 @@ fn is_title(name: &str) -> bool
             | "container-title-short"
             | "collection-title"
             | "original-title"
+            | "event"
             | "event-title"
     )
 }
@@ -184,6 +185,7 @@ fn title_field(kind: &EntryType, in_work: bool, name: &str) -> &'static str
         "container-title-short" => "shortjournal",
         "collection-title" => "series",
         "original-title" => "origtitle",
+        "event" => "eventtitle",
         "event-title" => "eventtitle",
         _ => "",
     }
@@ -233,12 +235,12 @@ fn issue_field(kind: &EntryType) -> &'static str
     "issue"
 }
 
-// Returns the field for the number of the work itself: `number`, or an empty text if the type uses `number` for issues or series.
+// Returns the field for the number of the work itself: `number`, or `eid` if the type uses `number` for issues or series.
 fn own_number_field(kind: &EntryType) -> &'static str
     ensures { result.now ≡ spec.own_number_field kind.now }
 {
     if counts_issues(kind) || counts_series(kind) {
-        return "";
+        return "eid";
     }
     "number"
 }

@@ -9,7 +9,7 @@ use crate::days::date_value;
 use crate::given::{Given, GivenItem};
 use crate::languages::language_name;
 use crate::people::{have_fixed_prefix, names_value};
-use crate::types::{entry_type_of, subtype_of};
+use crate::types::{entry_type_of, subtype_of, written_type_name};
 use crate::values::{braced, listed_value, pages_value, plain_value, tagged_value};
 use crate::variables::{beside_field, beside_text, field_of, is_listed, is_tagged};
 use bib_csl::item::Content;
@@ -28,6 +28,8 @@ pub struct Work {
     pub in_work: bool,
     /// Whether prefixes are part of family names.
     pub uses_prefix: bool,
+    /// Whether the item has the title of an event under its newer name, `event-title`.
+    pub has_event_title: bool,
 }
 
 // Returns whether a member is the title of a volume.
@@ -35,6 +37,13 @@ fn is_volume_title(given: &Given) -> bool
     ensures { result ≡ spec.is_volume_title given.now }
 {
     given.name.as_str() == "volume-title"
+}
+
+// Returns whether a member is the title of an event, under its newer name.
+fn is_event_title(given: &Given) -> bool
+    ensures { result ≡ spec.is_event_title given.now }
+{
+    given.name.as_str() == "event-title"
 }
 
 // Returns whether a member has a name with a prefix that is part of the family name.
@@ -61,6 +70,13 @@ fn have_prefix(fields: &[Given]) -> bool
     fields.iter().any(|given| has_prefix(given))
 }
 
+// Returns whether one of these members is the title of an event, under its newer name.
+fn have_event_title(fields: &[Given]) -> bool
+    ensures { result ≡ list_any spec.is_event_title fields.now }
+{
+    fields.iter().any(|given| is_event_title(given))
+}
+
 // Returns the properties of an item that its fields depend on.
 #[tactic(auto, unfolding(crate::specs::FromItems::work_for_item))]
 pub(crate) fn work_of(item: &GivenItem) -> Work
@@ -70,6 +86,7 @@ pub(crate) fn work_of(item: &GivenItem) -> Work
         kind: entry_type_of(item.kind.as_str()),
         in_work: have_volume_title(item.fields.as_slice()),
         uses_prefix: have_prefix(item.fields.as_slice()),
+        has_event_title: have_event_title(item.fields.as_slice()),
     }
 }
 
@@ -179,7 +196,8 @@ fn push_valued(
     push_known(alloc, out, beside_field(name), beside_text(name))
 }
 
-// Appends the lines of a variable, if it has a field.
+// Appends the lines of a variable, if it has a field. Appends nothing for the older name of the title of an event beside the newer one, which
+// has the same field.
 fn push_content(
     alloc: Global,
     out: &mut Text,
@@ -192,6 +210,9 @@ fn push_content(
     if let Content::Text(text) = content {
         if name == "language" {
             return push_language(alloc, out, text.as_str());
+        }
+        if work.has_event_title && name == "event" {
+            return Ok(());
         }
     }
     let field = field_of(&work.kind, work.in_work, name);
@@ -266,10 +287,9 @@ pub(crate) fn key_of(alloc: Global, id: &str) -> Result<Text, AllocError>
 fn push_head(alloc: Global, out: &mut Text, item: &GivenItem) -> Result<(), AllocError>
     ensures { OnOk result (out.new ≡ out.old ++ spec.head item.now) }
 {
-    let kind = entry_type_of(item.kind.as_str());
     let key = key_of(alloc, item.id.as_str())?;
     out.push('@')?;
-    out.push_str(kind.name())?;
+    out.push_str(written_type_name(item.kind.as_str()))?;
     out.push('{')?;
     out.push_str(key.as_str())?;
     out.push_str(",\n")

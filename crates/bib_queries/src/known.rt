@@ -43,11 +43,11 @@ fn marks_among(alloc: Global, names: &[&str], keys: &[&str]) -> Result<Vec<bool>
 }
 
 /// Returns a mark for each key: whether it is a name of an entry in `text`. The names of an entry are its key and the
-/// names in its field `ids`. Blocks that can't be parsed are skipped.
+/// names in its field `ids`. An entry with a syntax error has the names in its complete parts.
 pub fn mark_known(alloc: Global, text: &str, keys: &[&str]) -> Result<Vec<bool>, AllocError>
     ensures { IfOk result (λ marks. IsKnownIn text.now (map (λ k. k.now) keys.now) marks.items) }
 {
-    let found = RawBibliography::recover(alloc, text)?;
+    let found = RawBibliography::recover_parts(alloc, text)?;
     let names = all_names(alloc, &found.raw.entries)?;
     let marks = marks_among(alloc, &names, keys)?;
     Ok(marks)
@@ -100,8 +100,8 @@ fn uncited_among<'s>(
     Ok(found)
 }
 
-/// Returns the keys, with their spans, of the entries in `text` that have no name among `keys`. Blocks that can't be
-/// parsed are skipped.
+/// Returns the keys, with their spans, of the entries in `text` that have no name among `keys`. An entry with a syntax
+/// error has the key and the names in its complete parts; a block without a key is skipped.
 pub fn find_uncited<'s>(
     alloc: Global,
     text: &'s str,
@@ -110,7 +110,7 @@ pub fn find_uncited<'s>(
     ensures { IfOk result (λ found. IsUncited text.now (map (λ k. k.now) keys.now) (map part_of found.items)) }
 {
     let set = name_set(alloc, keys)?;
-    let raw = RawBibliography::recover(alloc, text)?.raw;
+    let raw = RawBibliography::recover_parts(alloc, text)?.raw;
     let found = uncited_among(alloc, &set, &raw.entries)?;
     Ok(found)
 }

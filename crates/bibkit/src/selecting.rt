@@ -7,9 +7,9 @@ use bib_queries::request::{CitedKeys, Request as Excerpts};
 use bib_select::errors::SelectionError;
 use bib_select::selection::Selection;
 use bib_source::decoding::decode;
-use bibkit_core::conditions::selected_keys;
+use bibkit_core::conditions::{keys_of_selected, resolved_entries};
 use bibkit_edits::edit::Edit;
-use biblatex::{Bibliography, Output, Sink};
+use biblatex::{Output, RawBibliography, Sink};
 use edit_entries::field_edits::FieldEdit;
 use edit_entries::field_value::FieldValue;
 use std::alloc::{AllocError, Global};
@@ -69,15 +69,17 @@ pub fn parse_conditions(alloc: Global, conditions: &[&str]) -> Result<Vec<Select
     Ok(selections)
 }
 
-// Returns the text to print for a file's text, and whether it has an entry or a key.
+// Returns the text to print for a file's text, and whether it has an entry or a key. Blocks with a syntax error count as if they weren't
+// in the text.
 fn selected_text(
     alloc: Global,
     selections: &[Selection],
     printed: Printed,
     text: &str,
 ) -> Result<(String, bool), AllocError> {
-    let recovered = Bibliography::recover(alloc, text)?;
-    let keys = selected_keys(alloc, selections, &recovered.bibliography)?;
+    let raw = RawBibliography::recover(alloc, text)?.raw;
+    let entries = resolved_entries(alloc, &raw)?;
+    let keys = keys_of_selected(alloc, selections, &entries)?;
     if keys.is_empty() {
         return Ok((String::new(alloc), false));
     }
@@ -226,8 +228,9 @@ fn edit_text(
     bytes: &[u8],
     text: &str,
 ) -> Result<(), Stop> {
-    let found = Bibliography::recover(rt.alloc(), text)?;
-    let keys = selected_keys(rt.alloc(), selections, &found.bibliography)?;
+    let raw = RawBibliography::recover(rt.alloc(), text)?.raw;
+    let entries = resolved_entries(rt.alloc(), &raw)?;
+    let keys = keys_of_selected(rt.alloc(), selections, &entries)?;
     let mut edits = Vec::new(rt.alloc());
     'changes: for change in changes {
         let (first, second) = texts_of_change(change);

@@ -18,7 +18,7 @@ use Rattle.bibkit_core.specs.Compared.{ComparisonState, EndsCompared, PrintsComp
 use Rattle.bibkit_core.specs.Linted.{ArePrinted}
 use Rattle.bibkit_core.specs.Marks.{AreUnused, BeginsDocument, EndsComparing, PrintsComparing, comparing_begins, either_mark, unmarked_findings}
 use Rattle.bibkit_core.specs.Running.{IsTaskPrinted}
-use Rattle.bibkit_core.specs.Tasks.{BeginsLinting, PrintsFindings, closing, in_file, lint_status, opening}
+use Rattle.bibkit_core.specs.Tasks.{BeginsLinting, IsEndOfFindings, PrintsFindings, in_file, lint_status, opening}
 use Rattle.bibkit_core.specs.declared.cited.Document.{Document}
 use Rattle.bibkit_core.specs.declared.comparing.Comparing.{Comparing}
 use Rattle.bibkit_core.specs.declared.request.Lint.{Lint}
@@ -281,8 +281,10 @@ ends_compared lint has_unused name document found task s text status same e =
           (λ l.
           ArePrinted l.style name document (selected_findings l.selection (findings_of_no_entry l.conditions.items missing))
           s.tally e.first e.after) same.lint_is counted;
-      is = e.is ∙ ap (λ l. in_file l.style task.document.name.now e.first ++ closing l.style e.after) same.lint_is
-          ∙ ap (λ n. in_file lint.style n e.first ++ closing lint.style e.after) same.name_is;
+      last = e.last;
+      closes = subst (λ l. IsEndOfFindings l.style e.after e.last) same.lint_is e.closes;
+      is = e.is ∙ ap (λ l. in_file l.style task.document.name.now e.first ++ e.last) same.lint_is
+          ∙ ap (λ n. in_file lint.style n e.first ++ e.last) same.name_is;
       status_is = e.status_is ∙ ap (λ l. lint_status l.fail_on e.after) same.lint_is;
     }
 

@@ -1,8 +1,8 @@
 -- Facts about the entries that meet conditions, and the findings about them.
-use Rattle.std.proofs.Common.{◌≡◌, ◌+◌, ◌-◌, ◌<◌, ◌≤◌, ◌&&◌, ◌++◌, ◌∷◌, [], ℕ, zero, suc, Bool, List, Bor, true, false, cond, get_or, length, map, take, refl, sym, ap, ◌∙◌, arith, append-nil, Result, Ok, Err}
+use Rattle.std.proofs.Common.{◌≡◌, ◌+◌, ◌-◌, ◌<◌, ◌≤◌, ◌&&◌, ◌||◌, ◌++◌, ◌∷◌, [], ℕ, zero, suc, Bool, List, Bor, true, false, cond, drop, get_or, length, map, take, take-append-drop, refl, sym, ap, ◌∙◌, arith, append-nil, Result, Ok, Err}
 use Rattle.std.specs.Prelude.{MatchOption, Option, Some, None, eqb, filter, if◌then◌else◌, max, nat_le, nat_lt, replicate, IfOk}
 use Rattle.std.specs.List.{ends_with}
-use Rattle.std.specs.Option.{option_map}
+use Rattle.std.specs.Option.{option_map, unwrap_or}
 use Rattle.std.specs.Str.Pattern.{FindsTextSuffix}
 use Rattle.std.proofs.lemmas.Bool.Decides.{Decides-eqb, nat_tests}
 use Rattle.std.proofs.lemmas.List.{map-append, take_all, take_more}
@@ -22,6 +22,20 @@ suffix_before suffix text (Some x) h =
     ∙ sym
     (ap (λ b. cond b (Some (take (length text - length suffix) text)) None)
     ((ends_is Decides-eqb text suffix _ refl).1 _ h.1.1))
+
+-- the text without the suffix, or the whole text without one, begins the text
+pub suffix_begins : (suffix text : List ℕ) (whole : Bor (List ℕ)) (r : Option (Bor (List ℕ))) → whole.now ≡ text
+    → MatchOption r (FindsTextSuffix suffix text None)
+    (λ x. (n : ℕ) × FindsTextSuffix suffix text (Some n) × (x.now ≡ take (length text - n) text) × (length x.now + n ≡ length text))
+    → (rest : List ℕ) × (text ≡ (unwrap_or r whole).now ++ rest)
+suffix_begins suffix text whole None same h = ([], sym (append-nil whole.now ∙ same))
+suffix_begins suffix text whole (Some x) same h =
+    let n = length text - h.0 in (drop n text, sym (ap (λ t. t ++ drop n text) h.2 ∙ take-append-drop n text))
+
+-- one more test, joined from the left or from the right
+pub joined_tests : (a b c : Bool) → ((a || b) || c) ≡ (a || (b || c))
+joined_tests true b c = refl
+joined_tests false b c = refl
 
 -- the elements that pass a test grow by the next one, if it passes
 pub filter_step : {X Y : Type 0} (v : X → Y) (test : Y → Bool) (xs : List X) (i : ℕ) (d : X) → i < length xs

@@ -22,7 +22,7 @@ use Rattle.bibkit_core.specs.declared.request.Lint.{Lint}
 use Rattle.bibkit_core.specs.Linted.{AreShown, ArePrinted, IsPrintedFile, tally_after, unread_findings}
 use Rattle.bibkit_core.specs.Linted.AreShown.{none, next}
 use Rattle.bibkit_core.specs.Regions.{region_at}
-use Rattle.bibkit_core.specs.Printed.{IsShown, is_none, one_more}
+use Rattle.bibkit_core.specs.Printed.{IsShown, has_no_finding, one_more}
 use Rattle.std.proofs.Math.Bool.{and-false}
 
 -- whether the next finding after a list of findings is the first of all; the Boolean says whether the list begins with the first
@@ -40,7 +40,7 @@ not_zero : (n : ℕ) → 0 < n → (n == 0) ≡ false
 not_zero n above = grind (arith, nat_tests)
 
 -- after one more finding, the counts aren't all zero
-not_none : (t : Tally) (s : Severity) → is_none (one_more t s) ≡ false
+not_none : (t : Tally) (s : Severity) → has_no_finding (one_more t s) ≡ false
 not_none t Error =
     let above : 0 < min (t.errors + 1) 18446744073709551615 = omega arith in
     ap (λ b. (b && (t.warnings == 0)) && (t.infos == 0)) (not_zero (min (t.errors + 1) 18446744073709551615) above)
@@ -54,7 +54,7 @@ not_none t Info =
     ∙ and-false ((t.errors == 0) && (t.warnings == 0))
 
 -- the counts after these findings are all zero exactly if the next finding is the first of all
-none_counted : (t : Tally) (xs : List Finding) → is_none (tally_after t xs) ≡ is_first_after (is_none t) xs
+none_counted : (t : Tally) (xs : List Finding) → has_no_finding (tally_after t xs) ≡ is_first_after (has_no_finding t) xs
 unfolding is_first_after
 none_counted t [] = refl
 none_counted t (f ∷ rest) =
@@ -85,7 +85,7 @@ one_added {style} {name} {bytes} {xs} {a} {b} {c} f before one = record {
     shown =
         shown_more f one.text before.are.shown
         (subst (λ d. IsShown style d name (region_at bytes f.span) f one.text)
-        (ap is_none before.are.tally ∙ none_counted a.tally xs) one.are.shown);
+        (ap has_no_finding before.are.tally ∙ none_counted a.tally xs) one.are.shown);
     tally =
         one.are.tally ∙ ap (λ t. one_more t (severity_of f.code)) before.are.tally
         ∙ sym (fold-append (λ t g. one_more t (severity_of g.code)) a.tally xs (f ∷ []));

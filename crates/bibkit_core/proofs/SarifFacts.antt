@@ -2,23 +2,32 @@
 use Rattle.std.proofs.Common.{◌≡◌, ◌==◌, ◌<◌, ℕ, true, false, List, [], ◌∷◌, ◌++◌, length, sym, ap, ◌∙◌, append_assoc, append-nil, arith}
 use Rattle.std.proofs.lemmas.Bool.Decides.{nat_tests}
 use Rattle.std.proofs.lemmas.Grind.{flat_map-append}
-use Rattle.std.specs.List.{flat_map}
-use Rattle.bib_findings.specs.declared.codes.Code.{Code}
+use Rattle.std.specs.List.{AllZip, flat_map}
 use Rattle.bibkit_core.specs.Objects.{element}
 use Rattle.bibkit_core.specs.Joining.{with_rule}
-use Rattle.bibkit_core.specs.Sarif.{rule_elements, rule_object}
+use Rattle.bibkit_core.specs.Sarif.{Rule, rule_elements, rule_object}
 
 not_zero : (n : ℕ) → 0 < n → (n == 0) ≡ false
 not_zero n above = grind (arith, nat_tests)
 
--- with one more code, its rule is appended
-pub rules_more : (cs : List Code) (c : Code) → rule_elements (cs ++ c ∷ []) ≡ with_rule (rule_elements cs) c
-rules_more [] c = append-nil (element true (rule_object c))
-rules_more (d ∷ cs) c =
-    let first = element true (rule_object d) in
-    let more = flat_map (λ e. element false (rule_object e)) in
-    let above : 0 < length (rule_elements (d ∷ cs)) = omega arith in
+-- with one more rule, its object is appended
+pub rules_more : (rules : List Rule) (rule : Rule) → rule_elements (rules ++ rule ∷ []) ≡ with_rule (rule_elements rules) rule
+rules_more [] rule = append-nil (element true (rule_object rule))
+rules_more (other ∷ rules) rule =
+    let first = element true (rule_object other) in
+    let more = flat_map (λ r. element false (rule_object r)) in
+    let above : 0 < length (rule_elements (other ∷ rules)) = omega arith in
     ap (λ t. first ++ t)
-    (flat_map-append (λ e. element false (rule_object e)) cs (c ∷ []) ∙ ap (λ t. more cs ++ t) (append-nil (element false (rule_object c))))
-    ∙ sym (append_assoc first (more cs) (element false (rule_object c)))
-    ∙ ap (λ b. rule_elements (d ∷ cs) ++ element b (rule_object c)) (sym (not_zero (length (rule_elements (d ∷ cs))) above))
+    (flat_map-append (λ r. element false (rule_object r)) rules (rule ∷ [])
+    ∙ ap (λ t. more rules ++ t) (append-nil (element false (rule_object rule))))
+    ∙ sym (append_assoc first (more rules) (element false (rule_object rule)))
+    ∙ ap (λ b. rule_elements (other ∷ rules) ++ element b (rule_object rule))
+    (sym (not_zero (length (rule_elements (other ∷ rules))) above))
+
+-- two lists whose elements are related in pairs stay so with one more pair
+pub zip_more : {A B : Type 0} (P : A → B → Type 0) (xs : List A) (ys : List B) (x : A) (y : B) → AllZip P xs ys → P x y
+    → AllZip P (xs ++ x ∷ []) (ys ++ y ∷ [])
+zip_more P [] [] x y all one = (one, tt)
+zip_more P [] (z ∷ ys) x y all one = absurd all
+zip_more P (w ∷ xs) [] x y all one = absurd all
+zip_more P (w ∷ xs) (z ∷ ys) x y all one = (all.0, zip_more P xs ys x y all.1 one)

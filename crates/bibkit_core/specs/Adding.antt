@@ -7,7 +7,7 @@ use Rattle.bibkit_core.specs.declared.lint.Printed.{Printed}
 use Rattle.bibkit_core.specs.declared.regions.Region.{Region}
 use Rattle.bibkit_core.specs.declared.request.Style.{Style}
 use Rattle.bibkit_core.specs.declared.tally.Tally.{Tally}
-use Rattle.bibkit_core.specs.Printed.{IsShown, is_none, one_more}
+use Rattle.bibkit_core.specs.Printed.{IsShown, has_no_finding, one_more}
 
 -- `new` has the text in `old`, followed by a text for which `Are` holds, with the counts before and after it
 pub record IsAdded (Are : Tally → List ℕ → Tally → Type 0) (old new : Printed) : Type 0 where
@@ -18,5 +18,5 @@ pub record IsAdded (Are : Tally → List ℕ → Tally → Type 0) (old new : Pr
 -- `text` is the output for one finding, with the counts before and after it
 pub record IsPrintedOne (style : Style) (name : List ℕ) (region : Region) (f : Finding) (before : Tally)
     (text : List ℕ) (after : Tally) : Type 0 where
-  pub shown : IsShown style (is_none before) name region f text
+  pub shown : IsShown style (has_no_finding before) name region f text
   pub tally : after ≡ one_more before (severity_of f.code)

@@ -11,12 +11,12 @@ use Rattle.bib_queries.specs.declared.citations.Citations.{Citations}
 use Rattle.bib_findings.specs.declared.codes.Code.TheVariants.{MissingEntry, UnusedEntry}
 use Rattle.bib_findings.specs.declared.finding.Finding.{Finding}
 use Rattle.bib_syntax.specs.Reading.{EntryReading, FileReading, Part}
-use Rattle.bib_syntax.specs.Recovery.{IsRecovery}
+use Rattle.bib_syntax.specs.Recovery.{IsFullRecovery}
 use Rattle.bib_syntax.specs.declared.raw.recovery.SkippedBlock.{SkippedBlock}
 use Rattle.bibkit_core.specs.Asked.{selected_findings}
 use Rattle.bibkit_core.specs.Conditions.{AreReportedFindings, findings_of_no_entry}
 use Rattle.bibkit_core.specs.Linted.{ArePrinted}
-use Rattle.bibkit_core.specs.Tasks.{AreDecoded, PrintsFindings, closing, in_file, lint_status, opening}
+use Rattle.bibkit_core.specs.Tasks.{AreDecoded, IsEndOfFindings, PrintsFindings, in_file, lint_status, opening}
 use Rattle.bibkit_core.specs.declared.request.Lint.{Lint}
 use Rattle.bibkit_core.specs.declared.tally.Tally.{Tally}
 
@@ -41,7 +41,8 @@ pub record ReadsDocument {F : Type 0} (reads : F → List ℕ → Option (List �
 abbrev pub cited_keys : Citations → List (List ℕ)
 cited_keys found = map (λ c. c.key) found.keys.items
 
--- whether an entry of one of these files has this key, or has it in its field `ids`
+-- whether an entry of one of these files has this key, or has it in its field `ids`; an entry with a syntax error has the names in its
+-- complete parts
 abbrev pub is_in_files : List FileReading → List ℕ → Bool
 is_in_files readings key = list_any (λ says. is_listed (all_names says.entries) key) readings
 
@@ -96,7 +97,7 @@ pub record PrintsCompared (lint : Lint) (has_unused : Bool) (found : Citations) 
   pub skipped : List SkippedBlock
   pub findings : PrintsFindings lint name bytes before.tally first between
   pub of_bytes : AreDecoded bytes decoded
-  pub recovery : IsRecovery (string_bytes decoded.text) says skipped
+  pub recovery : IsFullRecovery (string_bytes decoded.text) says skipped
   pub kept : List Finding
   pub reported : AreReportedFindings lint.conditions.items (string_bytes decoded.text) (unused_findings has_unused found says.entries) kept
   pub unused : ArePrinted lint.style name (string_bytes decoded.text) (selected_findings lint.selection kept) between second after.tally
@@ -112,5 +113,7 @@ pub record EndsCompared (lint : Lint) (name document : List ℕ) (found : Citati
   pub missing : ArePrinted lint.style name document
       (selected_findings lint.selection (findings_of_no_entry lint.conditions.items (missing_findings before.readings found.keys.items)))
       before.tally first after
-  pub is : text ≡ in_file lint.style name first ++ closing lint.style after
+  pub last : List ℕ
+  pub closes : IsEndOfFindings lint.style after last
+  pub is : text ≡ in_file lint.style name first ++ last
   pub status_is : status ≡ lint_status lint.fail_on after

@@ -2,9 +2,8 @@
 -- Joining positions, and the rules of a log.
 use Rattle.std.specs.Prelude.{ℕ, ◌+◌, ◌-◌, ◌^◌, ◌==◌, min, List, ◌++◌, length, if◌then◌else◌}
 use Rattle.bib_source.specs.declared.positions.Position.{Position}
-use Rattle.bib_findings.specs.declared.codes.Code.{Code}
 use Rattle.bibkit_core.specs.Objects.{element}
-use Rattle.bibkit_core.specs.Sarif.{rule_object}
+use Rattle.bibkit_core.specs.Sarif.{Rule, rule_object}
 
 -- the position of the end of two texts, one after the other, from that of the first text and that of the second by itself; its line and
 -- column are less than 2 ^ 64
@@ -16,5 +15,5 @@ joined_position first second =
     }
 
 -- the elements of an array of rules with one more rule, which has no comma before it if it is the first
-abbrev pub with_rule : List ℕ → Code → List ℕ
-with_rule rules code = rules ++ element (length rules == 0) (rule_object code)
+abbrev pub with_rule : List ℕ → Rule → List ℕ
+with_rule rules rule = rules ++ element (length rules == 0) (rule_object rule)

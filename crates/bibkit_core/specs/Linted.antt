@@ -12,7 +12,7 @@ use Rattle.bibkit_core.specs.Conditions.{AreReportedFindings, findings_of_no_ent
 use Rattle.bibkit_core.specs.declared.request.Lint.{Lint}
 use Rattle.bibkit_core.specs.declared.request.Style.{Style}
 use Rattle.bibkit_core.specs.declared.tally.Tally.{Tally}
-use Rattle.bibkit_core.specs.Printed.{IsShown, is_none, one_more}
+use Rattle.bibkit_core.specs.Printed.{IsShown, has_no_finding, one_more}
 
 -- the text of findings in the file with this name and these bytes, in turn, each in the region of its span; the Boolean says
 -- whether the first of them is the first of all findings
@@ -29,7 +29,7 @@ tally_after tally found = fold (λ t f. one_more t (severity_of f.code)) tally f
 -- `text` is the output for these findings in a file with these bytes, with the counts before and after them
 pub record ArePrinted (style : Style) (name bytes : List ℕ) (found : List Finding) (before : Tally) (text : List ℕ)
     (after : Tally) : Type 0 where
-  pub shown : AreShown style name bytes (is_none before) found text
+  pub shown : AreShown style name bytes (has_no_finding before) found text
   pub tally : after ≡ tally_after before found
 
 -- the finding that the byte at this offset is the first that isn't UTF-8

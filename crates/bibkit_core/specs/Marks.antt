@@ -6,13 +6,13 @@ use Rattle.bib_queries.specs.Known.{IsKnownIn, IsUncited}
 use Rattle.bib_queries.specs.declared.citations.Citation.{Citation}
 use Rattle.bib_findings.specs.declared.finding.Finding.{Finding}
 use Rattle.bib_syntax.specs.Reading.{FileReading, Part}
-use Rattle.bib_syntax.specs.Recovery.{IsRecovery}
+use Rattle.bib_syntax.specs.Recovery.{IsFullRecovery}
 use Rattle.bib_syntax.specs.declared.raw.recovery.SkippedBlock.{SkippedBlock}
 use Rattle.bibkit_core.specs.Asked.{selected_findings}
 use Rattle.bibkit_core.specs.Conditions.{AreReportedFindings, findings_of_no_entry}
 use Rattle.bibkit_core.specs.Compared.{AreCitedBy, cited_keys, missing_finding, unused_finding, unused_findings}
 use Rattle.bibkit_core.specs.Linted.{ArePrinted}
-use Rattle.bibkit_core.specs.Tasks.{AreDecoded, PrintsFindings, closing, in_file, lint_status, opening}
+use Rattle.bibkit_core.specs.Tasks.{AreDecoded, IsEndOfFindings, PrintsFindings, in_file, lint_status, opening}
 use Rattle.bibkit_core.specs.declared.cited.Document.{Document}
 use Rattle.bibkit_core.specs.declared.comparing.Comparing.{Comparing}
 use Rattle.bibkit_core.specs.declared.tally.Tally.{Tally}
@@ -57,10 +57,11 @@ pub record AreUncited (text : List ℕ) (keys : List (List ℕ)) (found : List F
   pub uncited : IsUncited text keys parts
   pub are : found ≡ map unused_finding parts
 
--- the findings of the entries that can be parsed of a text and that the document doesn't cite, if these are requested
+-- the findings of the entries of a text that the document doesn't cite, if these are requested; an entry with a syntax error counts with
+-- its complete parts
 abbrev pub AreUnused : Document → List ℕ → List Finding → Type 0
 AreUnused document text found =
-    (says : FileReading) (skipped : List SkippedBlock) → IsRecovery text says skipped
+    (says : FileReading) (skipped : List SkippedBlock) → IsFullRecovery text says skipped
     → found ≡ unused_findings document.has_unused document.citations says.entries
 
 -- the text of the comparing task before the files
@@ -95,5 +96,7 @@ pub record EndsComparing (task : Comparing) (text : List ℕ) (status : ℕ) : T
       (findings_of_no_entry task.linting.lint.now.conditions.items
       (unmarked_findings task.document.citations.keys.items task.document.known.items))) task.linting.tally first
       after
-  pub is : text ≡ in_file task.linting.lint.now.style task.document.name.now first ++ closing task.linting.lint.now.style after
+  pub last : List ℕ
+  pub closes : IsEndOfFindings task.linting.lint.now.style after last
+  pub is : text ≡ in_file task.linting.lint.now.style task.document.name.now first ++ last
   pub status_is : status ≡ lint_status task.linting.lint.now.fail_on after

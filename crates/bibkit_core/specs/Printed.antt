@@ -35,15 +35,15 @@ one_more tally Info = record tally { infos = min (tally.infos + 1) (2 ^ 64 - 1) 
 abbrev pub is_clean : Tally → Bool
 is_clean tally = (tally.errors == 0) && (tally.warnings == 0)
 
--- whether all counts are zero
-abbrev pub is_none : Tally → Bool
-is_none tally = is_clean tally && (tally.infos == 0)
+-- whether no finding is counted: all counts are zero
+abbrev pub has_no_finding : Tally → Bool
+has_no_finding tally = is_clean tally && (tally.infos == 0)
 
 -- whether there are findings for which `lint` has the status 1: findings of at least this severity, or never
 abbrev pub has_failing : FailOn → Tally → Bool
 has_failing fail_on.Error tally = not (tally.errors == 0)
 has_failing fail_on.Warning tally = not (is_clean tally)
-has_failing fail_on.Info tally = not (is_none tally)
+has_failing fail_on.Info tally = not (has_no_finding tally)
 has_failing fail_on.Never tally = false
 
 -- the count of findings that are information; empty if there is none

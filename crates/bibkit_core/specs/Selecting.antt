@@ -37,10 +37,14 @@ abbrev pub ArePrintedOf : Option (Vec (Bor (List ℕ))) → List (List ℕ) → 
 ArePrintedOf None keys text printed has_entry = AreKeysPrinted keys text printed has_entry
 ArePrintedOf (Some wanted) keys text printed has_entry = AreCommonPrinted (map (λ key. key.now) wanted.items) keys text printed has_entry
 
--- `printed` is the output for the entries of a text whose key is that of an entry that meets all conditions
+-- `printed` is the output for the entries of a text whose key is that of an entry that meets all conditions. A block with a syntax error
+-- counts as if it weren't in the text: its entry is neither tested nor printed, and no entry inherits from it.
 pub record IsSelectedAnswer (selected : Selected) (text printed : List ℕ) (has_entry : Bool) : Type 0 where
+  pub says : FileReading
+  pub skipped : List SkippedBlock
+  pub recovery : IsRecovery text says skipped
   pub keys : List (List ℕ)
-  pub are_selected : AreSelectedKeys selected.conditions.items text keys
+  pub are_selected : AreSelectedKeys selected.conditions.items says keys
   pub are_printed : ArePrintedOf selected.keys keys text printed has_entry
 
 -- `text` is the output for a file with these bytes; `has_entry`: the output has an entry or a key

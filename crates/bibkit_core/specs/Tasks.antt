@@ -10,7 +10,7 @@ use Rattle.bib_queries.specs.declared.request.Request.TheVariants.{Keys}
 use Rattle.bibkit_core.specs.Linted.{IsPrintedFile}
 use Rattle.bibkit_core.specs.Checkstyle.{checkstyle_head, checkstyle_tail, file_element}
 use Rattle.bibkit_core.specs.Printed.{counts_line, has_failing}
-use Rattle.bibkit_core.specs.Sarif.{sarif_head, sarif_tail}
+use Rattle.bibkit_core.specs.Sarif.{IsSarifTail, sarif_head}
 use Rattle.bibkit_core.specs.declared.entries.Entries.{Entries}
 use Rattle.bibkit_core.specs.declared.linting.Linting.{Linting}
 use Rattle.bibkit_core.specs.declared.request.FailOn.{FailOn}
@@ -33,16 +33,16 @@ opening Checkstyle = checkstyle_head
 opening Sarif = sarif_head
 opening _ = []
 
--- the text after findings: the line with the counts after lines, the end of the array in JSON, or of the document for Checkstyle and
--- SARIF; otherwise none
-abbrev pub closing : Style → Tally → List ℕ
-closing Plain tally = counts_line tally
-closing Colored tally = counts_line tally
-closing Json tally = codes "\n]\n"
-closing JsonLines tally = []
-closing Github tally = []
-closing Checkstyle tally = checkstyle_tail
-closing Sarif tally = sarif_tail
+-- `text` is the text after findings: the line with the counts after lines, the end of the array in JSON, or of the document for Checkstyle
+-- and SARIF; otherwise it is empty
+abbrev pub IsEndOfFindings : Style → Tally → List ℕ → Type 0
+IsEndOfFindings Plain tally text = text ≡ counts_line tally
+IsEndOfFindings Colored tally text = text ≡ counts_line tally
+IsEndOfFindings Json tally text = text ≡ codes "\n]\n"
+IsEndOfFindings JsonLines tally text = text ≡ []
+IsEndOfFindings Github tally text = text ≡ []
+IsEndOfFindings Checkstyle tally text = text ≡ checkstyle_tail
+IsEndOfFindings Sarif tally text = IsSarifTail text
 
 -- the output for the file with this name, from the text of its findings: for Checkstyle the element of the file, otherwise
 -- the text itself
@@ -94,7 +94,8 @@ linting_prints old name bytes text new =
 
 -- the text of the lint task after the files, and its status
 abbrev pub linting_ends : Linting → List ℕ → ℕ → Type 0
-linting_ends task text status = (text ≡ closing task.lint.now.style task.tally) × (status ≡ lint_status task.lint.now.fail_on task.tally)
+linting_ends task text status =
+    IsEndOfFindings task.lint.now.style task.tally text × (status ≡ lint_status task.lint.now.fail_on task.tally)
 
 -- the entries task before the first file
 pub record BeginsEntries (request : Request) (task : Entries) : Type 0 where

@@ -1,22 +1,28 @@
 //! The entries of a file that meet conditions, and the findings that are about these entries.
 
 ghost use Rattle.std.specs.Prelude.{◌≡◌, ◌||◌, ◌&&◌, ◌++◌, ◌∷◌, [], ℕ, List, codes, false, filter, get_or, if◌then◌else◌, map, nat_le, nat_lt, IfOk, OnOk};
+ghost use Rattle.std.specs.BTreeSet.{contains};
 ghost use Rattle.std.specs.List.{list_any};
 ghost use Rattle.std.specs.Option.{option_map};
+ghost use Rattle.std.specs.Ordering.{nat_cmp};
 ghost use Rattle.bib_syntax.specs.Reading.{EntryReading};
-ghost use Rattle.bib_syntax.specs.Views.{entry_reading_of};
+ghost use Rattle.bib_syntax.specs.Views.{entry_reading_of, file_of};
+ghost use Rattle.bib_syntax.specs.declared.raw.recovery.SkippedBlock.{SkippedBlock};
 ghost use Rattle.bib_queries.specs.Elements.{text_after_part};
 ghost use Rattle.bib_queries.specs.Known as known;
 ghost use Rattle.bib_queries.specs.Needed.{is_listed};
 ghost use Rattle.bib_queries.specs.Sets.{is_in_set};
 ghost use Rattle.bibkit_core.specs.Conditions as spec;
-ghost use Rattle.bibkit_core.specs.Conditions.{AreAboutSelected, AreReportedFindings, AreSelectedKeys, entries_with, is_in};
+ghost use Rattle.bibkit_core.specs.Conditions.{AreAboutSelected, AreResolvedEntries, AreReportedFindings, begins_one, entries_with, is_in, is_in_block, is_in_one};
 
 use bib_entry::entry::Entry;
+use bib_file_entries::keeping::{KeptEntries, keep};
 use bib_findings::codes::Code;
 use bib_findings::finding::Finding;
+use bib_inheritance::recovering::resolve_readable;
 use bib_queries::names::entry_names;
 use bib_select::selection::Selection;
+use bib_syntax::raw::{RawRecovery, SkippedBlock};
 use bib_text::spanned::Spanned;
 use biblatex::{Bibliography, RawBibliography, RawEntry};
 use std::alloc::{AllocError, Global};
@@ -64,6 +70,36 @@ pub fn selected_keys<'b>(
         push_selected(alloc, &mut keys, conditions, entry)?;
     }
     Ok(keys)
+}
+
+/// Returns the keys of those of these entries that meet all conditions. The only error is out of memory.
+pub fn keys_of_selected<'b>(
+    alloc: Global,
+    conditions: &[Selection],
+    entries: &'b [Entry],
+) -> Result<Vec<&'b str>, AllocError>
+    ensures { IfOk result (λ keys. map (λ key. key.now) keys.items ≡ spec.selected_keys conditions.now entries.now) }
+{
+    let mut keys = Vec::new(alloc);
+    'entries: for entry in entries {
+        push_selected(alloc, &mut keys, conditions, entry)?;
+    }
+    Ok(keys)
+}
+
+/// Returns the entries of a bibliography with this content. Each has the fields that it inherits. An entry is left out if its key was
+/// claimed before: an earlier entry has the key, or names it in `ids`. The only error is out of memory.
+pub fn resolved_entries(alloc: Global, raw: &RawBibliography<'_>) -> Result<Vec<Entry>, AllocError>
+    ensures { IfOk result (λ entries. AreResolvedEntries (file_of raw.now) entries.items) }
+{
+    let KeptEntries {
+        mut entries,
+        names,
+        spans,
+        ..
+    } = keep(alloc, raw)?;
+    resolve_readable(alloc, &spans, &names, &mut entries)?;
+    Ok(entries)
 }
 
 // Returns the set of these names.
@@ -156,7 +192,7 @@ fn cover(covered: &mut Vec<bool>, start: usize, end: usize) -> Result<(), AllocE
     Ok(())
 }
 
-// Returns, for each offset, whether it is in one of these entries. Offsets beyond the list are in none.
+// Returns, for each offset, whether it is between the start and the end of one of these entries. Offsets beyond the list are in none.
 fn covered_by(alloc: Global, entries: &[Spanned<RawEntry<'_>>]) -> Result<Vec<bool>, AllocError>
     ensures { IfOk result (λ covered. (at : ℕ) → get_or covered.items at false ≡
         list_any (is_in at) (map entry_reading_of entries.now)) }
@@ -165,6 +201,70 @@ fn covered_by(alloc: Global, entries: &[Spanned<RawEntry<'_>>]) -> Result<Vec<bo
     'entries: for entry in entries {
         cover(&mut covered, entry.span.start, entry.span.end)?;
     }
+    Ok(covered)
+}
+
+// Returns the offsets at which these entries begin.
+fn entry_starts(
+    alloc: Global,
+    entries: &[Spanned<RawEntry<'_>>],
+) -> Result<BTreeSet<usize>, AllocError>
+    ensures { IfOk result (λ starts. (start : ℕ) → contains nat_cmp starts start ≡
+        begins_one (map entry_reading_of entries.now) start) }
+{
+    let mut starts = BTreeSet::new(alloc);
+    'entries: for entry in entries {
+        starts.insert(entry.span.start)?;
+    }
+    Ok(starts)
+}
+
+// Stores `true` at each offset in a skipped block if one of these entries begins where it does.
+fn cover_block(
+    covered: &mut Vec<bool>,
+    starts: &BTreeSet<usize>,
+    block: &SkippedBlock,
+) -> Result<(), AllocError>
+    ensures { OnOk result ((entries : List EntryReading) →
+        ((start : ℕ) → contains nat_cmp starts.now start ≡ begins_one entries start) →
+        (at : ℕ) → get_or covered.new.items at false ≡ (get_or covered.old.items at false || is_in_block entries at block.now)) }
+{
+    if starts.contains(&block.span.start) {
+        cover(covered, block.span.start, block.span.end)?;
+    }
+    Ok(())
+}
+
+// Stores `true` at each offset in those of the skipped blocks that begin where one of these entries does.
+fn cover_blocks(
+    covered: &mut Vec<bool>,
+    starts: &BTreeSet<usize>,
+    skipped: &[SkippedBlock],
+) -> Result<(), AllocError>
+    ensures { OnOk result ((entries : List EntryReading) →
+        ((start : ℕ) → contains nat_cmp starts.now start ≡ begins_one entries start) →
+        (at : ℕ) → get_or covered.new.items at false ≡
+        (get_or covered.old.items at false || list_any (is_in_block entries at) skipped.now)) }
+{
+    'skipped: for block in skipped {
+        cover_block(covered, starts, block)?;
+    }
+    Ok(())
+}
+
+// Returns, for each offset, whether it is in one of these entries, some of which may be the complete parts of these skipped blocks. Offsets
+// beyond the list are in none.
+fn covered_with(
+    alloc: Global,
+    skipped: &[SkippedBlock],
+    entries: &[Spanned<RawEntry<'_>>],
+) -> Result<Vec<bool>, AllocError>
+    ensures { IfOk result (λ covered. (at : ℕ) → get_or covered.items at false ≡
+        is_in_one skipped.now (map entry_reading_of entries.now) at) }
+{
+    let mut covered = covered_by(alloc, entries)?;
+    let starts = entry_starts(alloc, entries)?;
+    cover_blocks(&mut covered, &starts, skipped)?;
     Ok(covered)
 }
 
@@ -183,48 +283,65 @@ fn all_names<'s>(
     Ok(names)
 }
 
-// Returns the text after the first quote that follows a space, or `None` without one.
-fn after_quote(message: &str) -> Option<&str>
-    ensures { option_map (λ rest. rest.now) result ≡ text_after_part (codes " \"") message.now }
+// Returns the text after the first occurrence of `words`, or `None` without one.
+fn text_after<'m>(message: &'m str, words: &str) -> Option<&'m str>
+    ensures { option_map (λ rest. rest.now) result ≡ text_after_part words.now message.now }
 {
-    match message.split_once(" \"") {
+    match message.split_once(words) {
         Some((_, rest)) => Some(rest),
         None => None,
     }
 }
 
-// Returns the text without the quote at its end, or `None` if it doesn't end with a quote.
-fn before_last_quote(text: &str) -> Option<&str>
-    ensures { option_map (λ name. name.now) result ≡ spec.before_last_quote text.now }
+// Returns the text without `words` at its end, or `None` if it doesn't end with them.
+fn before_end<'m>(text: &'m str, words: &str) -> Option<&'m str>
+    ensures { option_map (λ name. name.now) result ≡ spec.before_end words.now text.now }
 {
-    text.strip_suffix("\"")
+    text.strip_suffix(words)
 }
 
-// Returns the name between the first quote after a space and the quote at the end of a message.
-fn name_in_quotes(message: &str) -> Option<&str>
-    ensures { option_map (λ name. name.now) result ≡ spec.name_in_quotes message.now }
+// Returns the name in a message between the first occurrence of the words `before` and the words `after` at the end.
+fn name_between<'m>(message: &'m str, before: &str, after: &str) -> Option<&'m str>
+    ensures { option_map (λ name. name.now) result ≡ spec.name_between before.now after.now message.now }
 {
-    let rest = after_quote(message)?;
-    before_last_quote(rest)
+    let rest = text_after(message, before)?;
+    before_end(rest, after)
 }
 
 // Returns the name in the message of a finding about two entries, or `None` for any other finding.
 fn name_of_earlier(finding: &Finding) -> Option<&str>
     ensures { option_map (λ name. name.now) result ≡ spec.name_of_earlier finding.now.code finding.now.message }
 {
+    let message = finding.message.as_str();
     match finding.code {
-        Code::DuplicateKey | Code::LikelyDuplicate => name_in_quotes(finding.message.as_str()),
+        Code::DuplicateKey | Code::LikelyDuplicate => name_between(message, " \"", "\""),
+        Code::KeyCase => name_between(message, " key differs from `", "` only in case"),
         _ => None,
+    }
+}
+
+// Returns the place of a finding: its start, or for a syntax error the byte before it.
+fn finding_place(finding: &Finding) -> usize
+    ensures { result ≡ spec.finding_place finding.now.code finding.now.span.start }
+{
+    match finding.code {
+        Code::Syntax => finding.span.start.saturating_sub(1),
+        _ => finding.span.start,
     }
 }
 
 // Returns whether a finding is about one of these entries, by the offsets in them and the set of their names.
 fn is_about(covered: &[bool], names: &BTreeSet<&str>, finding: &Finding) -> bool
-    ensures { (entries : List EntryReading) → ((at : ℕ) → get_or covered.now at false ≡ list_any (is_in at) entries) →
+    ensures { (skipped : List SkippedBlock) (entries : List EntryReading) →
+        ((at : ℕ) → get_or covered.now at false ≡ is_in_one skipped entries at) →
         ((name : List ℕ) → is_in_set names.now name ≡ is_listed (known.all_names entries) name) →
-        result ≡ spec.is_about entries finding.now }
+        result ≡ spec.is_about skipped entries finding.now }
 {
-    if covered.get(finding.span.start).copied().unwrap_or(false) {
+    if covered
+        .get(finding_place(finding))
+        .copied()
+        .unwrap_or(false)
+    {
         return true;
     }
     match name_of_earlier(finding) {
@@ -240,10 +357,10 @@ fn push_about(
     names: &BTreeSet<&str>,
     finding: Finding,
 ) -> Result<(), AllocError>
-    ensures { OnOk result ((entries : List EntryReading) →
-        ((at : ℕ) → get_or covered.now at false ≡ list_any (is_in at) entries) →
+    ensures { OnOk result ((skipped : List SkippedBlock) (entries : List EntryReading) →
+        ((at : ℕ) → get_or covered.now at false ≡ is_in_one skipped entries at) →
         ((name : List ℕ) → is_in_set names.now name ≡ is_listed (known.all_names entries) name) →
-        kept.new.items ≡ kept.old.items ++ filter (spec.is_about entries) (finding ∷ [])) }
+        kept.new.items ≡ kept.old.items ++ filter (spec.is_about skipped entries) (finding ∷ [])) }
 {
     if is_about(covered, names, &finding) {
         kept.push(finding)?;
@@ -251,15 +368,17 @@ fn push_about(
     Ok(())
 }
 
-// Returns the findings that are about one of these entries.
+// Returns the findings that are about one of these entries, some of which may be the complete parts of these skipped blocks.
 fn findings_about(
     alloc: Global,
+    skipped: &[SkippedBlock],
     entries: &[Spanned<RawEntry<'_>>],
     found: Vec<Finding>,
 ) -> Result<Vec<Finding>, AllocError>
-    ensures { IfOk result (λ kept. kept.items ≡ filter (spec.is_about (map entry_reading_of entries.now)) found.items) }
+    ensures { IfOk result (λ kept. kept.items ≡
+        filter (spec.is_about skipped.now (map entry_reading_of entries.now)) found.items) }
 {
-    let covered = covered_by(alloc, entries)?;
+    let covered = covered_with(alloc, skipped, entries)?;
     let names = all_names(alloc, entries)?;
     let set = name_set(alloc, &names)?;
     let mut kept = Vec::new(alloc);
@@ -278,11 +397,11 @@ fn about_selected(
 ) -> Result<Vec<Finding>, AllocError>
     ensures { IfOk result (λ kept. AreAboutSelected conditions.now text.now found.items kept.items) }
 {
-    let recovered = Bibliography::recover(alloc, text)?;
-    let keys = selected_keys(alloc, conditions, &recovered.bibliography)?;
-    let raw = RawBibliography::recover(alloc, text)?.raw;
-    let entries = entries_with(alloc, &keys, raw.entries)?;
-    let kept = findings_about(alloc, &entries, found)?;
+    let RawRecovery { raw, skipped } = RawBibliography::recover_parts(alloc, text)?;
+    let entries = resolved_entries(alloc, &raw)?;
+    let keys = keys_of_selected(alloc, conditions, &entries)?;
+    let selected = entries_with(alloc, &keys, raw.entries)?;
+    let kept = findings_about(alloc, &skipped, &selected, found)?;
     Ok(kept)
 }
 

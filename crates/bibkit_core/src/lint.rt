@@ -54,17 +54,17 @@ fn finding_text(
     region: Region,
     finding: &Finding,
 ) -> Result<String, AllocError>
-    ensures { IfOk result (λ text. IsShown style (spec.is_none tally) origin.now.name.now region finding.now
+    ensures { IfOk result (λ text. IsShown style (spec.has_no_finding tally) origin.now.name.now region finding.now
         (string_bytes text)) }
 {
     match style {
         Style::Plain => finding_line(alloc, origin.name, region.start, finding),
         Style::Colored => framed_finding(alloc, origin.name, origin.bytes, region.start, finding),
-        Style::Json => object_element(alloc, tally.is_none(), origin.name, region, finding),
+        Style::Json => object_element(alloc, tally.has_no_finding(), origin.name, region, finding),
         Style::JsonLines => object_line(alloc, origin.name, region, finding),
         Style::Github => finding_command(alloc, origin.name, region, finding),
         Style::Checkstyle => error_element(alloc, region.start, finding),
-        Style::Sarif => result_element(alloc, tally.is_none(), origin.name, region, finding),
+        Style::Sarif => result_element(alloc, tally.has_no_finding(), origin.name, region, finding),
     }
 }
 

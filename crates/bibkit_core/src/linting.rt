@@ -4,7 +4,7 @@ ghost use Rattle.std.specs.Prelude.{◌≡◌, [], IfOk};
 ghost use Rattle.std.specs.String.{string_bytes};
 ghost use Rattle.bibkit_core.specs.Asked.{selected_findings};
 ghost use Rattle.bibkit_core.specs.Linted.{ArePrinted};
-ghost use Rattle.bibkit_core.specs.Tasks.{BeginsLinting, PrintsFindings, linting_begins, linting_ends, linting_prints};
+ghost use Rattle.bibkit_core.specs.Tasks.{BeginsLinting, IsEndOfFindings, PrintsFindings, linting_begins, linting_ends, linting_prints};
 ghost use Rattle.bibkit_core.specs.Tasks as spec;
 
 use crate::decoding::decode_bytes;
@@ -119,7 +119,7 @@ fn opening(style: Style) -> &'static str
 // Returns the text after all findings: the line with the counts after lines, the end of the array in JSON, or of the document for
 // Checkstyle and SARIF. It is empty in the other styles.
 fn closing(alloc: Global, style: Style, tally: Tally) -> Result<String, AllocError>
-    ensures { IfOk result (λ text. string_bytes text ≡ spec.closing style tally) }
+    ensures { IfOk result (λ text. IsEndOfFindings style tally (string_bytes text)) }
 {
     match style {
         Style::Plain | Style::Colored => tally.line(alloc),

@@ -7,14 +7,14 @@ ghost use Rattle.bib_syntax.specs.Views.{entry_reading_of};
 ghost use Rattle.bibkit_core.specs.Selecting as spec;
 ghost use Rattle.bibkit_core.specs.Selecting.{AreCommonPrinted, AreKeysPrinted, BeginsSelecting, IsSelectedAnswer, selecting_begins, selecting_ends, selecting_prints};
 
-use crate::conditions::{common_keys, entries_with, selected_keys};
+use crate::conditions::{common_keys, entries_with, keys_of_selected, resolved_entries};
 use crate::decoding::decode_bytes;
 use crate::entries::is_found_with;
 use crate::request::Selected;
 use crate::task::{End, Task};
 use bib_queries::excerpts::{TextAnswer, answer};
 use bib_queries::request::Request as Excerpts;
-use biblatex::{Bibliography, RawBibliography, RawEntry, Spanned};
+use biblatex::{RawBibliography, RawEntry, Spanned};
 use std::alloc::{AllocError, Global};
 
 /// Prints entries of files that meet conditions, or their keys.
@@ -83,8 +83,9 @@ fn selected_answer(
 ) -> Result<TextAnswer, AllocError>
     ensures { IfOk result (λ answer. IsSelectedAnswer selected.now text.now (string_bytes answer.text) answer.has_entry) }
 {
-    let recovered = Bibliography::recover(alloc, text)?;
-    let keys = selected_keys(alloc, &selected.conditions, &recovered.bibliography)?;
+    let found = RawBibliography::recover(alloc, text)?;
+    let entries = resolved_entries(alloc, &found.raw)?;
+    let keys = keys_of_selected(alloc, &selected.conditions, &entries)?;
     match &selected.keys {
         Some(wanted) => common_answer(alloc, wanted, &keys, text),
         None => keys_answer(alloc, &keys, text),

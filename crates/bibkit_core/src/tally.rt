@@ -61,9 +61,9 @@ impl Tally {
         self.errors == 0 && self.warnings == 0
     }
 
-    /// Returns whether all numbers are zero.
-    pub fn is_none(self) -> bool
-        ensures { result ≡ spec.is_none self }
+    /// Returns whether no finding is counted: all numbers are zero.
+    pub fn has_no_finding(self) -> bool
+        ensures { result ≡ spec.has_no_finding self }
     {
         self.is_clean() && self.infos == 0
     }
@@ -75,7 +75,7 @@ impl Tally {
         match fail_on {
             FailOn::Error => self.errors != 0,
             FailOn::Warning => !self.is_clean(),
-            FailOn::Info => !self.is_none(),
+            FailOn::Info => !self.has_no_finding(),
             FailOn::Never => false,
         }
     }

@@ -42,7 +42,7 @@ pub enum OutputFormat {
 }
 
 // The names of the codes of findings, in the order in which they are listed.
-static CODES: [&str; 25] = [
+static CODES: [&str; 27] = [
     "unread-bytes",
     "syntax",
     "unread-field",
@@ -62,7 +62,9 @@ static CODES: [&str; 25] = [
     "repeated-field",
     "empty-field",
     "wrong-isbn",
+    "wrong-issn",
     "doi-address",
+    "empty-key",
     "unknown-reference",
     "likely-duplicate",
     "key-case",

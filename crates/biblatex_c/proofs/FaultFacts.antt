@@ -1,22 +1,23 @@
 -- Facts about the JSON array of the findings of a text.
-use Rattle.std.proofs.Common.{◌≡◌, ◌∙◌, ℕ, List, [], ◌++◌, codes, None, ap, ap₂, append_assoc}
-use Rattle.bibkit_core.specs.Tasks.{BeginsLinting, closing, in_file, linting_begins, linting_ends, linting_prints, opening}
+use Rattle.std.proofs.Common.{◌≡◌, ◌∙◌, ℕ, List, [], ◌++◌, codes, None, ap, ap₂, append_assoc, subst}
+use Rattle.bibkit_core.specs.Tasks.{BeginsLinting, IsEndOfFindings, in_file, linting_begins, linting_ends, linting_prints, opening}
 use Rattle.bibkit_core.specs.declared.linting.Linting.{Linting}
 use Rattle.bibkit_core.specs.declared.request.Lint.{Lint}
 use Rattle.bibkit_core.specs.declared.request.Style.TheVariants as style
 use Rattle.biblatex_c.specs.Calls.{AreFaults}
 
 -- the texts of the lint task before, for and after one file with an empty name are the JSON array of all findings of the file
-pub faults_found : {bytes begin found end : List ℕ} {status : ℕ} {lint : Lint} (begun ended : Linting)
+pub faults_found : {bytes begin found : List ℕ} (end : List ℕ) {status : ℕ} {lint : Lint} (begun ended : Linting)
     → BeginsLinting lint begun → lint.style ≡ style.Json
     → lint.selection.only.items ≡ [] → lint.selection.ignored.items ≡ [] → lint.cited ≡ None → lint.conditions.items ≡ []
     → begin ≡ linting_begins begun
     → linting_prints begun [] bytes found ended → linting_ends ended end status → AreFaults bytes ((begin ++ found) ++ end)
-faults_found {bytes} {begin} {found} {end} begun ended begins json only ignored cited every opens prints ends =
+faults_found {bytes} {begin} {found} end begun ended begins json only ignored cited every opens prints ends =
     let same = begins.lint_is in
     let in_json : begun.lint.now.style ≡ style.Json = ap (λ l. l.style) same ∙ json in
     let opened : begin ≡ codes "[" = opens ∙ ap opening in_json in
-    let closed : end ≡ codes "\n]\n" = ends.0 ∙ ap (λ l. closing l.style ended.tally) prints.0 ∙ ap (λ s. closing s ended.tally) in_json in
+    let closed : end ≡ codes "\n]\n" =
+    subst (λ s. IsEndOfFindings s ended.tally end) in_json (subst (λ l. IsEndOfFindings l.style ended.tally end) prints.0 ends.0) in
     let whole : found ≡ prints.1.0 = prints.1.2 ∙ ap (λ s. in_file s [] prints.1.0) in_json in
     record {
       lint = begun.lint.now;

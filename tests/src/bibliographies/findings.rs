@@ -21,7 +21,7 @@ fn found(alloc: Global, file: &str) -> Result<Vec<Finding>, AllocError> {
     let between = between(alloc, &skipped, &said, &origins, &names, &entries)?;
     let mut unresolved = resolve_readable(alloc, &spans, &names, &mut entries)?;
     errors.append(&mut unresolved)?;
-    findings_in(alloc, &skipped, &errors, &said, &origins, &entries, between)
+    findings_in(alloc, &skipped, &names, &errors, &said, &origins, &entries, between)
 }
 
 /// All that is wrong in a file: each finding's place, code and message.

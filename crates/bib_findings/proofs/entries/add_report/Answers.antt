@@ -1,4 +1,3 @@
-use Rattle.std.proofs.Common.{ap, ◌∙◌}
 use Rattle.bib_tables.specs.Requirements.{texts}
 use Rattle.bib_syntax.specs.Views.{entry_reading_of}
 use Rattle.bib_findings.proofs.AddingFacts.{report_added}
@@ -6,8 +5,8 @@ use Rattle.bib_findings.proofs.entries.add_report.Goals as goal
 
 pub returns : goal.returns
 returns c =
-    report_added c.args.is_cut (entry_reading_of c.args.said.now) c.args.entry.now (texts c.deref.result.now) c.deref-3.result.now
+    report_added (entry_reading_of c.args.said.now) c.args.entry.now (texts c.args.missing.now) c.deref-2.result.now
     c.in_ok-report.report.malformed.items c.args.found.now.items c.add_missing.new.found.items c.add_superfluous.new.found.items
     c.add_malformed.new.found.items c.add_malformed.result
-    (ap texts c.deref.ensures.value ∙ c.in_ok-missing.ensures) c.deref-3.ensures.value c.in_ok-report.ensures.malformed
+    c.deref-2.ensures.value c.in_ok-report.ensures.malformed
     c.in_ok-add_missing.ensures c.in_ok-add_superfluous.ensures c.add_malformed.ensures

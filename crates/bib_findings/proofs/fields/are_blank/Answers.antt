@@ -4,7 +4,7 @@ use Rattle.std.proofs.lemmas.Iterator.Search.{all_from_yields_List}
 use Rattle.bib_text.specs.declared.spanned.Spanned.{Spanned}
 use Rattle.bib_syntax.specs.Views.{piece_of}
 use Rattle.bib_syntax.specs.declared.raw.RawChunk.{RawChunk}
-use Rattle.bib_findings.specs.Fields.{is_blank_piece}
+use Rattle.bib_findings.specs.Entries.{is_blank_piece}
 use Rattle.bib_findings.proofs.ListFacts.{all_of_map}
 use Rattle.bib_findings.proofs.fields.are_blank.Goals as goal
 

@@ -3,8 +3,7 @@ use Rattle.std.specs.BTreeMap.{get_by_text}
 use Rattle.bib_syntax.specs.Views.{entry_reading_of}
 use Rattle.bib_findings.specs.Adding.{Adds}
 use Rattle.bib_findings.specs.Entries.{AreOfEach}
-use Rattle.bib_findings.specs.Cuts.{is_cut}
-use Rattle.bib_findings.specs.Findings.{AreOfEntry}
+use Rattle.bib_findings.specs.Findings.{AreOfKept}
 use Rattle.bib_findings.specs.Met.{AreFieldNames}
 use Rattle.bib_findings.proofs.findings.add_entries.Given as goal
 
@@ -12,7 +11,8 @@ use Rattle.bib_findings.proofs.findings.add_entries.Given as goal
 abbrev pub invariant-entries : goal.invariant-entries
 invariant-entries l = record {
   met : AreFieldNames (get_by_text l.met);
-  added : Adds (AreOfEach (λ one. AreOfEntry (is_cut l.skipped one) one) (map entry_reading_of l.said) (take l.index l.origins)
-      (take l.index l.entries))
+  added : Adds
+      (AreOfEach (AreOfKept l.skipped l.names (map entry_reading_of l.said) l.origins) (map entry_reading_of l.said)
+      (take l.index l.origins) (take l.index l.entries))
       l.initial.found.items l.found.items;
 }

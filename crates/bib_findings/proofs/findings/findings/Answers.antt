@@ -65,7 +65,7 @@ returns c =
     c.in_ok-linked.ensures in
     if_ok_more
     (λ found.
-    AreFindingsIn c.deref-6.result.now c.deref-7.result.now (entries_said c.deref-8.result.now)
+    AreFindingsIn c.deref-6.result.now names c.deref-7.result.now (entries_said c.deref-8.result.now)
     c.deref-9.result.now c.deref-10.result.now linked found.items)
     (λ found. AreFindings c.args.text.now found.items) c.findings_in.result
     (λ found are. record {
@@ -84,7 +84,7 @@ returns c =
       between = linked;
       are_between = are_between;
       are =
-          findings_of c.deref-6.result.now skipped c.deref-7.result.now (of_entries ++ of_references)
+          findings_of c.deref-6.result.now skipped names c.deref-7.result.now (of_entries ++ of_references)
           (entries_said c.deref-8.result.now) says.entries c.deref-9.result.now origins c.deref-10.result.now entries
           linked found.items
           c.deref-6.ensures.value (c.deref-7.ensures.value ∙ c.in_ok-append.ensures.items)

@@ -5,4 +5,4 @@ use Rattle.bibkit_core.specs.Conditions.{is_about}
 use Rattle.bibkit_core.proofs.conditions.findings_about.Given as goal
 
 abbrev pub invariant-found : goal.invariant-found
-invariant-found l = l.kept.items ≡ filter (is_about (map entry_reading_of l.entries)) l.yielded
+invariant-found l = l.kept.items ≡ filter (is_about l.skipped (map entry_reading_of l.entries)) l.yielded

@@ -1,0 +1,11 @@
+use Rattle.std.proofs.Common.{◌≡◌, drop, find}
+use Rattle.bib_tables.specs.Requirements.{texts}
+use Rattle.bib_syntax.specs.Views.{entry_reading_of}
+use Rattle.bib_findings.specs.Entries.{has_own_field}
+use Rattle.bib_findings.proofs.demands.demanded_field.Given as goal
+
+-- the first field in the file from this one on is the first of all
+abbrev pub invariant-names : goal.invariant-names
+invariant-names l =
+    find (has_own_field (entry_reading_of l.said)) (texts (drop l.name-index l.demand))
+    ≡ find (has_own_field (entry_reading_of l.said)) (texts l.demand)

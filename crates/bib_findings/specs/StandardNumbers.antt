@@ -1,0 +1,118 @@
+-- Meaning: words of public contracts.
+-- Standard numbers of books and of serials: ISBN (ISO 2108) and ISSN (ISO 3297), and the findings of wrong ones.
+use Rattle.std.specs.Prelude.{ℕ, ◌+◌, ◌-◌, ◌*◌, ◌%◌, Bool, not, ◌==◌, ◌&&◌, ◌||◌, List, [], ◌∷◌, ◌++◌, true, false, codes, filter, if◌then◌else◌, length, nat_eq, take}
+use Rattle.std.specs.Char.{is_ascii_digit}
+use Rattle.std.specs.List.{list_all, list_any, slice_split}
+use Rattle.bib_text.specs.Characters as char
+use Rattle.bib_syntax.specs.Reading.{EntryReading}
+use Rattle.bib_findings.specs.Entries.{field_place}
+use Rattle.bib_findings.specs.Errors.{finding_at}
+use Rattle.bib_findings.specs.Fields.{named_message}
+use Rattle.bib_findings.specs.Identities.{own_literal}
+use Rattle.bib_findings.specs.declared.codes.Code.{Code}
+use Rattle.bib_findings.specs.declared.codes.Code.TheVariants as code
+use Rattle.bib_findings.specs.declared.finding.Finding.{Finding}
+
+-- whether a byte separates numbers: a comma, a semicolon, or one of the letters of the word `and`, none of which a number contains
+abbrev pub is_number_separator : ℕ → Bool
+is_number_separator b = list_any (λ one. b == one) (codes ",;and")
+
+-- whether a byte is a hyphen or a space, which separate the groups of a number
+abbrev pub is_group_separator : ℕ → Bool
+is_group_separator b = list_any (λ one. b == one) (codes "- ")
+
+-- whether a byte occurs in numbers: a digit, or `X` in either case
+abbrev pub is_digit_or_x : ℕ → Bool
+is_digit_or_x b = is_ascii_digit b || list_any (λ one. b == one) (codes "Xx")
+
+-- the digits of a number, without hyphens and spaces
+abbrev pub digits_of : List ℕ → List ℕ
+digits_of part = filter (λ b. not (is_group_separator b)) part
+
+-- the parts of a text that commas, semicolons and the word `and` separate
+abbrev pub number_parts : List ℕ → List (List ℕ)
+number_parts text = slice_split is_number_separator text
+
+-- whether a byte separates words: a space
+abbrev pub is_word_separator : ℕ → Bool
+is_word_separator b = b == char.space
+
+-- the words of a part, which spaces separate
+abbrev pub number_words : List ℕ → List (List ℕ)
+number_words part = slice_split is_word_separator part
+
+-- the value of a digit; any other byte, such as `X`, is 10
+abbrev pub digit_value : ℕ → ℕ
+digit_value b = if is_ascii_digit b then b - char.zero else 10
+
+-- the sum of the digits, each multiplied by the number of digits from it to the end: by 10 to 1 in an ISBN, by 8 to 1 in an ISSN
+abbrev pub descending_sum : List ℕ → ℕ
+descending_sum [] = 0
+descending_sum (b ∷ rest) = digit_value b * (length rest + 1) + descending_sum rest
+
+-- the sum of the digits, multiplied in turn by `weight` and by 4 less `weight`: from 1 on by 1, 3, 1, 3 ..
+abbrev pub alternating_sum : ℕ → List ℕ → ℕ
+alternating_sum weight [] = 0
+alternating_sum weight (b ∷ rest) = digit_value b * weight + alternating_sum (4 - weight) rest
+
+-- whether the check digit of an ISSN or of an ISBN of ten digits is right: the sum is a multiple of 11. Only this digit, the last one, may
+-- be `X`
+abbrev pub is_check_right_by_11 : List ℕ → Bool
+is_check_right_by_11 digits = list_all is_ascii_digit (take (length digits - 1) digits) && descending_sum digits % 11 == 0
+
+-- whether the check digit of an ISBN of 13 digits is right: the sum is a multiple of 10
+abbrev pub is_check_right_by_10 : List ℕ → Bool
+is_check_right_by_10 digits = list_all is_ascii_digit digits && alternating_sum 1 digits % 10 == 0
+
+-- whether digits are an ISBN
+abbrev pub is_isbn : List ℕ → Bool
+is_isbn digits = (nat_eq (length digits) 10 && is_check_right_by_11 digits) || (nat_eq (length digits) 13 && is_check_right_by_10 digits)
+
+-- whether digits are an ISSN
+abbrev pub is_issn : List ℕ → Bool
+is_issn digits = length digits == 8 && is_check_right_by_11 digits
+
+-- whether digits are a standard number: an ISSN if `is_serial` is true, or else an ISBN
+abbrev pub is_standard_number : Bool → List ℕ → Bool
+is_standard_number is_serial digits = if is_serial then is_issn digits else is_isbn digits
+
+-- whether the digits of a text aren't a standard number; a text without digits isn't wrong
+abbrev pub is_wrong_number : Bool → List ℕ → Bool
+is_wrong_number is_serial text =
+    not (length (digits_of text) == 0) && not (is_standard_number is_serial (digits_of text))
+
+-- whether a part is wrong: neither its digits are one number, nor those of each of its words
+abbrev pub is_wrong_part : Bool → List ℕ → Bool
+is_wrong_part is_serial part =
+    is_wrong_number is_serial part && list_any (is_wrong_number is_serial) (number_words part)
+
+-- whether a part contains only digits, `X`, hyphens and spaces
+abbrev pub is_numeric : List ℕ → Bool
+is_numeric part = list_all is_digit_or_x (digits_of part)
+
+-- whether these parts contain only numbers, and one of them is wrong
+abbrev pub has_wrong_among : Bool → List (List ℕ) → Bool
+has_wrong_among is_serial parts = list_all is_numeric parts && list_any (is_wrong_part is_serial) parts
+
+-- whether a text contains only numbers, and one of them is wrong; a text with other words isn't tested
+abbrev pub has_wrong_number : Bool → List ℕ → Bool
+has_wrong_number is_serial text = has_wrong_among is_serial (number_parts text)
+
+-- the code of a wrong number
+abbrev pub number_code : Bool → Code
+number_code is_serial = if is_serial then code.WrongIssn else code.WrongIsbn
+
+-- the finding of a field that contains a wrong number, at the field
+abbrev pub number_finding : EntryReading → Bool → List ℕ → Finding
+number_finding said is_serial name =
+    finding_at (number_code is_serial) (field_place said name)
+    (named_message said.key.text (codes "wrong length or check digit in ") name [])
+
+-- the finding of the field of this name of an entry, if it contains a wrong number: an ISSN if `is_serial` is true, or else an ISBN
+abbrev pub number_finding_of : EntryReading → Bool → List ℕ → List Finding
+number_finding_of said is_serial name =
+    if has_wrong_number is_serial (own_literal said name) then number_finding said is_serial name ∷ [] else []
+
+-- the findings of the wrong numbers of an entry
+abbrev pub number_findings : EntryReading → List Finding
+number_findings said = number_finding_of said false (codes "isbn") ++ number_finding_of said true (codes "issn")

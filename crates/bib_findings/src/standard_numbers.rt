@@ -1,0 +1,306 @@
+//! Standard numbers of books and of serials: ISBN (ISO 2108) and ISSN (ISO 3297), and findings of wrong ones.
+
+ghost use Rattle.std.specs.Prelude.{◌≡◌, ◌≤◌, ◌-◌, ◌*◌, ◌++◌, length, map, take, IfOk, OnOk};
+ghost use Rattle.std.specs.List.{list_all, list_any};
+ghost use Rattle.std.specs.Char.{is_ascii_digit};
+ghost use Rattle.bib_syntax.specs.Views.{entry_reading_of};
+ghost use Rattle.bib_findings.specs.StandardNumbers as spec;
+ghost use Rattle.bib_findings.specs.StandardNumbers.{number_finding, number_finding_of, number_findings};
+
+use crate::codes::Code;
+use crate::fields::named_message;
+use crate::finding::Finding;
+use crate::identities::own_literal;
+use crate::places::field_place;
+use bib_syntax::raw::RawEntry;
+use bib_text::spanned::Spanned;
+use bib_text::text::Text;
+use std::alloc::{AllocError, Global};
+
+// Returns whether a byte separates numbers: a comma, a semicolon, or one of the letters of the word `and`.
+fn is_number_separator(b: u8) -> bool
+    ensures { result ≡ spec.is_number_separator b }
+{
+    matches!(b, b',' | b';' | b'a' | b'n' | b'd')
+}
+
+// Returns whether a byte is a hyphen or a space, which separate the groups of a number.
+fn is_group_separator(b: u8) -> bool
+    ensures { result ≡ spec.is_group_separator b }
+{
+    b == b'-' || b == b' '
+}
+
+// Returns whether a byte occurs in numbers: a digit, or `X` in either case.
+fn is_digit_or_x(b: u8) -> bool
+    ensures { result ≡ spec.is_digit_or_x b }
+{
+    b.is_ascii_digit() || b == b'X' || b == b'x'
+}
+
+// Returns whether all bytes occur in numbers.
+fn are_digits_or_x(digits: &[u8]) -> bool
+    ensures { result ≡ list_all spec.is_digit_or_x digits.now }
+{
+    digits.iter().all(|b| is_digit_or_x(*b))
+}
+
+/// Returns whether all bytes are digits.
+pub(crate) fn are_digits(digits: &[u8]) -> bool
+    ensures { result ≡ list_all is_ascii_digit digits.now }
+{
+    digits.iter().all(|b| b.is_ascii_digit())
+}
+
+// Returns whether all bytes except the last one are digits.
+fn are_digits_before_last(digits: &[u8]) -> bool
+    ensures { result ≡ list_all is_ascii_digit (take (length digits.now - 1) digits.now) }
+{
+    match digits {
+        [first @ .., _] => are_digits(first),
+        [] => true,
+    }
+}
+
+// Returns the value of a digit; any other byte, such as `X`, is 10.
+fn digit_value(b: u8) -> usize
+    ensures value { result ≡ spec.digit_value b }
+    ensures small { result ≤ 10 }
+{
+    if b.is_ascii_digit() {
+        usize::from(b - b'0')
+    } else {
+        10
+    }
+}
+
+// Returns the value of a digit, multiplied by `weight`.
+fn weighted(b: u8, weight: usize) -> usize
+    requires { weight ≤ 13 }
+    ensures value { result ≡ spec.digit_value b * weight }
+    ensures small { result ≤ 130 }
+{
+    digit_value(b) * weight
+}
+
+// Returns the sum of the digits, each multiplied by the number of digits from it to the end.
+fn descending_sum(digits: &[u8]) -> usize
+    requires { length digits.now ≤ 13 }
+    ensures { result ≡ spec.descending_sum digits.now }
+{
+    let mut sum = 0;
+    let mut weight = digits.len();
+    'digits: for b in digits {
+        sum += weighted(*b, weight);
+        weight -= 1;
+    }
+    sum
+}
+
+// Returns the sum of the digits, multiplied in turn by 1 and by 3.
+fn alternating_sum(digits: &[u8]) -> usize
+    requires { length digits.now ≤ 13 }
+    ensures { result ≡ spec.alternating_sum 1 digits.now }
+{
+    let mut sum = 0;
+    let mut weight = 1;
+    'digits: for b in digits {
+        sum += weighted(*b, weight);
+        weight = 4 - weight;
+    }
+    sum
+}
+
+// Returns whether the check digit of an ISSN or of an ISBN of ten digits is right.
+fn is_check_right_by_11(digits: &[u8]) -> bool
+    requires { length digits.now ≤ 13 }
+    ensures { result ≡ spec.is_check_right_by_11 digits.now }
+{
+    are_digits_before_last(digits) && descending_sum(digits) % 11 == 0
+}
+
+// Returns whether the check digit of an ISBN of 13 digits is right.
+fn is_check_right_by_10(digits: &[u8]) -> bool
+    requires { length digits.now ≤ 13 }
+    ensures { result ≡ spec.is_check_right_by_10 digits.now }
+{
+    are_digits(digits) && alternating_sum(digits) % 10 == 0
+}
+
+// Returns whether digits are an ISBN.
+fn is_isbn(digits: &[u8]) -> bool
+    ensures { result ≡ spec.is_isbn digits.now }
+{
+    (digits.len() == 10 && is_check_right_by_11(digits))
+        || (digits.len() == 13 && is_check_right_by_10(digits))
+}
+
+// Returns whether digits are an ISSN.
+fn is_issn(digits: &[u8]) -> bool
+    ensures { result ≡ spec.is_issn digits.now }
+{
+    digits.len() == 8 && is_check_right_by_11(digits)
+}
+
+// Returns whether digits are a standard number: an ISSN if `is_serial` is true, or else an ISBN.
+fn is_standard_number(is_serial: bool, digits: &[u8]) -> bool
+    ensures { result ≡ spec.is_standard_number is_serial digits.now }
+{
+    if is_serial {
+        is_issn(digits)
+    } else {
+        is_isbn(digits)
+    }
+}
+
+// Returns the digits of a number, without hyphens and spaces.
+fn digits_of(alloc: Global, part: &[u8]) -> Result<Vec<u8>, AllocError>
+    ensures { IfOk result (λ digits. digits.items ≡ spec.digits_of part.now) }
+{
+    part.iter()
+        .copied()
+        .filter(|b| !is_group_separator(*b))
+        .collect(alloc)
+}
+
+// Returns whether the digits of a text aren't a standard number; a text without digits isn't wrong.
+fn is_wrong_number(alloc: Global, is_serial: bool, text: &[u8]) -> Result<bool, AllocError>
+    ensures { IfOk result (λ wrong. wrong ≡ spec.is_wrong_number is_serial text.now) }
+{
+    let digits = digits_of(alloc, text)?;
+    Ok(!digits.is_empty() && !is_standard_number(is_serial, &digits))
+}
+
+// Returns whether a byte separates words: a space.
+fn is_word_separator(b: u8) -> bool
+    ensures { result ≡ spec.is_word_separator b }
+{
+    b == b' '
+}
+
+// Returns the words of a part, which spaces separate.
+fn number_words(alloc: Global, part: &[u8]) -> Result<Vec<&[u8]>, AllocError>
+    ensures { IfOk result (λ words. map (λ word. word.now) words.items ≡ spec.number_words part.now) }
+{
+    part.split(|b| is_word_separator(*b)).collect(alloc)
+}
+
+// Returns whether the digits of one of these words aren't a standard number.
+fn has_wrong_word(alloc: Global, is_serial: bool, words: &[&[u8]]) -> Result<bool, AllocError>
+    ensures { IfOk result (λ wrong. wrong ≡ list_any (spec.is_wrong_number is_serial) (map (λ word. word.now) words.now)) }
+{
+    'words: for word in words {
+        if is_wrong_number(alloc, is_serial, word)? {
+            return Ok(true);
+        }
+    }
+    Ok(false)
+}
+
+// Returns whether a part is wrong: neither its digits are one number, nor those of each of its words.
+fn is_wrong_part(alloc: Global, is_serial: bool, part: &[u8]) -> Result<bool, AllocError>
+    ensures { IfOk result (λ wrong. wrong ≡ spec.is_wrong_part is_serial part.now) }
+{
+    if !is_wrong_number(alloc, is_serial, part)? {
+        return Ok(false);
+    }
+    let words = number_words(alloc, part)?;
+    has_wrong_word(alloc, is_serial, &words)
+}
+
+// Returns whether a part contains only digits, `X`, hyphens and spaces.
+fn is_numeric(alloc: Global, part: &[u8]) -> Result<bool, AllocError>
+    ensures { IfOk result (λ numeric. numeric ≡ spec.is_numeric part.now) }
+{
+    let digits = digits_of(alloc, part)?;
+    Ok(are_digits_or_x(&digits))
+}
+
+// Returns the parts of a text that commas, semicolons and the word `and` separate.
+fn number_parts(alloc: Global, text: &str) -> Result<Vec<&[u8]>, AllocError>
+    ensures { IfOk result (λ parts. map (λ part. part.now) parts.items ≡ spec.number_parts text.now) }
+{
+    text.as_bytes()
+        .split(|b| is_number_separator(*b))
+        .collect(alloc)
+}
+
+// Returns whether these parts contain only numbers, and one of them is wrong.
+fn has_wrong_among(alloc: Global, is_serial: bool, parts: &[&[u8]]) -> Result<bool, AllocError>
+    ensures { IfOk result (λ wrong. wrong ≡ spec.has_wrong_among is_serial (map (λ part. part.now) parts.now)) }
+{
+    let mut are_numeric = true;
+    let mut has_wrong = false;
+    'parts: for part in parts {
+        let numeric = is_numeric(alloc, part)?;
+        let wrong = is_wrong_part(alloc, is_serial, part)?;
+        are_numeric = are_numeric && numeric;
+        has_wrong = has_wrong || wrong;
+    }
+    Ok(are_numeric && has_wrong)
+}
+
+// Returns whether a text contains only numbers, and one of them is wrong: an ISSN if `is_serial` is true, or else an ISBN.
+fn has_wrong_number(alloc: Global, is_serial: bool, text: &str) -> Result<bool, AllocError>
+    ensures { IfOk result (λ wrong. wrong ≡ spec.has_wrong_number is_serial text.now) }
+{
+    let parts = number_parts(alloc, text)?;
+    has_wrong_among(alloc, is_serial, &parts)
+}
+
+// Returns the code of a wrong number.
+fn number_code(is_serial: bool) -> Code
+    ensures { result ≡ spec.number_code is_serial }
+{
+    if is_serial {
+        Code::WrongIssn
+    } else {
+        Code::WrongIsbn
+    }
+}
+
+// Returns the finding of a field that contains a wrong number.
+fn number_finding(
+    alloc: Global,
+    said: &Spanned<RawEntry<'_>>,
+    is_serial: bool,
+    name: &str,
+) -> Result<Finding, AllocError>
+    ensures { IfOk result (λ finding. finding ≡ number_finding (entry_reading_of said.now) is_serial name.now) }
+{
+    let before = "wrong length or check digit in ";
+    let message = named_message(alloc, said.v.key.v, before, name, "")?;
+    Ok(Finding {
+        code: number_code(is_serial),
+        span: field_place(said, name),
+        message: Text::from_string(message),
+    })
+}
+
+// Appends a finding if the field of this name of an entry contains a wrong number: an ISSN if `is_serial` is true, or else an ISBN.
+fn add_number(
+    alloc: Global,
+    found: &mut Vec<Finding>,
+    said: &Spanned<RawEntry<'_>>,
+    is_serial: bool,
+    name: &str,
+) -> Result<(), AllocError>
+    ensures { OnOk result (found.new.items ≡ found.old.items ++ number_finding_of (entry_reading_of said.now) is_serial name.now) }
+{
+    if has_wrong_number(alloc, is_serial, own_literal(said, name))? {
+        found.push(number_finding(alloc, said, is_serial, name)?)?;
+    }
+    Ok(())
+}
+
+/// Appends findings of the wrong numbers of an entry.
+pub(crate) fn add_numbers(
+    alloc: Global,
+    found: &mut Vec<Finding>,
+    said: &Spanned<RawEntry<'_>>,
+) -> Result<(), AllocError>
+    ensures { OnOk result (found.new.items ≡ found.old.items ++ number_findings (entry_reading_of said.now)) }
+{
+    add_number(alloc, found, said, false, "isbn")?;
+    add_number(alloc, found, said, true, "issn")
+}
