@@ -151,7 +151,8 @@ REASONS = [
            lambda it: is_emptied(it) and "no field left" in it.difference.after),
     Reason(RULE, "an edit is refused beside a text in quotes whose braces don't balance", ".*", "bibkit", "refused",
            lambda it: "braces of this text in quotes" in it.difference.after),
-    Reason(FAULT, "an abbreviation isn't shorter than its text", "collect", "bytes", "long name"),
+    Reason(FAULT, "an abbreviation with a number isn't shorter than its text", "collect", "bytes", "long name",
+           lambda it: it.difference.name[-1].isdigit()),
     Reason(RULE, "a comment after the field goes with it", "unset.*|resolve", "bytes", "comment lost"),
 ]
 

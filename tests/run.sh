@@ -19,7 +19,7 @@ mv "$room/crates/bib" "$room/crates/bib_commands"
 find "$room/crates/tests" -name '*.rs' | while IFS= read -r file; do mv "$file" "${file%.rs}.rt"; done
 cp -r tests/rows HANDLES "$room/"
 python3 tests/expected.py "$room"/rows/*.stdout
-libraries=$(cd "$room" && ls -d crates/*/src/lib.rt | cut -d/ -f2 | grep -vx -e tests -e guide)
+libraries=$(cd "$room" && ls -d crates/*/src/lib.rt | cut -d/ -f2 | grep -vx -e tests -e guide -e bibkit_commands)
 { grep -v '^#\|^guide:' crates.txt | sed 's/^bib:/bib_commands:/; s/ staticlib:/:/'; echo "tests: sha2" $libraries; } > "$room/crates.txt"
 cd "$room/crates/tests"
 rt try --seconds 300 --cases "$room/rows" > "$room/answers" 2>&1 & rows=$!

@@ -500,6 +500,8 @@ printf '@misc{b,}\n@misc{c,}\n%% mail me@example.org\n@misc{a,}\n' >mail.bib
 run 'no entry moves over an at sign of a comment' 0 $'@misc{b,\n}\n@misc{c,\n}\n% mail me@example.org\n@misc{a,\n}\n' fmt --sort key mail.bib
 printf '@misc{b,}\n@book{z,}\n@misc{a,}\n' >ties.bib
 run 'entries of one type keep their order' 0 $'@book{z,\n}\n@misc{b,\n}\n@misc{a,\n}\n' fmt --sort type ties.bib
+printf '@misc{a,}\n@book{b,}\n@article{A,}\n' >onekey.bib
+run 'entries with one key, in any case, keep their order' 0 $'@book{b,\n}\n@misc{a,\n}\n@article{A,\n}\n' fmt --sort type onekey.bib
 printf '@misc{b,}\n\n\n@misc{a,}@misc{c,}\n' >gaps.bib
 run 'white space stays where it is' 0 $'@misc{a,\n}\n\n\n@misc{b,\n}@misc{c,\n}\n' fmt --sort key gaps.bib
 run 'blank lines between entries in order' 0 $'@misc{a,\n}\n\n@misc{b,\n}\n\n@misc{c,\n}\n' fmt --sort key --blank-lines 1 gaps.bib
@@ -524,8 +526,50 @@ run 'two fields are taken out' 0 $'@misc{a, title={A}, author={B}}\n\n@misc{b, a
 run 'a key is renamed' 0 $'@misc{a, title={A}, author={B}}\n\n@misc{c, title={x y}, author={Knuth, D.}, year={1984}}\n' rename b c -f two.bib
 printf '@misc{a, t={A}}\n@misc{b, crossref={a}, xdata = "c, a", note={a}}\n' >naming.bib
 run 'a key is renamed with its references' 0 $'@misc{z, t={A}}\n@misc{b, crossref={z}, xdata = {c, z}, note={a}}\n' rename a z -f naming.bib
+# BibTeX and Biber find `old` by these references, except by those of c4, c7 and c8, and by that of c3 only BibTeX
+cat >left.bib <<'BIB'
+@string{abbr = "old"}
+@string{o = "o"}
+@string{both = {x, } # abbr}
+@inbook{c1, title={T1}, crossref = abbr}
+@inbook{c2, title={T2}, crossref = "o" # "ld"}
+@inbook{c3, title={T3}, CrossRef = O # {LD}}
+@inbook{c4, title={T4}, xref = O # {LD}}
+@misc{c5, title={T5}, related = both # { , z}}
+@inbook{c6, title={T6}, crossref = nope # ABBR}
+@inbook{c7, title={T7}, crossref = later}
+@misc{c8, title={T8}, note = abbr, crossref = {old}}
+@string{later = {old}}
+@inbook{c9, title={T9}, crossref = later}
+@book{old, title={Old}}
+BIB
+left_notes=$'left.bib:4:25: note: `crossref` of entry `c1` names `old` by an abbreviation or in parts, so it isn\'t changed
+left.bib:5:25: note: `crossref` of entry `c2` names `old` by an abbreviation or in parts, so it isn\'t changed
+left.bib:6:25: note: `CrossRef` of entry `c3` names `oLD` by an abbreviation or in parts, so it isn\'t changed
+left.bib:8:23: note: `related` of entry `c5` names `old` by an abbreviation or in parts, so it isn\'t changed
+left.bib:9:25: note: `crossref` of entry `c6` names `old` by an abbreviation or in parts, so it isn\'t changed
+left.bib:13:25: note: `crossref` of entry `c9` names `old` by an abbreviation or in parts, so it isn\'t changed
+'
+run 'a key that references name in parts' 0 "$(sed 's/{old,/{new,/; s/crossref = {old}/crossref = {new}/' left.bib)"$'\n' rename old new -f left.bib
+run_messages 'references that name a renamed key in parts are reported' 0 "$left_notes" rename old new -f left.bib
+run_messages 'a key that stays is reported by no note' 0 '' rename old old -f left.bib
+run_messages 'a key that no entry has is reported by no note' 1 $'bibkit: left.bib: `none` to `new`: no entry has the key\n' rename none new -f left.bib
+run_messages 'other edits have no notes' 0 '' set old year=1 -f left.bib
+# Biber reads a definition that uses its own name as `old`, and both programs read a name before its definition as an empty text
+cat >early.bib <<'BIB'
+@string{a = {o}}
+@string{a = a # {ld}}
+@string{b = c # {old}}
+@string{c = {x}}
+@book{old, title={Old}}
+@inbook{c1, title={T1}, crossref = a}
+@inbook{c2, title={T2}, crossref = b}
+BIB
+run_messages 'references by definitions with early uses' 0 $'early.bib:6:25: note: `crossref` of entry `c1` names `old` by an abbreviation or in parts, so it isn\'t changed
+early.bib:7:25: note: `crossref` of entry `c2` names `old` by an abbreviation or in parts, so it isn\'t changed
+' rename old new -f early.bib
 printf '@misc{a, note={A}, t={B}, NOTE={C}}\n' >twice.bib
-run 'a field that is there twice is taken out' 0 $'@misc{a, t={B}, }\n' unset a note -f twice.bib
+run 'a field that is there twice is taken out' 0 $'@misc{a, t={B},}\n' unset a note -f twice.bib
 printf '@book{k,\n  author = {A},\n  %% about the title\n  title = {T},\n  %% about the year\n  year = 2000,\n}\n' >comments.bib
 run 'a field between two comments' 0 $'@book{k,\n  author = {A},\n  % about the title % about the year\n  year = 2000,\n}\n' unset k title -f comments.bib
 run 'the last field after a comment' 0 $'@book{k,\n  author = {A},\n  % about the title\n  title = {T},\n  % about the year\n}\n' unset k year -f comments.bib
@@ -539,7 +583,8 @@ printf '@book{k,\n  author = {A}, %% one\n  title = {T}, %% two\n  year = 2000 \
 run 'a comment on the same line' 0 $'@book{k,\n  author = {A}, % one % two\n  year = 2000 \n}\n' unset k title -f beside.bib
 run 'a last field without a comma, after a comment' 0 $'@book{k,\n  author = {A}, % one\n  title = {T}, % two\n}\n' unset k year -f beside.bib
 printf '@book{k,\n  note = {A},\n  %% about the title\n  title = {T},\n  %% about the note\n  note = {B},\n  %% about the year\n  year = 2000,\n}\n' >notes.bib
-run 'several fields with the name, and comments' 0 $'@book{k,\n  title = {T},\n  % about the note\n  year = 2000,\n}\n' unset k note -f notes.bib
+run 'several fields with the name, and comments' 0 \
+    $'@book{k,\n  % about the title\n  title = {T},\n  % about the note % about the year\n  year = 2000,\n}\n' unset k note -f notes.bib
 run 'an entry is taken out' 0 $'@misc{b, title={x y}, author={Knuth, D.}, year={1984}}\n' remove a -f two.bib
 run 'all entries are taken out' 0 '' remove a b -f two.bib
 printf '@misc{c, title={C}}\n' >input
@@ -633,34 +678,34 @@ refuses 'abbreviations of a file with an error' 1 $'broken.bib:3:1: error: expec
 refuses 'abbreviations of a file that is not there' 2 $'bibkit: no.bib: there is no such file\n' strings --expand -f no.bib
 
 # abbreviations of texts that repeat
-for key in a b; do printf '@article{%s, journal = {Journal of the ACM}, publisher=@, note={n}}\n' $key; done | sed '1s/@,/{ACM},/; 2s/@,/"ACM",/' >collect.bib
-printf '@article{c, journal = {Journal of the ACM}, series={S}, note={n}}\n' >>collect.bib
+for key in a b; do printf '@article{%s, journal = {Journal of the ACM}, publisher=@, note={n o}}\n' $key; done | sed '1s/@,/{ACM Press},/; 2s/@,/"ACM Press",/' >collect.bib
+printf '@article{c, journal = {Journal of the ACM}, series={S}, note={n o}}\n' >>collect.bib
 run 'texts that repeat are collected' 0 '@string{jota = {Journal of the ACM}}
-@string{acm = {ACM}}
-@article{a, journal = jota, publisher=acm, note={n}}
-@article{b, journal = jota, publisher=acm, note={n}}
-@article{c, journal = jota, series={S}, note={n}}
+@string{ap = {ACM Press}}
+@article{a, journal = jota, publisher=ap, note={n o}}
+@article{b, journal = jota, publisher=ap, note={n o}}
+@article{c, journal = jota, series={S}, note={n o}}
 ' strings --collect -f collect.bib
 run 'texts that repeat three times' 0 '@string{jota = {Journal of the ACM}}
-@article{a, journal = jota, publisher={ACM}, note={n}}
-@article{b, journal = jota, publisher="ACM", note={n}}
-@article{c, journal = jota, series={S}, note={n}}
+@article{a, journal = jota, publisher={ACM Press}, note={n o}}
+@article{b, journal = jota, publisher="ACM Press", note={n o}}
+@article{c, journal = jota, series={S}, note={n o}}
 ' strings --collect --at-least 3 -f collect.bib
-run 'texts of other fields, in any case' 0 '@string{acm = {ACM}}
-@string{n = {n}}
-@article{a, journal = {Journal of the ACM}, publisher=acm, note=n}
-@article{b, journal = {Journal of the ACM}, publisher=acm, note=n}
-@article{c, journal = {Journal of the ACM}, series={S}, note=n}
+run 'texts of other fields, in any case' 0 '@string{ap = {ACM Press}}
+@string{no = {n o}}
+@article{a, journal = {Journal of the ACM}, publisher=ap, note=no}
+@article{b, journal = {Journal of the ACM}, publisher=ap, note=no}
+@article{c, journal = {Journal of the ACM}, series={S}, note=no}
 ' strings --collect --fields publisher,NOTE -f collect.bib
 run 'texts that repeat four times' 0 "$(cat collect.bib)"$'\n' strings --collect --at-least 4 -f collect.bib
 run 'nothing repeats' 0 "$(cat two.bib)"$'\n' strings --collect -f two.bib
 "$program" strings --collect -f collect.bib >collected.bib
 run 'what is collected stays' 0 "$(cat collected.bib)"$'\n' strings --collect -f collected.bib
 run 'what is collected is written out' 0 '@string{jota = {Journal of the ACM}}
-@string{acm = {ACM}}
-@article{a, journal = {Journal of the ACM}, publisher={ACM}, note={n}}
-@article{b, journal = {Journal of the ACM}, publisher={ACM}, note={n}}
-@article{c, journal = {Journal of the ACM}, series={S}, note={n}}
+@string{ap = {ACM Press}}
+@article{a, journal = {Journal of the ACM}, publisher={ACM Press}, note={n o}}
+@article{b, journal = {Journal of the ACM}, publisher={ACM Press}, note={n o}}
+@article{c, journal = {Journal of the ACM}, series={S}, note={n o}}
 ' strings --expand -f collected.bib
 # names: one that the file defines, one that it uses, a month's, one of another text, none of letters
 while IFS='|' read -r name before text words; do
@@ -670,23 +715,25 @@ while IFS='|' read -r name before text words; do
 @book{b, publisher=$name$words}
 " strings --collect -f named.bib
 done <<'ROWS'
-acm||ACM|
-acm2|@string{acm = {x}} |ACM|
-acm2||ACM|, note=acm
-acm2|@string{other = acm} |ACM|
-acm2|@string{ACM = {x}} |ACM|
-acm2||ACM|, note=Acm
-jan2||Jan|
+acm||A.C.M.|
+acm2|@string{acm = {x}} |A.C.M.|
+acm2||A.C.M.|, note=acm
+acm2|@string{other = acm} |A.C.M.|
+acm2|@string{ACM = {x}} |A.C.M.|
+acm2||A.C.M.|, note=Acm
+jan2||Jan.|
 s||12|
 abcdefgh||Abcdefghij|
 apc||Addison-Wesley Publishing {Company}|, note={apc}
 ROWS
-printf '@book{a, publisher={ACM}, series={A C M}}\n@book{b, publisher={ACM}, series={A C M}}\n' >named.bib
-run 'two texts with the same letters' 0 $'@string{acm = {ACM}}\n@string{acm2 = {A C M}}\n@book{a, publisher=acm, series=acm2}\n@book{b, publisher=acm, series=acm2}\n' strings --collect -f named.bib
+printf '@book{a, publisher={A.C.M.}, series={A C M}}\n@book{b, publisher={A.C.M.}, series={A C M}}\n' >named.bib
+run 'two texts with the same letters' 0 $'@string{acm = {A.C.M.}}\n@string{acm2 = {A C M}}\n@book{a, publisher=acm, series=acm2}\n@book{b, publisher=acm, series=acm2}\n' strings --collect -f named.bib
 printf '@book{a, publisher={\\{}, series={S} # {T}}\n@book{b, publisher={\\{}, series={S} # {T}}\n' >uncollected.bib
 run 'texts whose braces BibTeX counts in another way, and joined ones, stay' 0 "$(cat uncollected.bib)"$'\n' strings --collect -f uncollected.bib
-printf '\xef\xbb\xbf@book{a, publisher={X}}\n@book{b, publisher={X}}\n' >collect-mark.bib
-run 'definitions stand after a byte order mark' 0 $'\xef\xbb\xbf@string{x = {X}}\n@book{a, publisher=x}\n@book{b, publisher=x}\n' strings --collect -f collect-mark.bib
+printf '@book{a, publisher={ACM}, series={}}\n@book{b, publisher={ACM}, series={}}\n' >short.bib
+run 'texts that are no longer than their names stay' 0 "$(cat short.bib)"$'\n' strings --collect -f short.bib
+printf '\xef\xbb\xbf@book{a, publisher={X Y}}\n@book{b, publisher={X Y}}\n' >collect-mark.bib
+run 'definitions stand after a byte order mark' 0 $'\xef\xbb\xbf@string{xy = {X Y}}\n@book{a, publisher=xy}\n@book{b, publisher=xy}\n' strings --collect -f collect-mark.bib
 printf '%% Encoding: UTF-8\r\n@string{acm = {ACM}}\r\n\r\n@book{a, publisher={ACM}, series={A B}}\r\n@book{b, publisher={ACM}, series={A B}}\r\n' >reused.bib
 run 'a definition is used again, and new lines are before the first entry' 0 $'% Encoding: UTF-8\r\n@string{acm = {ACM}}\r\n\r\n@string{ab = {A B}}\r\n@book{a, publisher=acm, series=ab}\r\n@book{b, publisher=acm, series=ab}\r\n' strings --collect -f reused.bib
 run 'abbreviations, and nothing that is done with them' 2 '' strings -f two.bib
@@ -716,13 +763,13 @@ run 'the difference of standard input' 0 $'--- -\n+++ -\n@@ -1,3 +1,1 @@\n-@misc
 run 'the difference of strings' 0 '--- collect.bib
 +++ collect.bib
 @@ -1,3 +1,4 @@
--@article{a, journal = {Journal of the ACM}, publisher={ACM}, note={n}}
--@article{b, journal = {Journal of the ACM}, publisher="ACM", note={n}}
--@article{c, journal = {Journal of the ACM}, series={S}, note={n}}
+-@article{a, journal = {Journal of the ACM}, publisher={ACM Press}, note={n o}}
+-@article{b, journal = {Journal of the ACM}, publisher="ACM Press", note={n o}}
+-@article{c, journal = {Journal of the ACM}, series={S}, note={n o}}
 +@string{jota = {Journal of the ACM}}
-+@article{a, journal = jota, publisher={ACM}, note={n}}
-+@article{b, journal = jota, publisher="ACM", note={n}}
-+@article{c, journal = jota, series={S}, note={n}}
++@article{a, journal = jota, publisher={ACM Press}, note={n o}}
++@article{b, journal = jota, publisher="ACM Press", note={n o}}
++@article{c, journal = jota, series={S}, note={n o}}
 ' strings --collect --at-least 3 -f collect.bib --diff
 { printf '@string{s = {x}}\n@misc{k1, t = s}\n'; for i in 2 3 4 5 6 7 8 9; do printf '@misc{k%d, t = %d}\n' $i $i; done; printf '@misc{k10, t = s}\n'; } >far.bib
 run 'differences that are far from one another' 0 '--- far.bib
@@ -1155,7 +1202,7 @@ ID  - tex
 ER  - 
 
 TY  - BOOK
-TI  - A \emph{b} & <c>
+TI  - A b & <c>
 CY  - Paris
 ID  - m
 ER  - 
@@ -1209,7 +1256,7 @@ run 'items with what BibLaTeX inherits' 0 "[
 $inherited
 ]
 " convert --to csl --where 'key = c' parents.bib
-run 'records with what BibLaTeX inherits' 0 $'TY  - CPAPER\nTI  - T\nT2  - P\nPY  - 2020\nCY  - Paris\nID  - c\nER  - \n\n' convert --to ris --where 'key = c' parents.bib
+run 'records with what BibLaTeX inherits' 0 $'TY  - CPAPER\nTI  - T\nT2  - P: Sub\nBT  - P: Sub\nPY  - 2020\nCY  - Paris\nID  - c\nER  - \n\n' convert --to ris --where 'key = c' parents.bib
 run 'items of entries that meet two conditions' 0 $'[\n{"id":"m","title":"M","type":"document"}\n]\n' convert --to csl --where 'not has year' --where 'title = M' parents.bib
 run 'JSON of entries that meet a condition' 0 $'[\n{"fields":{"title":{"chunks":[{"end":71,"kind":"normal","start":70,"text":"M"}]}},"key":"m","type":"misc"}\n]\n' convert --to json --where 'type = misc' parents.bib
 run 'no entry meets the condition' 1 $'[]\n' convert --to csl --where 'type = book' parents.bib
@@ -1487,7 +1534,13 @@ run_messages 'keys do not follow the pattern' 1 $'rekeyed.bib:1:7: error: the ke
 rekeyed.bib:2:9: error: the key of `ka` isn\'t `k84a`
 ' rekey --pattern 'k{year:2}' --check -f rekeyed.bib
 printf '@misc{a, title={Tea}}\n@misc{b, title={Bee}, ids={TEA}}\n' >taken.bib
-run_messages 'a new key that is an alias' 1 $'bibkit: taken.bib: an entry has the name already, as its key or in its field `ids`\n' rekey --pattern '{title}' -f taken.bib
+run_messages 'a new key that is an alias' 1 $'bibkit: taken.bib: `a` to `tea`: entry `b` has the name already, as its key or in its field `ids`\n' rekey --pattern '{title}' -f taken.bib
+printf '@misc{a, title={Milk}, ids={x, tea}}\n@misc{b, title={Tea}}\n' >claimed.bib
+run_messages 'a new key that is an alias of an earlier entry' 1 $'bibkit: claimed.bib: `b` to `tea`: entry `a` has the name already, as its key or in its field `ids`\n' rekey --pattern '{title}' -f claimed.bib
+printf '@misc{a, title={Tea}}\n@xdata{TEA, note={N}}\n' >kept.bib
+run_messages 'a new key that is a key that stays' 1 $'bibkit: kept.bib: `a` to `tea`: entry `TEA` has the name already, as its key or in its field `ids`\n' rekey --pattern '{title}' -f kept.bib
+printf '@misc{a, title={Tea}, ids={tea}}\n' >own.bib
+run_messages 'a new key that is an own alias' 1 $'bibkit: own.bib: `a` to `tea`: entry `a` has the name already, as its key or in its field `ids`\n' rekey --pattern '{title}' -f own.bib
 run 'the map of refused keys is not printed' 1 '' rekey --pattern '{title}' --map -f taken.bib
 printf '@xdata{x, title={T}}\n@set{s, entryset={a}}\n@misc{a, title={Tea}, xdata={x}}\n' >data.bib
 run 'keys of data of other entries' 0 $'@xdata{x, title={T}}\n@set{s, entryset={tea}}\n@misc{tea, title={Tea}, xdata={x}}\n' rekey --pattern '{title}' -f data.bib
@@ -1498,6 +1551,14 @@ cat >dangling.bib <<'BIB'
 BIB
 run 'a reference that gets an entry' 0 $'@misc{old, title={Old}}\n@misc{new, title={New}, related={old, x}}\n' rekey --pattern '{title}' -f dangling.bib
 run_messages 'a reference that gets an entry is reported' 0 $'dangling.bib:2:7: note: the reference to `old` led to no entry, and now leads to one with this new key\n' rekey --pattern '{title}' -f dangling.bib
+cat >parts.bib <<'BIB'
+@string{b = {b}}
+@misc{a, title={Old}, related={b}}
+@misc{b, title={New}, related={a,} # b, xdata = a}
+@misc{c, title={Tea}, related={te} # {a}, xref = {x} # b}
+BIB
+run_messages 'references that name rekeyed entries in parts are reported' 0 $'parts.bib:3:23: note: `related` of entry `b` names `a` by an abbreviation or in parts, so it isn\'t changed\n' rekey --pattern '{title}' -f parts.bib
+run 'their keys are checked without notes' 1 '' rekey --pattern '{title}' --check -f parts.bib
 run 'a check and a map of keys' 2 '' rekey --check --map -f rekey.bib
 run 'a check of keys that writes' 2 '' rekey --check --write -f rekey.bib
 run 'a map of keys and a diff' 2 '' rekey --map --diff -f rekey.bib

@@ -49,33 +49,35 @@ pub pages_end : (out total : List ℕ) (before : Bool) (u : Place) → AtEnd u
 pages_end out total before u end given = ap (λ cs. out ++ pages_from before cs) (sym (chars_at_end u end)) ∙ given
 
 -- a character of a text with tags
-pub marked_step : (out more total : List ℕ) (tags next : List (List ℕ)) (name after : Option (List ℕ)) {u x : Place}
+pub marked_step : (has_tags : Bool) (out more total : List ℕ) (tags next : List (List ℕ)) (name after : Option (List ℕ)) {u x : Place}
     {c : ℕ} → CharAt u c x → IsUtf8 (ahead u)
-    → more ≡ out ++ said tags name c → next ≡ open_after tags name c → after ≡ name_after name c
-    → out ++ marked_from tags name (chars (ahead u)) ≡ total
-    → (x.text ≡ u.text) × IsUtf8 (ahead x) × (more ++ marked_from next after (chars (ahead x)) ≡ total)
-marked_step out more total tags next name after {u} {x} {c} char utf8 wrote opened given_names before =
+    → more ≡ out ++ said has_tags tags name c → next ≡ open_after tags name c → after ≡ name_after name c
+    → out ++ marked_from has_tags tags name (chars (ahead u)) ≡ total
+    → (x.text ≡ u.text) × IsUtf8 (ahead x) × (more ++ marked_from has_tags next after (chars (ahead x)) ≡ total)
+marked_step has_tags out more total tags next name after {u} {x} {c} char utf8 wrote opened given_names before =
     let passed : MovesPast u (c ∷ []) x = passed_char char utf8 in
-    let rest = marked_from (open_after tags name c) (name_after name c) (chars (ahead x)) in (
+    let rest = marked_from has_tags (open_after tags name c) (name_after name c) (chars (ahead x)) in (
       passed.same,
       passed.utf8,
-      ap₂ (λ t n. more ++ marked_from t n (chars (ahead x))) opened given_names ∙ ap (λ o. o ++ rest) wrote
-          ∙ append_assoc out (said tags name c) rest
-          ∙ ap (λ cs. out ++ marked_from tags name cs) (sym passed.spelt) ∙ before,
+      ap₂ (λ t n. more ++ marked_from has_tags t n (chars (ahead x))) opened given_names ∙ ap (λ o. o ++ rest) wrote
+          ∙ append_assoc out (said has_tags tags name c) rest
+          ∙ ap (λ cs. out ++ marked_from has_tags tags name cs) (sym passed.spelt) ∙ before,
     )
 
 -- its end
-pub marked_end : (out total : List ℕ) (tags : List (List ℕ)) (name : Option (List ℕ)) (u : Place) → AtEnd u
-    → out ++ marked_from tags name (chars (ahead u)) ≡ total → out ++ said_last tags name ≡ total
-marked_end out total tags name u end before = ap (λ cs. out ++ marked_from tags name cs) (sym (chars_at_end u end)) ∙ before
+pub marked_end : (has_tags : Bool) (out total : List ℕ) (tags : List (List ℕ)) (name : Option (List ℕ)) (u : Place) → AtEnd u
+    → out ++ marked_from has_tags tags name (chars (ahead u)) ≡ total → out ++ said_last has_tags tags name ≡ total
+marked_end has_tags out total tags name u end before =
+    ap (λ cs. out ++ marked_from has_tags tags name cs) (sym (chars_at_end u end)) ∙ before
 
 -- the tag of the innermost brace that is left
-pub ended_step : (out more total : List ℕ) (tag : List ℕ) (old new : List (List ℕ)) → old ≡ new ++ tag ∷ []
-    → more ≡ out ++ unwrap_or (closing_tag tag) [] → out ++ all_ended (reverse old) ≡ total
-    → more ++ all_ended (reverse new) ≡ total
-ended_step out more total tag old new is wrote before =
-    ap (λ o. o ++ all_ended (reverse new)) wrote ∙ append_assoc out (unwrap_or (closing_tag tag) []) (all_ended (reverse new))
-    ∙ ap (λ l. out ++ all_ended l) (sym (ap reverse is ∙ reverse-append new (tag ∷ []))) ∙ before
+pub ended_step : (has_tags : Bool) (out more total : List ℕ) (tag : List ℕ) (old new : List (List ℕ)) → old ≡ new ++ tag ∷ []
+    → more ≡ out ++ unwrap_or (closing_tag has_tags tag) [] → out ++ all_ended has_tags (reverse old) ≡ total
+    → more ++ all_ended has_tags (reverse new) ≡ total
+ended_step has_tags out more total tag old new is wrote before =
+    ap (λ o. o ++ all_ended has_tags (reverse new)) wrote
+    ∙ append_assoc out (unwrap_or (closing_tag has_tags tag) []) (all_ended has_tags (reverse new))
+    ∙ ap (λ l. out ++ all_ended has_tags l) (sym (ap reverse is ∙ reverse-append new (tag ∷ []))) ∙ before
 
 -- a character whose bytes are no backslash, brace or tilde is none of these
 no_backslash : list_all is_unmarked (encode 92) ≡ false
@@ -99,9 +101,9 @@ untie_same : (c : ℕ) → list_all is_unmarked (encode c) ≡ true → untie c 
 unfolding untie
 untie_same c good = rw (not_this is_unmarked 126 c no_tilde good) refl
 
-said_same : (c : ℕ) → list_all is_unmarked (encode c) ≡ true → said [] None c ≡ encode c
+said_same : (has_tags : Bool) (c : ℕ) → list_all is_unmarked (encode c) ≡ true → said has_tags [] None c ≡ encode c
 unfolding said said_plainly shown_in is_address
-said_same c good =
+said_same has_tags c good =
     rw (not_this is_unmarked 92 c no_backslash good)
     (rw (not_this is_unmarked 125 c no_close_brace good) (untie_same c good))
 
@@ -121,19 +123,20 @@ loosened_same : (cs : List ℕ) → list_all is_unmarked (encodes cs) ≡ true �
 loosened_same [] h = refl
 loosened_same (c ∷ cs) h = let p = both is_unmarked c cs h in ap₂ (λ a b. a ++ b) (loosen_same c p.0) (loosened_same cs p.1)
 
-marked_same : (cs : List ℕ) → list_all is_unmarked (encodes cs) ≡ true → marked_from [] None cs ≡ encodes cs
+marked_same : (has_tags : Bool) (cs : List ℕ) → list_all is_unmarked (encodes cs) ≡ true → marked_from has_tags [] None cs ≡ encodes cs
 unfolding said_last
-marked_same [] h = refl
-marked_same (c ∷ cs) h =
+marked_same has_tags [] h = refl
+marked_same has_tags (c ∷ cs) h =
     let p = both is_unmarked c cs h in
-    ap₂ (λ a b. a ++ b) (said_same c p.0) (ap₂ (λ t n. marked_from t n cs) (open_same c p.0) (name_same c p.0) ∙ marked_same cs p.1)
+    ap₂ (λ a b. a ++ b) (said_same has_tags c p.0)
+    (ap₂ (λ t n. marked_from has_tags t n cs) (open_same c p.0) (name_same c p.0) ∙ marked_same has_tags cs p.1)
 
 -- a text without such bytes stays
 pub loosened_stays : (bs : List ℕ) → IsUtf8 bs → list_all is_unmarked bs ≡ true → bs ≡ loosened (chars bs)
 loosened_stays bs utf8 h =
     let spelt = encodes-chars bs utf8 in sym (loosened_same (chars bs) (ap (list_all is_unmarked) spelt ∙ h) ∙ spelt)
 
-pub marked_stays : (bs : List ℕ) → IsUtf8 bs → list_all is_unmarked bs ≡ true → bs ≡ marked_text (chars bs)
+pub marked_stays : (has_tags : Bool) (bs : List ℕ) → IsUtf8 bs → list_all is_unmarked bs ≡ true → bs ≡ marked_text has_tags (chars bs)
 unfolding marked_text
-marked_stays bs utf8 h =
-    let spelt = encodes-chars bs utf8 in sym (marked_same (chars bs) (ap (list_all is_unmarked) spelt ∙ h) ∙ spelt)
+marked_stays has_tags bs utf8 h =
+    let spelt = encodes-chars bs utf8 in sym (marked_same has_tags (chars bs) (ap (list_all is_unmarked) spelt ∙ h) ∙ spelt)

@@ -5,11 +5,11 @@ use Rattle.std.specs.Char.{is_ascii_digit}
 use Rattle.std.specs.List.{list_all}
 use Rattle.std.specs.Option.{option_map, unwrap_or}
 use Rattle.std.specs.Ordering.{int_cmp, is_lt}
+use Rattle.std.specs.Str.{trim}
 use Rattle.bib_text.specs.Characters as char
 use Rattle.bib_chunks.specs.Values.{Value, text}
 use Rattle.bib_dates.specs.Chunks.{date_read, three_fields_reading}
 use Rattle.bib_dates.specs.Readings.{readable_value}
-use Rattle.bib_dates.specs.Written.{datetime_text}
 use Rattle.bib_dates.specs.declared.date.Date.{Date}
 use Rattle.bib_dates.specs.declared.date.DateValue.{DateValue}
 use Rattle.bib_dates.specs.declared.date.DateValue.TheVariants.{At, After, Before, Between}
@@ -36,23 +36,20 @@ from_one n = n + 1
 unfoldable pub parts_of_date : Datetime → DateParts
 parts_of_date d = record { year = csl_year d.year; month = option_map from_one d.month; day = option_map from_one d.day }
 
--- the dates of a date or a range: one, or two for a range with a start and an end
+-- the date in place of the open side of a range: citation processors print nothing for it. CSL counts no year as 0.
+abbrev pub open_side : DateParts
+open_side = record { year = pos 0; month = None; day = None }
+
+-- the dates of a date or a range: one, or two for a range
 unfoldable pub parts_of_value : DateValue → List DateParts
 parts_of_value (At d) = parts_of_date d ∷ []
-parts_of_value (After d) = parts_of_date d ∷ []
-parts_of_value (Before d) = parts_of_date d ∷ []
+parts_of_value (After d) = parts_of_date d ∷ open_side ∷ []
+parts_of_value (Before d) = open_side ∷ parts_of_date d ∷ []
 parts_of_value (Between a b) = parts_of_date a ∷ parts_of_date b ∷ []
-
--- the text of a range with an open side (ISO 8601-2), such as `2020/..`
-unfoldable pub open_text : DateValue → Option (List ℕ)
-open_text (At d) = None
-open_text (After d) = Some (datetime_text d ++ codes "/..")
-open_text (Before d) = Some (codes "../" ++ datetime_text d)
-open_text (Between a b) = None
 
 -- the date of an item for a parsed date
 unfoldable pub date_item : Date → ItemDate
-date_item d = record { parts = parts_of_value d.value; season = None; circa = d.uncertain || d.approximate; literal = open_text d.value }
+date_item d = record { parts = parts_of_value d.value; season = None; circa = d.uncertain || d.approximate; literal = None }
 
 -- the date of an item for a text that can't be parsed as a date
 unfoldable pub literal_item : List ℕ → ItemDate
@@ -103,10 +100,23 @@ read_or_unread None text = unread text
 abbrev pub month_and_year : Option Value → Value → List ℕ
 month_and_year month year = joined (codes " ") (shown_field month) (text year)
 
+-- a text without the hyphen before it, if it has one
+abbrev pub without_hyphen : List ℕ → List ℕ
+without_hyphen [] = []
+without_hyphen (b ∷ rest) = if b == char.hyphen then rest else b ∷ rest
+
+-- whether a text is a year and nothing else, unlike `1943-1978` or `7 May 2021`
+unfoldable pub is_year : List ℕ → Bool
+is_year text = list_all is_ascii_digit (without_hyphen (trim text))
+
+-- the date that a year, a month and a day are parsed as, if the year is a year and nothing else
+unfoldable pub three_fields_read : Value → Option Value → Option Value → Option Date
+three_fields_read year month day = if is_year (text year) then readable_value (three_fields_reading year month day) else None
+
 -- the date of an item for a year, and the month and the day if they are given
 unfoldable pub three_fields_item : Option Value → Option Value → Option Value → Option ItemDate
 three_fields_item None month day = None
-three_fields_item (Some year) month day = read_or_unread (readable_value (three_fields_reading year month day)) (month_and_year month year)
+three_fields_item (Some year) month day = read_or_unread (three_fields_read year month day) (month_and_year month year)
 
 -- the date of an item for the date field, or else for the three fields
 abbrev pub date_or_fields : Option Value → Option Value → Option Value → Option Value → Option ItemDate

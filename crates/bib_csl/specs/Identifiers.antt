@@ -1,6 +1,6 @@
 -- Meaning: words of public contracts.
 -- Identifiers, addresses and archives of an item.
-use Rattle.std.specs.Prelude.{ℕ, ◌==◌, if◌then◌else◌, List, [], ◌∷◌, ◌++◌, length, codes, bytes_eq, eqb, Option, Some, None}
+use Rattle.std.specs.Prelude.{ℕ, Bool, ◌==◌, if◌then◌else◌, List, [], ◌∷◌, ◌++◌, length, codes, bytes_eq, eqb, Option, Some, None}
 use Rattle.std.specs.List.{starts_with}
 use Rattle.std.specs.Option.{unwrap_or}
 use Rattle.bib_chunks.specs.Values.{Value, lowercase_text}
@@ -10,6 +10,7 @@ use Rattle.bib_csl.specs.declared.item.Field.{Field}
 use Rattle.bib_csl.specs.declared.variables.Variable.TheVariants.{Doi, Url, Pmid, Isbn, Issn, Archive, ArchiveLocation, CallNumber}
 use Rattle.bib_csl.specs.Fields.{given}
 use Rattle.bib_csl.specs.Texts.{field, shown_field, either}
+use Rattle.bib_csl.specs.Ways.{way_as_address}
 
 -- the name of an archive in a field, with ASCII letters in lowercase
 unfoldable pub archive_name : Option Value → List ℕ
@@ -44,25 +45,29 @@ address_in archive eprint =
     else if length eprint == 0 then []
     else archive_address archive ++ eprint
 
--- a text, or nothing for an archive with a known address
-unfoldable pub unaddressed : List ℕ → List ℕ → List ℕ
-unaddressed archive text = if length (archive_address archive) == 0 then text else []
-
 -- the field `url`, or else the address in the archive
+unfoldable pub named_address : Entry → List ℕ
+named_address entry = either (shown_field (field entry (codes "url"))) (address_in (archive_of entry) (eprint_of entry))
+
+-- the address: `url`, or else that in the archive, or else `howpublished` if it is an address
 unfoldable pub url_of : Entry → List ℕ
-url_of entry = either (shown_field (field entry (codes "url"))) (address_in (archive_of entry) (eprint_of entry))
+url_of entry = either (named_address entry) (way_as_address entry)
+
+-- whether the archive is PubMed, whose numbers have a variable of their own
+unfoldable pub is_in_pubmed : Entry → Bool
+is_in_pubmed entry = bytes_eq (archive_of entry) (codes "pubmed")
 
 -- the identifier in PubMed, or nothing for another archive
 unfoldable pub pubmed_number : Entry → List ℕ
-pubmed_number entry = if bytes_eq (archive_of entry) (codes "pubmed") then eprint_of entry else []
+pubmed_number entry = if is_in_pubmed entry then eprint_of entry else []
 
--- the name of the archive, or nothing for an archive with a known address
+-- the name of the archive, or nothing for PubMed
 unfoldable pub archive_text : Entry → List ℕ
-archive_text entry = unaddressed (archive_of entry) (shown_field (archive_field entry))
+archive_text entry = if is_in_pubmed entry then [] else shown_field (archive_field entry)
 
--- the identifier in the archive, or nothing for an archive with a known address
+-- the identifier in the archive, or nothing for PubMed
 unfoldable pub archive_location : Entry → List ℕ
-archive_location entry = unaddressed (archive_of entry) (eprint_of entry)
+archive_location entry = if is_in_pubmed entry then [] else eprint_of entry
 
 -- a text from the first `10.` on, or `None` without one
 abbrev pub from_ten : List ℕ → Option (List ℕ)

@@ -14,3 +14,4 @@ pub mod Titles
 pub mod Tokens
 pub mod Types
 pub mod Unmarked
+pub mod Ways

@@ -1,18 +1,21 @@
 -- Meaning: words of public contracts.
 -- The abstract, the notes, the keywords and the language of an item.
-use Rattle.std.specs.Prelude.{ℕ, if◌then◌else◌, List, [], ◌++◌, codes, bytes_eq, Option, Some, None}
+use Rattle.std.specs.Prelude.{ℕ, Bool, ◌==◌, ◌&&◌, ◌||◌, not, if◌then◌else◌, List, [], ◌++◌, length, drop, codes, bytes_eq, eqb, Option, Some, None}
+use Rattle.std.specs.List.{starts_with}
 use Rattle.std.specs.Option.{option_or}
 use Rattle.bib_chunks.specs.Values.{Value, text}
 use Rattle.bib_entry.specs.declared.entry.Entry.{Entry}
 use Rattle.bib_entry.specs.Fields.{field_or}
-use Rattle.bib_tables.specs.Language.{language_row}
+use Rattle.bib_tables.specs.Language.{language_named, language_row}
 use Rattle.bib_tables.specs.declared.types.lang.Language.{Language}
 use Rattle.bib_tables.specs.declared.types.lang.Language.TheVariants.{EnglishUK}
-use Rattle.bib_values.specs.Enumerations.{language_read}
 use Rattle.bib_csl.specs.declared.item.Field.{Field}
 use Rattle.bib_csl.specs.declared.variables.Variable.TheVariants as variable
 use Rattle.bib_csl.specs.Fields.{given}
+use Rattle.bib_csl.specs.Identifiers.{named_address}
+use Rattle.bib_csl.specs.Publishing.{named_publisher}
 use Rattle.bib_csl.specs.Texts.{field, shown_field, rich_text, rich_text_or, either, joined_by_mark}
+use Rattle.bib_csl.specs.Ways.{begins_with_address, way_as_address, way_of}
 
 -- the tag of a language (BCP 47)
 unfoldable pub tag_of : Language → List ℕ
@@ -35,15 +38,23 @@ tag_named name =
     else if bytes_eq name (codes "usenglish") then codes "en-US"
     else []
 
--- the tag of the language that a text is parsed as or names, or else the text
-abbrev pub language_or_text : Option Language → List ℕ → List ℕ
-language_or_text None whole = either (tag_named whole) whole
-language_or_text (Some language) whole = tag_of language
+-- the tag of a language that is found under its name, or of one that the table lacks; nothing if there is none
+abbrev pub tag_found : Option Language → List ℕ → List ℕ
+tag_found None name = tag_named name
+tag_found (Some language) name = tag_of language
 
--- the language of a field
+-- the name of a language in a text: BibLaTeX's keys, such as `langfrench`, have `lang` before it
+unfoldable pub name_of_language : List ℕ → List ℕ
+name_of_language text = if starts_with eqb text (codes "lang") then drop 4 text else text
+
+-- the tag of the language with this name, or nothing if there is none
+unfoldable pub tag_of_name : List ℕ → List ℕ
+tag_of_name name = tag_found (language_named name) name
+
+-- the language of a field: the tag of the language that its text names, or else the text
 unfoldable pub language_of : Option Value → List ℕ
 language_of None = []
-language_of (Some chunks) = language_or_text (language_read chunks) (text chunks)
+language_of (Some chunks) = either (tag_of_name (name_of_language (text chunks))) (text chunks)
 
 -- the publication status for BibLaTeX's keys in the field `pubstate`, or any other text as it is
 unfoldable pub status_named : List ℕ → List ℕ
@@ -57,11 +68,26 @@ status_named text =
 abbrev pub language_value : Entry → Option Value
 language_value entry = option_or (field_or entry (codes "langid") (codes "hyphenation")) (field entry (codes "language"))
 
--- the fields `note`, `addendum` and `howpublished`, with full stops between them
+-- whether an address in `howpublished` is the address of the item
+abbrev pub is_way_address : Entry → Bool
+is_way_address entry =
+    not (length (way_as_address entry) == 0)
+    && (length (named_address entry) == 0 || bytes_eq (named_address entry) (way_as_address entry))
+
+-- whether `howpublished` is the address or the publisher of the item
+unfoldable pub is_way_printed : Entry → Bool
+is_way_printed entry =
+    if begins_with_address (way_of entry) then is_way_address entry else length (named_publisher entry) == 0
+
+-- the field `howpublished`, unless it is the address or the publisher of the item
+unfoldable pub way_in_note : Entry → List ℕ
+way_in_note entry = if is_way_printed entry then [] else way_of entry
+
+-- the fields `note` and `addendum`, and `howpublished` if it is neither the publisher nor the address, with full stops between them
 unfoldable pub note_of : Entry → List ℕ
 note_of entry =
     joined_by_mark (codes ".") (joined_by_mark (codes ".") (rich_text entry (codes "note")) (rich_text entry (codes "addendum")))
-    (rich_text entry (codes "howpublished"))
+    (way_in_note entry)
 
 -- the abstract, the annotation, the note, the publication status, the keywords and the language
 unfoldable pub note_fields : Entry → List Field

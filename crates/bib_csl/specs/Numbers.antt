@@ -12,7 +12,7 @@ use Rattle.bib_csl.specs.declared.item.Field.{Field}
 use Rattle.bib_csl.specs.declared.variables.ItemType.{ItemType}
 use Rattle.bib_csl.specs.declared.variables.Variable.TheVariants.{Volume, NumberOfVolumes, PartNumber, Issue, Number, CollectionNumber, Edition, ChapterNumber, Page, NumberOfPages, Version}
 use Rattle.bib_csl.specs.Fields.{given}
-use Rattle.bib_csl.specs.Texts.{either, field, shown_field, joined}
+use Rattle.bib_csl.specs.Texts.{either, field, joined, marked_chunks, rich_text}
 use Rattle.bib_csl.specs.Types.{counts_issues, counts_series}
 
 -- the issue: the fields `number` and `issue` if `number` counts issues, otherwise `issue`
@@ -46,32 +46,32 @@ abbrev pub pages_from : Bool → List ℕ → List ℕ
 pages_from follows_dash [] = []
 pages_from follows_dash (c ∷ cs) = page_sign follows_dash c ++ pages_from (follows_dash_after follows_dash c) cs
 
--- the ranges of pages in a text, if it can be parsed as such, otherwise the text
-abbrev pub pages_text : Option (List (Range ℕ)) → List ℕ → List ℕ
-pages_text None whole = whole
-pages_text (Some ranges) whole = pages_from false (chars whole)
+-- the ranges of pages in chunks, if they can be parsed as such, otherwise their text with HTML tags
+abbrev pub pages_text : Option (List (Range ℕ)) → Value → List ℕ
+pages_text None chunks = marked_chunks false chunks
+pages_text (Some ranges) chunks = pages_from false (chars (text chunks))
 
 -- the pages of a field
 unfoldable pub pages : Option Value → List ℕ
 pages None = []
-pages (Some chunks) = pages_text (ranges_read chunks) (text chunks)
+pages (Some chunks) = pages_text (ranges_read chunks) chunks
 
 -- the volume, the number of volumes, the part, the issue, the number, and the number in the series
 unfoldable pub volume_fields : ItemType → Entry → List Field
 volume_fields kind entry =
-    let number = shown_field (field entry (codes "number")) in
-    given Volume (shown_field (field entry (codes "volume"))) ++
-    (given NumberOfVolumes (shown_field (field entry (codes "volumes"))) ++
-    (given PartNumber (shown_field (field entry (codes "part"))) ++
-    (given Issue (issue_of kind number (shown_field (field entry (codes "issue")))) ++
-    (given Number (own_number kind number (shown_field (field entry (codes "eid")))) ++
+    let number = rich_text entry (codes "number") in
+    given Volume (rich_text entry (codes "volume")) ++
+    (given NumberOfVolumes (rich_text entry (codes "volumes")) ++
+    (given PartNumber (rich_text entry (codes "part")) ++
+    (given Issue (issue_of kind number (rich_text entry (codes "issue"))) ++
+    (given Number (own_number kind number (rich_text entry (codes "eid"))) ++
     given CollectionNumber (collection_number kind number)))))
 
 -- the edition, the chapter, the pages, the number of pages, and the version
 unfoldable pub page_fields : Entry → List Field
 page_fields entry =
-    given Edition (shown_field (field entry (codes "edition"))) ++
-    (given ChapterNumber (shown_field (field entry (codes "chapter"))) ++
+    given Edition (rich_text entry (codes "edition")) ++
+    (given ChapterNumber (rich_text entry (codes "chapter")) ++
     (given Page (pages (field entry (codes "pages"))) ++
-    (given NumberOfPages (shown_field (field entry (codes "pagetotal"))) ++
-    given Version (shown_field (field entry (codes "version"))))))
+    (given NumberOfPages (rich_text entry (codes "pagetotal")) ++
+    given Version (rich_text entry (codes "version")))))

@@ -86,7 +86,7 @@ names_said uses_prefix (Some chunks) = names_listed uses_prefix chunks
 
 -- whether an option of an entry says that prefixes are part of family names
 unfoldable pub is_prefix_option : List ℕ → Bool
-is_prefix_option option = bytes_eq option (codes "useprefix=true") || bytes_eq option (codes "useprefix")
+is_prefix_option option = list_any (bytes_eq option) (codes "useprefix" ∷ codes "useprefix=true" ∷ codes "useprefix = true" ∷ [])
 
 -- whether one of the options says that prefixes are part of family names
 abbrev pub uses_prefix_in : Option Value → Bool

@@ -9,12 +9,17 @@ use Rattle.bib_csl.specs.declared.item.Field.{Field}
 use Rattle.bib_csl.specs.declared.variables.Variable.TheVariants.{Publisher, PublisherPlace, OriginalPublisher, OriginalPublisherPlace, Genre}
 use Rattle.bib_csl.specs.Fields.{given}
 use Rattle.bib_csl.specs.Texts.{either, field, listed_field, rich_text}
+use Rattle.bib_csl.specs.Ways.{way_as_publisher}
 
 -- the publisher, or else the institution or school, or else the organization
-unfoldable pub publisher_of : Entry → List ℕ
-publisher_of entry =
+unfoldable pub named_publisher : Entry → List ℕ
+named_publisher entry =
     either (listed_field (field entry (codes "publisher")))
     (either (listed_field (field_or entry (codes "institution") (codes "school"))) (listed_field (field entry (codes "organization"))))
+
+-- the publisher, or else `howpublished`
+unfoldable pub publisher_of : Entry → List ℕ
+publisher_of entry = either (named_publisher entry) (way_as_publisher entry)
 
 -- the genre of a thesis, a report or another work by BibLaTeX's key for it, or nothing for any other text
 unfoldable pub work_named : List ℕ → List ℕ

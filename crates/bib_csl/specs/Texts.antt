@@ -1,6 +1,6 @@
 -- Meaning: words of public contracts.
 -- The texts of fields, plain or with HTML tags, as in CSL-JSON. A text is given by its bytes.
-use Rattle.std.specs.Prelude.{ℕ, Bool, true, false, ◌==◌, if◌then◌else◌, List, [], ◌∷◌, ◌++◌, length, codes, eqb, ◌||◌, Option, Some, None}
+use Rattle.std.specs.Prelude.{ℕ, Bool, true, false, ◌==◌, ◌-◌, nat_lt, if◌then◌else◌, List, [], ◌∷◌, ◌++◌, length, codes, eqb, ◌&&◌, ◌||◌, Option, Some, None}
 use Rattle.std.specs.FinMap as by_name
 use Rattle.std.specs.List.{ends_with, flat_map, list_any}
 use Rattle.std.specs.Str.{chars}
@@ -27,25 +27,43 @@ shown_field (Some chunks) = text chunks
 unfoldable pub keeping_case : List ℕ → List ℕ
 keeping_case text = if length text == 0 then [] else codes "<span class=\"nocase\">" ++ (text ++ codes "</span>")
 
--- the text of a chunk with HTML tags for commands; math is unchanged
-unfoldable pub tagged : Chunk → List ℕ → List ℕ
-tagged (Normal whole) text = marked_text (chars text)
-tagged (Verbatim whole) text = marked_text (chars text)
-tagged (Math whole) text = text
+-- the text of a chunk without commands, with HTML tags or without them; math is unchanged
+unfoldable pub tagged : Bool → Chunk → List ℕ → List ℕ
+tagged has_tags (Normal whole) text = marked_text has_tags (chars text)
+tagged has_tags (Verbatim whole) text = marked_text has_tags (chars text)
+tagged has_tags (Math whole) text = text
 
--- the text of a chunk, in a tag that keeps its case if the chunk is verbatim and in a title
-unfoldable pub keeping_its_case : Bool → Chunk → List ℕ → List ℕ
-keeping_its_case is_title (Normal whole) text = text
-keeping_its_case is_title (Verbatim whole) text = if is_title then keeping_case text else text
-keeping_its_case is_title (Math whole) text = text
+-- whether the text of a chunk is one character beyond ASCII that is written by a command, such as `{\'e}`: its place in the file is longer
+-- than the text
+unfoldable pub is_letter_of_command : Spanned Chunk → List ℕ → Bool
+is_letter_of_command c text =
+    (length (chars text) == 1) && (nat_lt 1 (length text) && nat_lt (length text) (c.span.end - c.span.start))
+
+-- the text of a chunk in braces in a title: in a tag that keeps its case, unless the braces only hold a letter that is written by a command
+unfoldable pub braced_in_title : Spanned Chunk → List ℕ → List ℕ
+braced_in_title c text = if is_letter_of_command c text then text else keeping_case text
+
+-- whether a chunk is in braces
+abbrev pub is_in_braces : Chunk → Bool
+is_in_braces (Normal whole) = false
+is_in_braces (Verbatim whole) = true
+is_in_braces (Math whole) = false
+
+-- the text of a chunk, in a tag that keeps its case if it must
+unfoldable pub keeping_its_case : Bool → Spanned Chunk → List ℕ → List ℕ
+keeping_its_case is_title c text = if is_title && is_in_braces c.v then braced_in_title c text else text
 
 -- the text of a chunk with HTML tags; the chunk is formatted by itself
 unfoldable pub marked_chunk : Bool → Spanned Chunk → List ℕ
-marked_chunk is_title c = keeping_its_case is_title c.v (tagged c.v (text (c ∷ [])))
+marked_chunk is_title c = keeping_its_case is_title c (tagged true c.v (text (c ∷ [])))
 
 -- the text of chunks with HTML tags
 unfoldable pub marked_chunks : Bool → Value → List ℕ
 marked_chunks is_title chunks = flat_map (marked_chunk is_title) chunks
+
+-- the text of chunks without commands and without HTML tags
+unfoldable pub bare_text : Value → List ℕ
+bare_text chunks = flat_map (λ c. tagged false c.v (text (c ∷ []))) chunks
 
 -- the text of a field with HTML tags, or nothing if the field is missing
 unfoldable pub marked_field : Bool → Option Value → List ℕ

@@ -5,8 +5,7 @@ ghost use Rattle.std.specs.Char.{is_ascii_digit};
 ghost use Rattle.std.specs.List.{list_all};
 ghost use Rattle.std.specs.Option.{option_map, option_copied};
 ghost use Rattle.bib_chunks.specs.Values.{text};
-ghost use Rattle.bib_dates.specs.Chunks.{date_read, three_fields_reading};
-ghost use Rattle.bib_dates.specs.Readings.{readable_value};
+ghost use Rattle.bib_dates.specs.Chunks.{date_read};
 ghost use Rattle.bib_csl.specs.Dates as spec;
 
 use crate::fields::add_date;
@@ -54,7 +53,14 @@ fn parts_of_date(date: &Datetime) -> DateParts
     }
 }
 
-// Returns the dates of a date or a range: one, or two for a range with a start and an end.
+// The date in place of the open side of a range.
+const OPEN_SIDE: DateParts = DateParts {
+    year: 0,
+    month: None,
+    day: None,
+};
+
+// Returns the dates of a date or a range: one, or two for a range.
 #[tactic(auto, unfolding(crate::specs::Dates::parts_of_value))]
 fn parts_of_value(alloc: Global, value: &DateValue) -> Result<Items<DateParts>, AllocError>
     ensures { IfOk result (λ parts. parts ≡ spec.parts_of_value value.now) }
@@ -62,29 +68,20 @@ fn parts_of_value(alloc: Global, value: &DateValue) -> Result<Items<DateParts>, 
     let mut parts = Items::new(alloc);
     match value {
         DateValue::At(date) => parts.push(parts_of_date(date))?,
-        DateValue::After(start) => parts.push(parts_of_date(start))?,
-        DateValue::Before(end) => parts.push(parts_of_date(end))?,
+        DateValue::After(start) => {
+            parts.push(parts_of_date(start))?;
+            parts.push(OPEN_SIDE)?;
+        }
+        DateValue::Before(end) => {
+            parts.push(OPEN_SIDE)?;
+            parts.push(parts_of_date(end))?;
+        }
         DateValue::Between(start, end) => {
             parts.push(parts_of_date(start))?;
             parts.push(parts_of_date(end))?;
         }
     }
     Ok(parts)
-}
-
-// Returns the text of a range with an open side, such as `2020/..`, or `None` for another value.
-#[tactic(auto, unfolding(crate::specs::Dates::open_text))]
-fn open_text(alloc: Global, value: &DateValue) -> Result<Option<Text>, AllocError>
-    ensures { IfOk result (λ text. text ≡ spec.open_text value.now) }
-{
-    match value {
-        DateValue::At(_) => Ok(None),
-        DateValue::After(start) => {
-            Ok(Some(Text::from_string(format!(in alloc; "{}/..", start)?)))
-        }
-        DateValue::Before(end) => Ok(Some(Text::from_string(format!(in alloc; "../{}", end)?))),
-        DateValue::Between(_, _) => Ok(None),
-    }
 }
 
 // Returns the date of an item for a parsed date.
@@ -96,7 +93,7 @@ fn date_item(alloc: Global, date: &Date) -> Result<ItemDate, AllocError>
         parts: parts_of_value(alloc, &date.value)?,
         season: None,
         circa: date.uncertain || date.approximate,
-        literal: open_text(alloc, &date.value)?,
+        literal: None,
     })
 }
 
@@ -239,16 +236,38 @@ pub fn read_date(alloc: Global, chunks: ChunksRef<'_>) -> Result<Option<Date>, A
     }
 }
 
-// Returns the date that a year, and the month and the day if they are given, are parsed as, or `None` if they can't be parsed.
+// Returns a text without the hyphen before it, if it has one.
+fn without_hyphen(text: &str) -> &str
+    ensures { result.now ≡ spec.without_hyphen text.now }
+{
+    match text.as_bytes() {
+        [first, ..] if *first == b'-' => text.split_at(1).1,
+        _ => text,
+    }
+}
+
+// Returns whether a text is a year and nothing else.
+#[tactic(auto, unfolding(crate::specs::Dates::is_year))]
+fn is_year(text: &str) -> bool
+    ensures { result ≡ spec.is_year text.now }
+{
+    are_digits(without_hyphen(text.trim()).as_bytes())
+}
+
+// Returns the date that a year, and the month and the day if they are given, are parsed as, or `None` if they can't be parsed or the year is
+// more than a year.
+#[tactic(auto, unfolding(crate::specs::Dates::three_fields_read))]
 fn read_fields(
     alloc: Global,
     year: ChunksRef<'_>,
     month: Option<ChunksRef<'_>>,
     day: Option<ChunksRef<'_>>,
 ) -> Result<Option<Date>, AllocError>
-    ensures { IfOk result (λ date. date ≡ readable_value (three_fields_reading year.now
-        (option_copied month.entry) (option_copied day.entry))) }
+    ensures { IfOk result (λ date. date ≡ spec.three_fields_read year.now (option_copied month.entry) (option_copied day.entry)) }
 {
+    if !is_year(shown(alloc, year)?.as_str()) {
+        return Ok(None);
+    }
     match Date::parse_three_fields(alloc, year, month, day) {
         Ok(date) => Ok(Some(date)),
         Err(e) => {
@@ -288,9 +307,10 @@ fn three_fields_item(
     unread(alloc, joined(" ", month, shown(alloc, year)?)?)
 }
 
-// Returns the date of an item for the field `date`, or else for the fields `year`, `month` and `day`.
+/// Returns the date of an item for the field named `date`, or else for the fields named `year`, `month` and `day`. The only error is out of
+/// memory.
 #[tactic(auto, unfolding(crate::specs::Dates::date_in, crate::specs::Dates::three_fields_item))]
-fn date_in(
+pub fn date_in(
     alloc: Global,
     entry: &Entry,
     date: &str,

@@ -7,8 +7,9 @@ ghost use Rattle.bib_csl.specs.Identifiers as spec;
 use crate::adding::add_plain;
 use crate::fields::add_text;
 use crate::item::Field;
-use crate::texts::{field_or, plain_text, shown_field};
+use crate::texts::{either, field_or, plain_text, shown_field};
 use crate::variables::Variable;
+use crate::ways::way_as_address;
 use bib_chunks::chunk::{ChunksRef, format_verbatim};
 use bib_entry::entry::Entry;
 use bib_text::items::Items;
@@ -74,22 +75,10 @@ fn address_in(alloc: Global, archive: &str, eprint: &str) -> Result<Text, AllocE
     Ok(address)
 }
 
-// Returns the text, or an empty text for an archive with a known address.
-#[tactic(auto, unfolding(crate::specs::Identifiers::unaddressed))]
-fn unaddressed(alloc: Global, archive: &str, text: Text) -> Text
-    ensures { result ≡ spec.unaddressed archive.now text }
-{
-    if archive_address(archive).is_empty() {
-        text
-    } else {
-        Text::new(alloc)
-    }
-}
-
 // Returns the field `url`, or else the address in the archive.
-#[tactic(auto, unfolding(crate::specs::Identifiers::url_of, crate::specs::Texts::either))]
-fn url_of(alloc: Global, entry: &Entry) -> Result<Text, AllocError>
-    ensures { IfOk result (λ text. text ≡ spec.url_of entry.now) }
+#[tactic(auto, unfolding(crate::specs::Identifiers::named_address, crate::specs::Texts::either))]
+pub(crate) fn named_address(alloc: Global, entry: &Entry) -> Result<Text, AllocError>
+    ensures { IfOk result (λ text. text ≡ spec.named_address entry.now) }
 {
     let url = plain_text(alloc, entry, "url")?;
     if !url.is_empty() {
@@ -100,42 +89,60 @@ fn url_of(alloc: Global, entry: &Entry) -> Result<Text, AllocError>
     address_in(alloc, archive.as_str(), eprint.as_str())
 }
 
+/// Returns the address of an entry: `url`, or else that in the archive, or else `howpublished` if it is an address. The only error is out of
+/// memory.
+#[tactic(auto, unfolding(crate::specs::Identifiers::url_of))]
+pub fn url_of(alloc: Global, entry: &Entry) -> Result<Text, AllocError>
+    ensures { IfOk result (λ text. text ≡ spec.url_of entry.now) }
+{
+    Ok(either(named_address(alloc, entry)?, way_as_address(alloc, entry)?))
+}
+
+// Returns whether the archive is PubMed, whose numbers have a variable of their own.
+#[tactic(auto, unfolding(crate::specs::Identifiers::is_in_pubmed))]
+fn is_in_pubmed(alloc: Global, entry: &Entry) -> Result<bool, AllocError>
+    ensures { IfOk result (λ is. is ≡ spec.is_in_pubmed entry.now) }
+{
+    Ok(archive_of(alloc, entry)?.as_str() == "pubmed")
+}
+
 // Returns the identifier in PubMed, or an empty text for another archive.
 #[tactic(auto, unfolding(crate::specs::Identifiers::pubmed_number))]
 fn pubmed_number(alloc: Global, entry: &Entry) -> Result<Text, AllocError>
     ensures { IfOk result (λ text. text ≡ spec.pubmed_number entry.now) }
 {
-    let archive = archive_of(alloc, entry)?;
-    if archive.as_str() == "pubmed" {
+    if is_in_pubmed(alloc, entry)? {
         return eprint_of(alloc, entry);
     }
     Ok(Text::new(alloc))
 }
 
-// Returns the name of the archive, or an empty text for an archive with a known address.
+/// Returns the name of the archive of an entry, or an empty text for PubMed. The only error is out of memory.
 #[tactic(auto, unfolding(crate::specs::Identifiers::archive_text))]
-fn archive_text(alloc: Global, entry: &Entry) -> Result<Text, AllocError>
+pub fn archive_text(alloc: Global, entry: &Entry) -> Result<Text, AllocError>
     ensures { IfOk result (λ text. text ≡ spec.archive_text entry.now) }
 {
-    let archive = archive_of(alloc, entry)?;
-    let name = shown_field(alloc, field_or(entry, "eprinttype", "archiveprefix"))?;
-    Ok(unaddressed(alloc, archive.as_str(), name))
+    if is_in_pubmed(alloc, entry)? {
+        return Ok(Text::new(alloc));
+    }
+    shown_field(alloc, field_or(entry, "eprinttype", "archiveprefix"))
 }
 
-// Returns the identifier in the archive, or an empty text for an archive with a known address.
+// Returns the identifier in the archive, or an empty text for PubMed.
 #[tactic(auto, unfolding(crate::specs::Identifiers::archive_location))]
 fn archive_location(alloc: Global, entry: &Entry) -> Result<Text, AllocError>
     ensures { IfOk result (λ text. text ≡ spec.archive_location entry.now) }
 {
-    let archive = archive_of(alloc, entry)?;
-    let eprint = eprint_of(alloc, entry)?;
-    Ok(unaddressed(alloc, archive.as_str(), eprint))
+    if is_in_pubmed(alloc, entry)? {
+        return Ok(Text::new(alloc));
+    }
+    eprint_of(alloc, entry)
 }
 
-// Returns the DOI in a text: the text from the first `10.` on, or the whole text without one. Each DOI begins with `10.`, so an address or a
-// scheme before it is no part of it.
+/// Returns the DOI in a text: the text from the first `10.` on, or the whole text without one. Each DOI begins with `10.`, so an address or a
+/// scheme before it is no part of it. The only error is out of memory.
 #[tactic(auto, unfolding(crate::specs::Identifiers::bare_doi))]
-fn bare_doi(alloc: Global, text: &str) -> Result<Text, AllocError>
+pub fn bare_doi(alloc: Global, text: &str) -> Result<Text, AllocError>
     ensures { IfOk result (λ doi. doi ≡ spec.bare_doi text.now) }
 {
     match text.split_once("10.") {

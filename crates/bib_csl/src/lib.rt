@@ -7,23 +7,26 @@
 #![tactic(auto)]
 
 mod adding;
+mod command_names;
+mod commands;
 pub mod dates;
 mod fields;
 pub mod identifiers;
 pub mod item;
 pub mod laws;
 pub mod making;
-mod markup;
+pub mod markup;
 mod members;
-mod notes;
+pub mod notes;
 mod numbers;
 pub mod objects;
 pub mod people;
-mod publishing;
+pub mod publishing;
 mod standing;
-mod tags;
-mod texts;
+pub mod tags;
+pub mod texts;
 mod titles;
-mod types;
+pub mod types;
 pub mod variables;
+mod ways;
 mod writing;

@@ -1,8 +1,10 @@
 //! Texts of fields with HTML tags.
 
-ghost use Rattle.std.specs.Prelude.{◌≡◌, ◌++◌, IfOk};
+ghost use Rattle.std.specs.Prelude.{◌≡◌, ◌∷◌, [], ◌++◌, length, IfOk};
 ghost use Rattle.std.specs.Option.{option_copied};
-ghost use Rattle.bib_csl.specs.Texts.{tagged, keeping_its_case, keeping_case, marked_field, marked_chunk, marked_chunks};
+ghost use Rattle.std.specs.Str.{chars};
+ghost use Rattle.bib_chunks.specs.Values.{text};
+ghost use Rattle.bib_csl.specs.Texts.{bare_text, tagged, keeping_its_case, keeping_case, braced_in_title, is_letter_of_command, marked_field, marked_chunk, marked_chunks};
 
 use crate::standing::shown_chunk;
 use crate::tags::marked_text;
@@ -24,30 +26,60 @@ fn keeping_case(alloc: Global, text: Text) -> Result<Text, AllocError>
     Ok(kept)
 }
 
-// Returns the text of a chunk, in a tag that keeps its case if the chunk is verbatim and in a title.
+// Returns the number of characters of a text.
+fn characters(text: &str) -> usize
+    ensures { result ≡ length (chars text.now) }
+{
+    text.chars().count()
+}
+
+// Returns whether the text of a chunk is one character beyond ASCII that is written by a command: its place in the file is longer than the
+// text.
+#[tactic(auto, unfolding(crate::specs::Texts::is_letter_of_command))]
+fn is_letter_of_command(chunk: &Spanned<Chunk>, text: &str) -> bool
+    ensures { result ≡ is_letter_of_command chunk.now text.now }
+{
+    let place = chunk.span.end.saturating_sub(chunk.span.start);
+    characters(text) == 1 && 1 < text.len() && text.len() < place
+}
+
+// Returns the text of a chunk in braces in a title: in a tag that keeps its case, unless the braces only hold a letter that is written by a
+// command.
+#[tactic(auto, unfolding(crate::specs::Texts::braced_in_title))]
+fn braced_in_title(alloc: Global, chunk: &Spanned<Chunk>, text: Text) -> Result<Text, AllocError>
+    ensures { IfOk result (λ kept. kept ≡ braced_in_title chunk.now text) }
+{
+    if is_letter_of_command(chunk, text.as_str()) {
+        return Ok(text);
+    }
+    keeping_case(alloc, text)
+}
+
+// Returns the text of a chunk, in a tag that keeps its case if it must.
 #[tactic(auto, unfolding(crate::specs::Texts::keeping_its_case))]
 fn keeping_its_case(
     alloc: Global,
     is_title: bool,
-    chunk: &Chunk,
+    chunk: &Spanned<Chunk>,
     text: Text,
 ) -> Result<Text, AllocError>
     ensures { IfOk result (λ kept. kept ≡ keeping_its_case is_title chunk.now text) }
 {
-    match chunk {
-        Chunk::Verbatim(_) if is_title => keeping_case(alloc, text),
+    match &chunk.v {
+        Chunk::Verbatim(_) if is_title => braced_in_title(alloc, chunk, text),
         _ => Ok(text),
     }
 }
 
-// Returns the text of a chunk with HTML tags for commands. Math is unchanged.
+// Returns the text of a chunk without commands, with HTML tags or without them. Math is unchanged.
 #[tactic(auto, unfolding(crate::specs::Texts::tagged))]
-fn tagged(alloc: Global, chunk: &Chunk, text: Text) -> Result<Text, AllocError>
-    ensures { IfOk result (λ tagged_text. tagged_text ≡ tagged chunk.now text) }
+fn tagged(alloc: Global, has_tags: bool, chunk: &Spanned<Chunk>) -> Result<Text, AllocError>
+    ensures { IfOk result (λ tagged_text. tagged_text ≡ tagged has_tags chunk.now.v (text (chunk.now ∷ []))) }
 {
-    match chunk {
+    let text = shown_chunk(alloc, chunk)?;
+    match &chunk.v {
         Chunk::Math(_) => Ok(text),
-        _ => marked_text(alloc, text),
+        _ => marked_text(alloc, has_tags, text),
     }
 }
 
@@ -56,9 +88,8 @@ fn tagged(alloc: Global, chunk: &Chunk, text: Text) -> Result<Text, AllocError>
 fn marked_chunk(alloc: Global, is_title: bool, chunk: &Spanned<Chunk>) -> Result<Text, AllocError>
     ensures { IfOk result (λ text. text ≡ marked_chunk is_title chunk.now) }
 {
-    let shown = shown_chunk(alloc, chunk)?;
-    let text = tagged(alloc, &chunk.v, shown)?;
-    keeping_its_case(alloc, is_title, &chunk.v, text)
+    let text = tagged(alloc, true, chunk)?;
+    keeping_its_case(alloc, is_title, chunk, text)
 }
 
 // Returns one text followed by another.
@@ -85,6 +116,18 @@ pub(crate) fn marked_chunks(
     let mut out = Text::new(alloc);
     'chunks: for chunk in chunks {
         out = followed(out, marked_chunk(alloc, is_title, chunk)?)?;
+    }
+    Ok(out)
+}
+
+/// Returns the text of chunks without LaTeX commands, as an item has it, but without HTML tags. The only error is out of memory.
+#[tactic(auto, unfolding(crate::specs::Texts::bare_text))]
+pub fn bare_text(alloc: Global, chunks: ChunksRef<'_>) -> Result<Text, AllocError>
+    ensures { IfOk result (λ text. text ≡ bare_text chunks.now) }
+{
+    let mut out = Text::new(alloc);
+    'chunks: for chunk in chunks {
+        out = followed(out, tagged(alloc, false, chunk)?)?;
     }
     Ok(out)
 }

@@ -3,7 +3,6 @@
 ghost use Rattle.std.specs.Prelude.{◌≡◌, ◌++◌, OnOk, IfOk};
 ghost use Rattle.std.specs.Option.{option_copied};
 ghost use Rattle.bib_csl.specs.Notes as spec;
-ghost use Rattle.bib_csl.specs.Texts.{either};
 
 use crate::adding::{add_plain, add_rich, add_rich_or};
 use crate::fields::add_text;
@@ -11,12 +10,12 @@ use crate::item::Field;
 use crate::standing::shown;
 use crate::texts::{either, field_or, joined_by_mark, plain_text, rich_text};
 use crate::variables::Variable;
+use crate::ways::way_in_note;
 use bib_chunks::chunk::ChunksRef;
 use bib_entry::entry::Entry;
 use bib_tables::types::lang::Language;
 use bib_text::items::Items;
 use bib_text::text::Text;
-use bib_values::enums::read_language;
 use std::alloc::{AllocError, Global};
 
 // Returns the tag of a language (BCP 47).
@@ -51,26 +50,36 @@ fn tag_named(name: &str) -> &'static str
     }
 }
 
-// Returns the tag of the language that a text names, or else the text.
-fn tag_or_text(alloc: Global, whole: Text) -> Result<Text, AllocError>
-    ensures { IfOk result (λ text. text ≡ either (spec.tag_named whole) whole) }
+// Returns the name of a language in a text: without `lang`, with which BibLaTeX's keys begin.
+#[tactic(auto, unfolding(crate::specs::Notes::name_of_language))]
+fn name_of_language(text: &str) -> &str
+    ensures { result.now ≡ spec.name_of_language text.now }
 {
-    let tag = Text::from_str(alloc, tag_named(whole.as_str()))?;
-    Ok(either(tag, whole))
+    text.strip_prefix("lang").unwrap_or(text)
 }
 
-// Returns the language of a field: the tag of the language that the text is parsed as or names, or else the text.
+// Returns the tag of the language with this name, or an empty text if there is none.
+#[tactic(auto, unfolding(crate::specs::Notes::tag_of_name))]
+fn tag_of_name(name: &str) -> &'static str
+    ensures { result.now ≡ spec.tag_of_name name.now }
+{
+    match name.parse::<Language>() {
+        Ok(language) => tag_of(language),
+        Err(_) => tag_named(name),
+    }
+}
+
+/// Returns the language of a field: the tag of the language that its text names, or else the text. The only error is out of memory.
 #[tactic(auto, unfolding(crate::specs::Notes::language_of))]
-fn language_of(alloc: Global, field: Option<ChunksRef<'_>>) -> Result<Text, AllocError>
+pub fn language_of(alloc: Global, field: Option<ChunksRef<'_>>) -> Result<Text, AllocError>
     ensures { IfOk result (λ text. text ≡ spec.language_of (option_copied field.entry)) }
 {
     let Some(chunks) = field else {
         return Ok(Text::new(alloc));
     };
-    match read_language(alloc, chunks)? {
-        Some(language) => Text::from_str(alloc, tag_of(language)),
-        None => tag_or_text(alloc, shown(alloc, chunks)?),
-    }
+    let text = shown(alloc, chunks)?;
+    let tag = Text::from_str(alloc, tag_of_name(name_of_language(text.as_str())))?;
+    Ok(either(tag, text))
 }
 
 // Returns the publication status for BibLaTeX's keys in the field `pubstate`, or any other text as it is.
@@ -86,8 +95,8 @@ fn status_named(alloc: Global, text: Text) -> Result<Text, AllocError>
     }
 }
 
-// Returns the field with the language: `langid`, or `hyphenation`, its former name, or else `language`.
-fn language_value(entry: &Entry) -> Option<ChunksRef<'_>>
+/// Returns the field with the language: `langid`, or `hyphenation`, its former name, or else `language`.
+pub fn language_value(entry: &Entry) -> Option<ChunksRef<'_>>
     ensures { option_copied result ≡ spec.language_value entry.now }
 {
     match field_or(entry, "langid", "hyphenation") {
@@ -96,14 +105,14 @@ fn language_value(entry: &Entry) -> Option<ChunksRef<'_>>
     }
 }
 
-// Returns the fields `note`, `addendum` and `howpublished`, with full stops between them.
+// Returns the fields `note` and `addendum`, and `howpublished` if it is neither the publisher nor the address, with full stops between them.
 #[tactic(auto, unfolding(crate::specs::Notes::note_of))]
 fn note_of(alloc: Global, entry: &Entry) -> Result<Text, AllocError>
     ensures { IfOk result (λ text. text ≡ spec.note_of entry.now) }
 {
     let note = rich_text(alloc, entry, "note")?;
     let both = joined_by_mark(alloc, ".", note, rich_text(alloc, entry, "addendum")?)?;
-    joined_by_mark(alloc, ".", both, rich_text(alloc, entry, "howpublished")?)
+    joined_by_mark(alloc, ".", both, way_in_note(alloc, entry)?)
 }
 
 // Appends the abstract, the annotation, the note, the publication status, the keywords and the language.

@@ -6,11 +6,12 @@ ghost use Rattle.std.specs.Str.{chars};
 ghost use Rattle.bib_values.specs.Ranges.{is_dash};
 ghost use Rattle.bib_csl.specs.Numbers as spec;
 
-use crate::adding::add_plain;
+use crate::adding::add_rich;
 use crate::fields::add_text;
 use crate::item::Field;
+use crate::markup::marked_chunks;
 use crate::standing::shown;
-use crate::texts::{either, joined, plain_text};
+use crate::texts::{either, joined, rich_text};
 use crate::types::{counts_issues, counts_series};
 use crate::variables::{ItemType, Variable};
 use bib_chunks::chunk::ChunksRef;
@@ -108,7 +109,7 @@ fn with_en_dashes(alloc: Global, text: &str) -> Result<Text, AllocError>
     Ok(out)
 }
 
-// Returns the pages of a field: its text, with en dashes if it can be parsed as ranges of pages.
+// Returns the pages of a field: with en dashes if it can be parsed as ranges of pages, otherwise its text with HTML tags.
 #[tactic(auto, unfolding(crate::specs::Numbers::pages))]
 fn pages(alloc: Global, field: Option<ChunksRef<'_>>) -> Result<Text, AllocError>
     ensures { IfOk result (λ text. text ≡ spec.pages (option_copied field.entry)) }
@@ -116,10 +117,9 @@ fn pages(alloc: Global, field: Option<ChunksRef<'_>>) -> Result<Text, AllocError
     let Some(chunks) = field else {
         return Ok(Text::new(alloc));
     };
-    let text = shown(alloc, chunks)?;
     match read_ranges(alloc, chunks)? {
-        Some(_) => with_en_dashes(alloc, text.as_str()),
-        None => Ok(text),
+        Some(_) => with_en_dashes(alloc, shown(alloc, chunks)?.as_str()),
+        None => marked_chunks(alloc, false, chunks),
     }
 }
 
@@ -133,13 +133,13 @@ pub(crate) fn add_volume(
 ) -> Result<(), AllocError>
     ensures { OnOk result (fields.new ≡ fields.old ++ spec.volume_fields kind entry.now) }
 {
-    add_plain(alloc, Variable::Volume, entry, "volume", fields)?;
-    add_plain(alloc, Variable::NumberOfVolumes, entry, "volumes", fields)?;
-    add_plain(alloc, Variable::PartNumber, entry, "part", fields)?;
-    let number = plain_text(alloc, entry, "number")?;
-    let issue = plain_text(alloc, entry, "issue")?;
+    add_rich(alloc, Variable::Volume, entry, "volume", fields)?;
+    add_rich(alloc, Variable::NumberOfVolumes, entry, "volumes", fields)?;
+    add_rich(alloc, Variable::PartNumber, entry, "part", fields)?;
+    let number = rich_text(alloc, entry, "number")?;
+    let issue = rich_text(alloc, entry, "issue")?;
     add_text(fields, Variable::Issue, issue_of(kind, &number, issue)?)?;
-    let eid = plain_text(alloc, entry, "eid")?;
+    let eid = rich_text(alloc, entry, "eid")?;
     add_text(fields, Variable::Number, own_number(kind, &number, eid)?)?;
     let in_series = collection_number(alloc, kind, &number)?;
     add_text(fields, Variable::CollectionNumber, in_series)
@@ -154,9 +154,9 @@ pub(crate) fn add_pages(
 ) -> Result<(), AllocError>
     ensures { OnOk result (fields.new ≡ fields.old ++ spec.page_fields entry.now) }
 {
-    add_plain(alloc, Variable::Edition, entry, "edition", fields)?;
-    add_plain(alloc, Variable::ChapterNumber, entry, "chapter", fields)?;
+    add_rich(alloc, Variable::Edition, entry, "edition", fields)?;
+    add_rich(alloc, Variable::ChapterNumber, entry, "chapter", fields)?;
     add_text(fields, Variable::Page, pages(alloc, entry.get("pages"))?)?;
-    add_plain(alloc, Variable::NumberOfPages, entry, "pagetotal", fields)?;
-    add_plain(alloc, Variable::Version, entry, "version", fields)
+    add_rich(alloc, Variable::NumberOfPages, entry, "pagetotal", fields)?;
+    add_rich(alloc, Variable::Version, entry, "version", fields)
 }

@@ -173,7 +173,10 @@ fn is_prefix_option(alloc: Global, option: ChunksRef<'_>) -> Result<bool, AllocE
     ensures { IfOk result (λ is. is ≡ spec.is_prefix_option (text option.now)) }
 {
     let text = format_verbatim(alloc, option)?;
-    Ok(text.as_str() == "useprefix=true" || text.as_str() == "useprefix")
+    Ok(matches!(
+        text.as_str(),
+        "useprefix" | "useprefix=true" | "useprefix = true"
+    ))
 }
 
 // Returns whether one of the options says that prefixes are part of family names.

@@ -8,6 +8,7 @@ use crate::fields::add_text;
 use crate::item::Field;
 use crate::texts::{either, list_text, list_text_or, rich_text};
 use crate::variables::Variable;
+use crate::ways::way_as_publisher;
 use bib_entry::entry::Entry;
 use bib_tables::mechanics::EntryType;
 use bib_text::items::Items;
@@ -15,13 +16,24 @@ use bib_text::text::Text;
 use std::alloc::{AllocError, Global};
 
 // Returns the publisher, or else the institution or school, or else the organization.
-#[tactic(auto, unfolding(crate::specs::Publishing::publisher_of))]
-fn publisher_of(alloc: Global, entry: &Entry) -> Result<Text, AllocError>
-    ensures { IfOk result (λ text. text ≡ spec.publisher_of entry.now) }
+#[tactic(auto, unfolding(crate::specs::Publishing::named_publisher))]
+pub(crate) fn named_publisher(alloc: Global, entry: &Entry) -> Result<Text, AllocError>
+    ensures { IfOk result (λ text. text ≡ spec.named_publisher entry.now) }
 {
     let institution = list_text_or(alloc, entry, "institution", "school")?;
     let other = either(institution, list_text(alloc, entry, "organization")?);
     Ok(either(list_text(alloc, entry, "publisher")?, other))
+}
+
+/// Returns the publisher of an entry, or else the field `howpublished`, with HTML tags. The only error is out of memory.
+#[tactic(auto, unfolding(crate::specs::Publishing::publisher_of))]
+pub fn publisher_of(alloc: Global, entry: &Entry) -> Result<Text, AllocError>
+    ensures { IfOk result (λ text. text ≡ spec.publisher_of entry.now) }
+{
+    Ok(either(
+        named_publisher(alloc, entry)?,
+        way_as_publisher(alloc, entry)?,
+    ))
 }
 
 // Returns the genre of a thesis, a report or another work by BibLaTeX's key for it, or an empty text for any other text.
@@ -105,9 +117,9 @@ fn genre_of_type(entry_type: &EntryType) -> &'static str
     }
 }
 
-// Returns the genre: by the field `type`, or else by the entry type.
+/// Returns the genre of an entry, with HTML tags: by the field `type`, or else by the entry type. The only error is out of memory.
 #[tactic(auto, unfolding(crate::specs::Publishing::genre_of))]
-fn genre_of(alloc: Global, entry: &Entry) -> Result<Text, AllocError>
+pub fn genre_of(alloc: Global, entry: &Entry) -> Result<Text, AllocError>
     ensures { IfOk result (λ text. text ≡ spec.genre_of entry.now) }
 {
     let kind = rich_text(alloc, entry, "type")?;

@@ -1,15 +1,16 @@
-//! Texts with HTML tags for LaTeX commands.
+//! Texts without LaTeX commands, with HTML tags for some or without tags.
 //!
 //! A text is read once, character by character. `names` is a stack with the name of the command of each open brace, empty if the brace has
 //! no command. `name` is the start of the name of a command, if one is being read. Most texts contain no commands and are copied.
 
-ghost use Rattle.std.specs.Prelude.{◌≡◌, [], ◌∷◌, ◌++◌, None, OnOk, IfOk, reverse};
+ghost use Rattle.std.specs.Prelude.{◌≡◌, [], ◌++◌, OnOk, IfOk, encode_utf8, reverse};
 ghost use Rattle.std.specs.List.{list_all};
-ghost use Rattle.std.specs.Option.{option_map};
 ghost use Rattle.std.specs.Str.{chars};
 ghost use Rattle.bib_csl.specs.Markup as spec;
 ghost use Rattle.bib_csl.specs.Unmarked.{is_unmarked};
 
+use crate::command_names::{goes_on, is_accent_name, is_space_name, opens_argument};
+use crate::commands::{closing_tag, opening_tag, said_alone};
 use bib_text::items::Items;
 use bib_text::scanner::Scanner;
 use bib_text::text::Text;
@@ -63,136 +64,14 @@ fn without_ties(alloc: Global, text: &str) -> Result<Text, AllocError>
     Ok(out)
 }
 
-// Returns the text with spaces for tildes.
-pub(crate) fn loosened(alloc: Global, text: Text) -> Result<Text, AllocError>
+/// Returns the text with spaces for tildes. The only error is out of memory.
+pub fn loosened(alloc: Global, text: Text) -> Result<Text, AllocError>
     ensures { IfOk result (λ out. out ≡ spec.loosened (chars text)) }
 {
     if is_unmarked(text.as_str()) {
         return Ok(text);
     }
     without_ties(alloc, text.as_str())
-}
-
-// Returns the text for a command that is a sign, whether it has an argument or not, or `None` for other commands.
-#[tactic(auto, unfolding(crate::specs::Markup::sign_named))]
-fn sign_named(name: &str) -> Option<&'static str>
-    ensures { option_map (λ sign. sign.now) result ≡ spec.sign_named name.now }
-{
-    match name {
-        "hyphen" => Some("-"),
-        "slash" => Some("/"),
-        "adddot" => Some("."),
-        "ldots" => Some("…"),
-        "dots" => Some("…"),
-        "textellipsis" => Some("…"),
-        "quad" => Some(" "),
-        "TeX" => Some("TeX"),
-        "LaTeX" => Some("LaTeX"),
-        "LaTeXe" => Some("LaTeX2ε"),
-        "BibTeX" => Some("BibTeX"),
-        "MF" => Some("METAFONT"),
-        _ => None,
-    }
-}
-
-// Returns whether a command changes the font up to the end of its group, or has no output at all.
-#[tactic(auto, unfolding(crate::specs::Markup::is_silent))]
-fn is_silent(name: &str) -> bool
-    ensures { result ≡ spec.is_silent name.now }
-{
-    matches!(
-        name,
-        "bf" | "bfseries"
-            | "em"
-            | "it"
-            | "itshape"
-            | "relax"
-            | "rm"
-            | "rmfamily"
-            | "sc"
-            | "scshape"
-            | "sf"
-            | "sffamily"
-            | "sl"
-            | "slshape"
-            | "tt"
-            | "ttfamily"
-    )
-}
-
-// Returns the text for a command without its argument: a sign, or an empty text for a silent command. Returns `None` for other commands.
-#[tactic(auto, unfolding(crate::specs::Markup::said_alone))]
-fn said_alone(name: &str) -> Option<&'static str>
-    ensures { option_map (λ text. text.now) result ≡ spec.said_alone name.now }
-{
-    match sign_named(name) {
-        Some(sign) => Some(sign),
-        None => { if is_silent(name) { Some("") } else { None } }
-    }
-}
-
-// Returns the opening tag or quotation mark for a command with this name, or `None` for other commands.
-#[tactic(auto, unfolding(crate::specs::Markup::tag_before))]
-fn tag_before(name: &str) -> Option<&'static str>
-    ensures { option_map (λ tag. tag.now) result ≡ spec.tag_before name.now }
-{
-    match name {
-        "emph" => Some("<i>"),
-        "textit" => Some("<i>"),
-        "mkbibemph" => Some("<i>"),
-        "textbf" => Some("<b>"),
-        "textsuperscript" => Some("<sup>"),
-        "textsubscript" => Some("<sub>"),
-        "textsc" => Some("<span style=\"font-variant:small-caps;\">"),
-        "enquote" => Some("“"),
-        "mkbibquote" => Some("“"),
-        _ => None,
-    }
-}
-
-// Returns the closing tag or quotation mark for a command with this name, or `None` for other commands.
-#[tactic(auto, unfolding(crate::specs::Markup::tag_after))]
-fn tag_after(name: &str) -> Option<&'static str>
-    ensures { option_map (λ tag. tag.now) result ≡ spec.tag_after name.now }
-{
-    match name {
-        "emph" => Some("</i>"),
-        "textit" => Some("</i>"),
-        "mkbibemph" => Some("</i>"),
-        "textbf" => Some("</b>"),
-        "textsuperscript" => Some("</sup>"),
-        "textsubscript" => Some("</sub>"),
-        "textsc" => Some("</span>"),
-        "enquote" => Some("”"),
-        "mkbibquote" => Some("”"),
-        _ => None,
-    }
-}
-
-// Returns the text for a command and the opening brace of its argument: a tag, a quotation mark or a sign. It is empty for any other
-// command, of which the argument alone is shown. Returns `None` for a backslash without a name.
-#[tactic(auto, unfolding(crate::specs::Markup::opening_tag))]
-fn opening_tag(name: &str) -> Option<&'static str>
-    ensures { option_map (λ tag. tag.now) result ≡ spec.opening_tag name.now }
-{
-    if name.is_empty() {
-        return None;
-    }
-    match tag_before(name) {
-        Some(tag) => Some(tag),
-        None => Some(sign_named(name).unwrap_or("")),
-    }
-}
-
-// Returns the text for the closing brace of the argument of a command, or `None` for a brace without a command.
-#[tactic(auto, unfolding(crate::specs::Markup::closing_tag))]
-fn closing_tag(name: &str) -> Option<&'static str>
-    ensures { option_map (λ tag. tag.now) result ≡ spec.closing_tag name.now }
-{
-    if name.is_empty() {
-        return None;
-    }
-    Some(tag_after(name).unwrap_or(""))
 }
 
 // Appends a command as it is: its backslash and its name.
@@ -206,10 +85,10 @@ fn push_command(out: &mut Text, name: &str) -> Result<(), AllocError>
 
 // Appends the text for a command and the opening brace after it.
 #[tactic(auto, unfolding(crate::specs::Markup::begun))]
-fn push_begun(out: &mut Text, name: &str) -> Result<(), AllocError>
-    ensures { OnOk result (out.new ≡ out.old ++ spec.begun name.now) }
+fn push_begun(out: &mut Text, has_tags: bool, name: &str) -> Result<(), AllocError>
+    ensures { OnOk result (out.new ≡ out.old ++ spec.begun has_tags name.now) }
 {
-    match opening_tag(name) {
+    match opening_tag(has_tags, name) {
         Some(tag) => out.push_str(tag),
         None => {
             push_command(out, name)?;
@@ -220,13 +99,13 @@ fn push_begun(out: &mut Text, name: &str) -> Result<(), AllocError>
 
 // Appends the text for the closing brace of the innermost open brace.
 #[tactic(auto, unfolding(crate::specs::Markup::ended))]
-fn push_ended(out: &mut Text, names: &[Text]) -> Result<(), AllocError>
-    ensures { OnOk result (out.new ≡ out.old ++ spec.ended (reverse names.now)) }
+fn push_ended(out: &mut Text, has_tags: bool, names: &[Text]) -> Result<(), AllocError>
+    ensures { OnOk result (out.new ≡ out.old ++ spec.ended has_tags (reverse names.now)) }
 {
     let Some(name) = names.last() else {
         return out.push_str("}");
     };
-    match closing_tag(name.as_str()) {
+    match closing_tag(has_tags, name.as_str()) {
         Some(tag) => out.push_str(tag),
         None => out.push_str("}"),
     }
@@ -256,12 +135,12 @@ fn push_shown(out: &mut Text, names: &[Text], c: char) -> Result<(), AllocError>
 
 // Appends the text for a character outside of the names of commands.
 #[tactic(auto, unfolding(crate::specs::Markup::said_plainly))]
-fn push_plainly(out: &mut Text, names: &[Text], c: char) -> Result<(), AllocError>
-    ensures { OnOk result (out.new ≡ out.old ++ spec.said_plainly (reverse names.now) c) }
+fn push_plainly(out: &mut Text, has_tags: bool, names: &[Text], c: char) -> Result<(), AllocError>
+    ensures { OnOk result (out.new ≡ out.old ++ spec.said_plainly has_tags (reverse names.now) c) }
 {
     match c {
         '\\' => Ok(()),
-        '}' => push_ended(out, names),
+        '}' => push_ended(out, has_tags, names),
         _ => push_shown(out, names, c),
     }
 }
@@ -283,53 +162,120 @@ fn open_plainly(alloc: Global, names: &mut Items<Text>, c: char) -> Result<(), A
 
 // Appends the text for a character after a command without an argument: nothing for the space that ends the command.
 #[tactic(auto, unfolding(crate::specs::Markup::after_sign))]
-fn push_after_sign(out: &mut Text, names: &[Text], c: char) -> Result<(), AllocError>
-    ensures { OnOk result (out.new ≡ out.old ++ spec.after_sign (reverse names.now) c) }
+fn push_after_sign(
+    out: &mut Text,
+    has_tags: bool,
+    names: &[Text],
+    c: char,
+) -> Result<(), AllocError>
+    ensures { OnOk result (out.new ≡ out.old ++ spec.after_sign has_tags (reverse names.now) c) }
 {
     if c == ' ' {
         return Ok(());
     }
-    push_plainly(out, names, c)
+    push_plainly(out, has_tags, names, c)
 }
 
 // Appends a command that has no text of its own, and the text for the character after it.
 #[tactic(auto, unfolding(crate::specs::Markup::said_as_it_is))]
-fn push_as_it_is(out: &mut Text, names: &[Text], name: &str, c: char) -> Result<(), AllocError>
-    ensures { OnOk result (out.new ≡ out.old ++ spec.said_as_it_is (reverse names.now) name.now c) }
+fn push_as_it_is(
+    out: &mut Text,
+    has_tags: bool,
+    names: &[Text],
+    name: &str,
+    c: char,
+) -> Result<(), AllocError>
+    ensures { OnOk result (out.new ≡ out.old ++ spec.said_as_it_is has_tags (reverse names.now) name.now c) }
 {
     push_command(out, name)?;
-    push_plainly(out, names, c)
+    push_plainly(out, has_tags, names, c)
 }
 
 // Appends the text for a command without a brace, and for the character after it.
 #[tactic(auto, unfolding(crate::specs::Markup::said_after))]
-fn push_after(out: &mut Text, names: &[Text], name: &str, c: char) -> Result<(), AllocError>
-    ensures { OnOk result (out.new ≡ out.old ++ spec.said_after (reverse names.now) name.now c) }
+fn push_after(
+    out: &mut Text,
+    has_tags: bool,
+    names: &[Text],
+    name: &str,
+    c: char,
+) -> Result<(), AllocError>
+    ensures { OnOk result (out.new ≡ out.old ++ spec.said_after has_tags (reverse names.now) name.now c) }
 {
     match said_alone(name) {
         Some(text) => {
             out.push_str(text)?;
-            push_after_sign(out, names, c)
+            push_after_sign(out, has_tags, names, c)
         }
-        None => push_as_it_is(out, names, name, c),
+        None => push_as_it_is(out, has_tags, names, name, c),
     }
+}
+
+// Appends the text for a backslash and a space, and for the character after it: one space, or the backslash if that isn't another space.
+#[tactic(auto, unfolding(crate::specs::Markup::said_after_space))]
+fn push_after_space(
+    out: &mut Text,
+    has_tags: bool,
+    names: &[Text],
+    c: char,
+) -> Result<(), AllocError>
+    ensures { OnOk result (out.new ≡ out.old ++ spec.said_after_space has_tags (reverse names.now) c) }
+{
+    if c == ' ' {
+        return out.push_str(" ");
+    }
+    push_as_it_is(out, has_tags, names, " ", c)
+}
+
+// Appends a letter and the accent on it.
+fn push_accented(out: &mut Text, c: char, accent: &str) -> Result<(), AllocError>
+    ensures { OnOk result (out.new ≡ out.old ++ (encode_utf8 c ++ accent.now)) }
+{
+    out.push(c)?;
+    out.push_str(accent)
+}
+
+// Appends the text for a name that ends before a character other than the brace of its argument, and for that character.
+#[tactic(auto, unfolding(crate::specs::Markup::said_at_end))]
+fn push_at_end(
+    out: &mut Text,
+    has_tags: bool,
+    names: &[Text],
+    name: &str,
+    c: char,
+) -> Result<(), AllocError>
+    ensures { OnOk result (out.new ≡ out.old ++ spec.said_at_end has_tags (reverse names.now) name.now c) }
+{
+    if is_space_name(name) {
+        return push_after_space(out, has_tags, names, c);
+    }
+    if is_accent_name(name) && c == 'i' {
+        return push_accented(out, c, name);
+    }
+    push_after(out, has_tags, names, name, c)
 }
 
 // Appends the text for a character, and for the command before it if the character ends its name.
 #[tactic(auto, unfolding(crate::specs::Markup::said))]
-fn push_said(out: &mut Text, names: &[Text], name: &Option<Text>, c: char) -> Result<(), AllocError>
-    ensures { OnOk result (out.new ≡ out.old ++ spec.said (reverse names.now) name.now c) }
+fn push_said(
+    out: &mut Text,
+    has_tags: bool,
+    names: &[Text],
+    name: &Option<Text>,
+    c: char,
+) -> Result<(), AllocError>
+    ensures { OnOk result (out.new ≡ out.old ++ spec.said has_tags (reverse names.now) name.now c) }
 {
     let Some(name) = name else {
-        return push_plainly(out, names, c);
+        return push_plainly(out, has_tags, names, c);
     };
-    if c.is_ascii_alphabetic() {
+    if goes_on(name.as_str(), c) {
         return Ok(());
     }
-    if c == '{' {
-        return push_begun(out, name.as_str());
+    if opens_argument(name.as_str(), c) {
+        return push_begun(out, has_tags, name.as_str());
     }
-    push_after(out, names, name.as_str(), c)
+    push_at_end(out, has_tags, names, name.as_str(), c)
 }
 
 // Opens or closes a brace, given the name of the command before it, if there is one.
@@ -345,10 +291,10 @@ fn open_after(
     let Some(name) = name else {
         return open_plainly(alloc, names, c);
     };
-    if c.is_ascii_alphabetic() {
+    if goes_on(name.as_str(), c) {
         return Ok(());
     }
-    if c == '{' {
+    if opens_argument(name.as_str(), c) {
         return Ok(names.push(name.clone()?)?);
     }
     open_plainly(alloc, names, c)
@@ -373,66 +319,71 @@ fn name_after(alloc: Global, name: Option<Text>, c: char) -> Result<Option<Text>
     let Some(mut name) = name else {
         return Ok(begins_name(alloc, c));
     };
-    if c.is_ascii_alphabetic() {
+    if goes_on(name.as_str(), c) {
         name.push(c)?;
         return Ok(Some(name));
     }
-    if c == '{' {
+    if opens_argument(name.as_str(), c) {
         return Ok(None);
     }
     Ok(begins_name(alloc, c))
 }
 
 // Appends the closing tags of all open braces.
-fn push_all_ended(out: &mut Text, names: Items<Text>) -> Result<(), AllocError>
-    ensures { OnOk result (out.new ≡ out.old ++ spec.all_ended (reverse names)) }
+fn push_all_ended(out: &mut Text, has_tags: bool, names: Items<Text>) -> Result<(), AllocError>
+    ensures { OnOk result (out.new ≡ out.old ++ spec.all_ended has_tags (reverse names)) }
 {
     let mut open = names;
     'open: while let Some(name) = open.pop() {
-        out.push_str(closing_tag(name.as_str()).unwrap_or(""))?;
+        out.push_str(closing_tag(has_tags, name.as_str()).unwrap_or(""))?;
     }
     Ok(())
 }
 
 // Appends the text at the end: the command that is being read, and the closing tags of all open braces.
 #[tactic(auto, unfolding(crate::specs::Markup::said_last))]
-fn push_last(out: &mut Text, names: Items<Text>, name: &Option<Text>) -> Result<(), AllocError>
-    ensures { OnOk result (out.new ≡ out.old ++ spec.said_last (reverse names) name.now) }
+fn push_last(
+    out: &mut Text,
+    has_tags: bool,
+    names: Items<Text>,
+    name: &Option<Text>,
+) -> Result<(), AllocError>
+    ensures { OnOk result (out.new ≡ out.old ++ spec.said_last has_tags (reverse names) name.now) }
 {
     let Some(name) = name else {
-        return push_all_ended(out, names);
+        return push_all_ended(out, has_tags, names);
     };
     match said_alone(name.as_str()) {
         Some(text) => out.push_str(text)?,
         None => push_command(out, name.as_str())?,
     }
-    push_all_ended(out, names)
+    push_all_ended(out, has_tags, names)
 }
 
-// Returns the text with HTML tags, character by character.
+// Returns the text without commands, with HTML tags or without them, character by character.
 #[tactic(auto, unfolding(crate::specs::Markup::marked_text))]
-fn with_tags(alloc: Global, text: &str) -> Result<Text, AllocError>
-    ensures { IfOk result (λ out. out ≡ spec.marked_text (chars text.now)) }
+fn without_commands(alloc: Global, has_tags: bool, text: &str) -> Result<Text, AllocError>
+    ensures { IfOk result (λ out. out ≡ spec.marked_text has_tags (chars text.now)) }
 {
     let mut out = Text::new(alloc);
     let mut names = Items::new(alloc);
     let mut name = None;
     let mut scanner = Scanner::new(text);
     'text: while let Some(c) = scanner.eat() {
-        push_said(&mut out, names.as_slice(), &name, c)?;
+        push_said(&mut out, has_tags, names.as_slice(), &name, c)?;
         open_after(alloc, &mut names, &name, c)?;
         name = name_after(alloc, name, c)?;
     }
-    push_last(&mut out, names, &name)?;
+    push_last(&mut out, has_tags, names, &name)?;
     Ok(out)
 }
 
-// Returns the text with HTML tags.
-pub(crate) fn marked_text(alloc: Global, text: Text) -> Result<Text, AllocError>
-    ensures { IfOk result (λ out. out ≡ spec.marked_text (chars text)) }
+// Returns the text without commands, with HTML tags or without them.
+pub(crate) fn marked_text(alloc: Global, has_tags: bool, text: Text) -> Result<Text, AllocError>
+    ensures { IfOk result (λ out. out ≡ spec.marked_text has_tags (chars text)) }
 {
     if is_unmarked(text.as_str()) {
         return Ok(text);
     }
-    with_tags(alloc, text.as_str())
+    without_commands(alloc, has_tags, text.as_str())
 }

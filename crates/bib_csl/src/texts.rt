@@ -14,8 +14,8 @@ use bib_entry::entry::Entry;
 use bib_text::text::Text;
 use std::alloc::{AllocError, Global};
 
-// Returns the field `name`, or else the field `other`.
-pub(crate) fn field_or<'e>(entry: &'e Entry, name: &str, other: &str) -> Option<ChunksRef<'e>>
+/// Returns the field `name`, or else the field `other`.
+pub fn field_or<'e>(entry: &'e Entry, name: &str, other: &str) -> Option<ChunksRef<'e>>
     ensures { option_copied result ≡ field_or entry.now name.now other.now }
 {
     match entry.get(name) {
@@ -35,8 +35,8 @@ pub(crate) fn shown_field(alloc: Global, field: Option<ChunksRef<'_>>) -> Result
     }
 }
 
-// Returns the plain text of the field `name`, or an empty text if the field is missing.
-pub(crate) fn plain_text(alloc: Global, entry: &Entry, name: &str) -> Result<Text, AllocError>
+/// Returns the plain text of the field `name`, or an empty text if the field is missing. The only error is out of memory.
+pub fn plain_text(alloc: Global, entry: &Entry, name: &str) -> Result<Text, AllocError>
     ensures { IfOk result (λ shown. shown ≡ shown_field (field entry.now name.now)) }
 {
     shown_field(alloc, entry.get(name))
@@ -71,9 +71,9 @@ pub(crate) fn rich_text_or(
     marked_field(alloc, false, field_or(entry, name, other))
 }
 
-// Returns the first text, or the other one if the first is empty.
+/// Returns the first text, or the other one if the first is empty.
 #[tactic(auto, unfolding(crate::specs::Texts::either))]
-pub(crate) fn either(first: Text, other: Text) -> Text
+pub fn either(first: Text, other: Text) -> Text
     ensures { result ≡ either first other }
 {
     if first.is_empty() { other } else { first }
@@ -137,10 +137,10 @@ fn ends_with_mark(text: &str) -> bool
         || ends_with_mark_of_kept_case(text)
 }
 
-// Returns two texts with a mark and a space between them, or only one of them if the other is empty. After a text that ends with a mark of
-// its own there is only the space.
+/// Returns two texts with a mark and a space between them, or only one of them if the other is empty. After a text that ends with a mark of
+/// its own there is only the space. The only error is out of memory.
 #[tactic(auto, unfolding(crate::specs::Texts::joined_by_mark, crate::specs::Texts::mark_after))]
-pub(crate) fn joined_by_mark(
+pub fn joined_by_mark(
     alloc: Global,
     mark: &str,
     first: Text,
@@ -186,8 +186,9 @@ pub(crate) fn list_text(alloc: Global, entry: &Entry, name: &str) -> Result<Text
     listed_field(alloc, entry.get(name))
 }
 
-// Returns the texts of the field `name`, or else of the field `other`, which are lists.
-pub(crate) fn list_text_or(
+/// Returns the texts of the field `name`, or else of the field `other`, which are lists, with semicolons between their parts and with HTML
+/// tags. The only error is out of memory.
+pub fn list_text_or(
     alloc: Global,
     entry: &Entry,
     name: &str,

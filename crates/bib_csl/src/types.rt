@@ -17,9 +17,9 @@ fn type_of_article(subtype: &str) -> ItemType
     }
 }
 
-// Returns the type of the item of an entry with the name of a type that only BibLaTeX's data model has, or of any other type.
+/// Returns the type of the item of an entry with the name of a type that only BibLaTeX's data model has, or of any other type.
 #[tactic(auto, unfolding(crate::specs::Types::item_type_named))]
-fn item_type_named(name: &str) -> ItemType
+pub fn item_type_named(name: &str) -> ItemType
     ensures { result ≡ item_type_named name.now }
 {
     match name {

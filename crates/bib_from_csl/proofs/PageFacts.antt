@@ -1,31 +1,29 @@
 -- The pages that ranges become are read as these ranges.
-use Rattle.std.proofs.Common.{◌≡◌, ℕ, ◌+◌, ◌<◌, ◌^◌, Bool, true, false, cond, List, [], ◌∷◌, ◌++◌, length, map, refl, sym, ap, ◌∙◌, subst, arith, append_assoc, append-nil, Option, Some, None}
-use Rattle.std.specs.Prelude.{codes, ◌==◌, ◌||◌, ◌&&◌, encode_utf8, encode_utf8_all, not}
+use Rattle.std.proofs.Common.{◌≡◌, ℕ, ◌+◌, ◌<◌, ◌^◌, Bool, true, false, cond, List, [], ◌∷◌, ◌++◌, length, map, refl, sym, ap, ◌∙◌, subst, arith, append_assoc, append-nil, Some}
+use Rattle.std.specs.Prelude.{codes, ◌==◌, ◌||◌, encode_utf8, encode_utf8_all}
 use Rattle.std.specs.List.{list_all, AllByRecursion, slice_split, onto_first}
 use Rattle.std.specs.declared.ops.Range.{Range}
 use Rattle.std.specs.Char.{is_ascii_digit, is_whitespace}
 use Rattle.std.specs.Fmt.{decimal}
 use Rattle.std.specs.Str.{chars, NonePass, trim_start, trim_end, skip_leading_whitespace, drop_trailing_whitespace}
-use Rattle.std.specs.Str.Parse.{AllDigits, digits_value}
 use Rattle.std.proofs.Math.Utf8.{scalar, scalars}
-use Rattle.std.proofs.lemmas.Bool.{and_from, and_parts, not-true, cases_Bool, cond-true, cond-false}
+use Rattle.std.proofs.lemmas.Bool.{and_from, and_parts, cond-false}
 use Rattle.std.proofs.lemmas.Bool.Decides.{nat_tests}
 use Rattle.std.proofs.lemmas.Fmt.{decimal_is_IsNumeral}
 use Rattle.std.proofs.lemmas.List.Folds.{list_all-append}
 use Rattle.std.proofs.lemmas.List.Splits.{slice_split-cons_yes, slice_split-cons_no}
 use Rattle.std.proofs.lemmas.Str.{chars-encodes, encodes-append, encodes-IsAscii}
-use Rattle.std.proofs.lemmas.Str.Parse.{digit_from_value}
 use Rattle.bib_text.specs.declared.spanned.Spanned.{Spanned}
 use Rattle.bib_chunks.specs.declared.chunk.Chunk.{Chunk}
 use Rattle.bib_chunks.specs.declared.chunk.Chunk.TheVariants.{Normal}
-use Rattle.bib_chunks.specs.Cuts.{between_commas, chunk_part, comma_list, further, joined_parts, list_parts, piece, pieces, pieces_between, with_span, trimmed_end, trimmed_start}
-use Rattle.bib_chunks.specs.Formatted.{flowing, formatted_chars, is_break}
+use Rattle.bib_chunks.specs.Cuts.{between_commas, chunk_part, comma_list, further, joined_parts, piece, pieces_between, with_span, trimmed_end}
+use Rattle.bib_chunks.specs.Formatted.{flowing, formatted_chars}
 use Rattle.bib_chunks.specs.Values.{Value, alone, text}
 use Rattle.bib_chunks.proofs.CutFacts.{split_none}
 use Rattle.bib_chunks.proofs.FormattedFacts.{goes_on}
 use Rattle.bib_chunks.proofs.SeparatedFacts.{no_place}
 use Rattle.bib_chunks.proofs.ValueFacts.{flowing_whole, is_simple, simple_ascii}
-use Rattle.bib_values.specs.Ranges.{EndsRange, IsNumber, IsRange, RangeKept, RangesKept, is_dash, all_of, range_of, ranges_read, with_first}
+use Rattle.bib_values.specs.Ranges.{EndsRange, IsNumber, RangeKept, RangesKept, is_dash, all_of, range_of, ranges_read, with_first}
 use Rattle.bib_values.specs.Ranges.EndsRange.{lone, dashed}
 use Rattle.bib_values.proofs.RangeGrammar.{range_read_of}
 use Rattle.bib_csl.specs.Numbers.{follows_dash_after, page_sign, pages, pages_from, pages_text}
@@ -479,5 +477,5 @@ pub pages_read : (ranges : List (Range ℕ)) → RangesKept ranges
 unfolding pages
 pages_read [] kept = absurd (omega (arith, kept.0))
 pages_read (r ∷ rs) kept =
-    ap (λ o. pages_text o (text (alone (Normal (pages_after [] (r ∷ rs)))))) (ranges_are r rs kept.1.0 kept.1.1)
+    ap (λ o. pages_text o (alone (Normal (pages_after [] (r ∷ rs))))) (ranges_are r rs kept.1.0 kept.1.1)
     ∙ shown_again r rs kept.1.0 kept.1.1

@@ -1,9 +1,8 @@
 -- Names of people, written and read again.
-use Rattle.std.proofs.Common.{◌≡◌, ℕ, suc, zero, Bool, true, false, cond, List, [], ◌∷◌, ◌++◌, length, map, refl, sym, ap, ap₂, ◌∙◌, arith, get_or}
+use Rattle.std.proofs.Common.{◌≡◌, ℕ, suc, Bool, true, false, cond, List, [], ◌∷◌, ◌++◌, length, map, refl, sym, ap, ap₂, ◌∙◌, arith, get_or}
 use Rattle.std.proofs.lemmas.List.{append-nil}
 use Rattle.std.specs.Prelude.{not, ◌&&◌, ◌||◌, ◌==◌, bytes_eq, codes, encode_utf8, encode_utf8_all, unwrap_or}
 use Rattle.std.specs.List.{flat_map, list_all, list_any}
-use Rattle.std.specs.Char.{is_whitespace}
 use Rattle.std.specs.Str.{chars, IsUtf8}
 use Rattle.std.proofs.lemmas.Bool.{and_parts, false≢true, ne_eqb, or_parts}
 use Rattle.std.proofs.lemmas.Slice.Eq.{bytes_eq-Decides}
@@ -11,13 +10,13 @@ use Rattle.std.proofs.lemmas.Str.{encodes-chars}
 use Rattle.bib_chunks.specs.declared.chunk.Chunk.{Chunk}
 use Rattle.bib_chunks.specs.declared.chunk.Chunk.TheVariants.{Normal, Verbatim}
 use Rattle.bib_chunks.specs.Cuts.{and_list}
-use Rattle.bib_chunks.specs.Formatted.{formatted_chars_after, space_after}
+use Rattle.bib_chunks.specs.Formatted.{space_after}
 use Rattle.bib_chunks.specs.Values.{Value, nowhere, text}
 use Rattle.bib_people.specs.declared.person.Person.{Person}
 use Rattle.bib_people.specs.Names.{person_of}
-use Rattle.bib_people.specs.People.{people_chunks, people_of, person_chunks}
-use Rattle.bib_people.specs.Kept.{AreWords, is_capital_letter, is_kept_word, is_name_byte, is_small_letter, name_begins, spaced, IsKeptPerson}
-use Rattle.bib_people.proofs.AndLists.{AllParts, IsPart, and_list_written, empties, before_and, after_and, formatted_empties, padded, padded_parts, written_after}
+use Rattle.bib_people.specs.People.{person_chunks}
+use Rattle.bib_people.specs.Kept.{is_capital_letter, is_kept_word, is_name_byte, is_small_letter, spaced, IsKeptPerson}
+use Rattle.bib_people.proofs.AndLists.{AllParts, IsPart, and_list_written, empties, before_and, formatted_empties, padded, padded_parts, written_after}
 use Rattle.bib_people.proofs.ByteFacts.{all_follow, none_of}
 use Rattle.bib_people.proofs.LineFacts.{AllWords, all_any}
 use Rattle.bib_people.proofs.SpacedFacts.{spaced_all}

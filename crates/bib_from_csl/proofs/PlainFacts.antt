@@ -1,10 +1,9 @@
 -- A plain name is written as one line of its words, as BibTeX has it.
-use Rattle.std.proofs.Common.{◌≡◌, ℕ, ◌<◌, suc, zero, Bool, true, false, cond, List, [], ◌∷◌, ◌++◌, length, refl, sym, ap, ap₂, ◌∙◌, arith}
+use Rattle.std.proofs.Common.{◌≡◌, ℕ, ◌<◌, suc, Bool, true, false, cond, List, [], ◌∷◌, ◌++◌, length, refl, sym, ap, ap₂, ◌∙◌, arith}
 use Rattle.std.proofs.lemmas.List.{append-nil}
 use Rattle.std.proofs.Common.{append_assoc}
 use Rattle.std.specs.Prelude.{not, ◌&&◌, ◌||◌, ◌==◌, bytes_eq, codes, encode_utf8_all}
 use Rattle.std.specs.List.{list_all, list_any, slice_split, onto_first, range_with_len}
-use Rattle.std.specs.Char.{is_whitespace}
 use Rattle.std.specs.Str.{chars, IsAscii}
 use Rattle.unicode.specs.Binary.{is_lowercase, is_uppercase}
 use Rattle.std.proofs.lemmas.Bool.{and_parts, and_from, not-true, false≢true, ne_eqb, both_ways}
@@ -13,14 +12,14 @@ use Rattle.std.proofs.lemmas.List.Splits.{slice_split-cons_no}
 use Rattle.std.proofs.lemmas.Slice.Eq.{bytes_eq-Decides}
 use Rattle.std.proofs.lemmas.Str.{chars-IsAscii, encodes-IsAscii}
 use Rattle.bib_chunks.specs.declared.chunk.Chunk.TheVariants.{Normal}
-use Rattle.bib_chunks.specs.Formatted.{flowing, formatted_chars_after, space_after}
+use Rattle.bib_chunks.specs.Formatted.{flowing, space_after}
 use Rattle.bib_chunks.proofs.FormattedFacts.{flowing_run, goes_on}
 use Rattle.bib_chunks.specs.Values.{nowhere, text}
 use Rattle.bib_people.specs.declared.person.Person.{Person}
 use Rattle.bib_people.specs.Names.{person}
-use Rattle.bib_people.specs.People.{people_chunks, people_of, person_chunks, plain_chunks, suffix_text}
-use Rattle.bib_people.specs.Kept.{AreWords, after_words, is_capital_letter, is_kept_word, is_name_byte, is_small_letter, is_word_and, name_begins, spaced, IsKeptPerson}
-use Rattle.bib_people.proofs.AndLists.{IsPart, before_and, after_and, formatted_empties, padded}
+use Rattle.bib_people.specs.People.{person_chunks, plain_chunks, suffix_text}
+use Rattle.bib_people.specs.Kept.{after_words, is_capital_letter, is_kept_word, is_name_byte, is_small_letter, is_word_and, spaced, IsKeptPerson}
+use Rattle.bib_people.proofs.AndLists.{IsPart, before_and, formatted_empties, padded}
 use Rattle.bib_people.proofs.ByteFacts.{all_follow, ascii_fact, ascii_of, capital_not_low, is_line_byte, line_open, name_small, small_low, implied}
 use Rattle.bib_people.proofs.LineFacts.{AllWords, all_any, is_line_item, items_ascii, items_bytes, items_part, line_all, line_items, line_spelt, more_some, plain_line, spaced_then}
 use Rattle.bib_people.proofs.SurviveFacts.{some_words}

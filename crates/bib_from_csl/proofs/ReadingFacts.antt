@@ -1,10 +1,9 @@
 -- Items and members, one after another.
-use Rattle.std.proofs.Common.{◌≡◌, ◌+◌, ℕ, Bool, true, false, cond, List, [], ◌∷◌, ◌++◌, Option, Some, None, refl, sym, ap, ◌∙◌, append_assoc}
+use Rattle.std.proofs.Common.{◌≡◌, ◌+◌, ℕ, true, false, cond, List, [], ◌∷◌, ◌++◌, Option, Some, None, refl, sym, ap, ◌∙◌, append_assoc}
 use Rattle.json.specs.Json.{Json}
 use Rattle.bib_from_csl.specs.declared.given.Given.{Given}
 use Rattle.bib_from_csl.specs.declared.given.GivenItem.{GivenItem}
 use Rattle.bib_from_csl.specs.declared.reading.Fault.{Fault}
-use Rattle.bib_from_csl.specs.declared.reading.ItemReading.{ItemReading}
 use Rattle.bib_from_csl.specs.declared.reading.ItemReading.TheVariants.{Says, Unfit}
 use Rattle.bib_from_csl.specs.declared.reading.ItemsReading.{ItemsReading}
 use Rattle.bib_from_csl.specs.declared.reading.ItemsReading.TheVariants.{Are, Refused}

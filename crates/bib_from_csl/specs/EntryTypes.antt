@@ -1,6 +1,6 @@
 -- Meaning: words of public contracts.
 -- The types of the entries of items.
-use Rattle.std.specs.Prelude.{ℕ, Bool, true, false, ◌==◌, if◌then◌else◌, List, [], ◌∷◌, length, codes, bytes_eq, Option, Some, None, unwrap_or}
+use Rattle.std.specs.Prelude.{ℕ, Bool, true, false, ◌==◌, if◌then◌else◌, List, [], length, codes, bytes_eq, Option, Some, None, unwrap_or}
 use Rattle.std.specs.List.{list_any}
 use Rattle.bib_text.specs.Enums.{words}
 use Rattle.bib_tables.specs.EntryType.{entry_type_name}

@@ -1,7 +1,7 @@
 -- Meaning: words of public contracts.
 -- The dates of items of CSL-JSON.
-use Rattle.std.specs.Prelude.{ℕ, ◌+◌, ◌^◌, Bool, true, false, ◌==◌, nat_lt, if◌then◌else◌, ℤ, pos, negsuc, List, [], ◌∷◌, codes, bytes_eq, Option, Some, None, is_some, unwrap_or, option_and_then, option_map}
-use Rattle.std.specs.Option.{option_map_or, option_or}
+use Rattle.std.specs.Prelude.{ℕ, ◌+◌, ◌^◌, Bool, false, ◌==◌, nat_lt, if◌then◌else◌, ℤ, pos, negsuc, List, [], ◌∷◌, codes, bytes_eq, Option, Some, None, is_some, unwrap_or, option_and_then, option_map}
+use Rattle.std.specs.Option.{option_or}
 use Rattle.json.specs.Json.{Json}
 use Rattle.json.specs.Find.{as_bool, get}
 use Rattle.bib_chunks.specs.declared.chunk.Chunk.TheVariants.{Normal}

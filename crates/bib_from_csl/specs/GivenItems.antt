@@ -12,8 +12,6 @@ use Rattle.bib_csl.specs.declared.item.Content.{Content}
 use Rattle.bib_csl.specs.declared.item.Content.TheVariants as content
 use Rattle.bib_csl.specs.declared.item.ItemDate.{ItemDate}
 use Rattle.bib_from_csl.specs.declared.given.Given.{Given}
-use Rattle.bib_from_csl.specs.declared.given.GivenItem.{GivenItem}
-use Rattle.bib_from_csl.specs.declared.reading.Fault.{Fault}
 use Rattle.bib_from_csl.specs.declared.reading.Fault.TheVariants as fault
 use Rattle.bib_from_csl.specs.declared.reading.ItemReading.{ItemReading}
 use Rattle.bib_from_csl.specs.declared.reading.ItemReading.TheVariants.{Says, Unfit}

@@ -1,6 +1,9 @@
 -- Meaning: words of public contracts.
 -- BibLaTeX's names of languages, by their tags (BCP 47).
 use Rattle.std.specs.Prelude.{ℕ, ◌==◌, if◌then◌else◌, List, [], length, codes, bytes_eq}
+use Rattle.std.specs.List.{before_first}
+use Rattle.bib_dates.specs.Dates.{holds as has_byte}
+use Rattle.bib_text.specs.Characters as char
 
 -- the name of a language for a tag with a country or a script, or nothing
 unfoldable pub national_name : List ℕ → List ℕ
@@ -14,6 +17,8 @@ national_name name =
     else if bytes_eq name (codes "de-CH") then codes "nswissgerman"
     else if bytes_eq name (codes "pt-BR") then codes "brazil"
     else if bytes_eq name (codes "pt-PT") then codes "portuguese"
+    else if bytes_eq name (codes "es-MX") then codes "mexican"
+    else if bytes_eq name (codes "fr-CA") then codes "canadien"
     else if bytes_eq name (codes "sr-Latn") then codes "serbian"
     else if bytes_eq name (codes "sr-Cyrl") then codes "serbianc"
     else []
@@ -55,12 +60,24 @@ eastern_name name =
     else if bytes_eq name (codes "sl") then codes "slovene"
     else if bytes_eq name (codes "tr") then codes "turkish"
     else if bytes_eq name (codes "uk") then codes "ukrainian"
+    else if bytes_eq name (codes "gl") then codes "galician"
+    else if bytes_eq name (codes "la") then codes "latin"
+    else if bytes_eq name (codes "no") then codes "norwegian"
     else []
 
 -- the first name, or the other one if the first is empty
 abbrev pub first_name : List ℕ → List ℕ → List ℕ
 first_name first other = if length first == 0 then other else first
 
--- BibLaTeX's name of the language of a tag, or nothing
+-- the tag of a language without its country or script
+unfoldable pub without_country : List ℕ → List ℕ
+without_country tag = if has_byte char.hyphen tag then before_first (λ b. b == char.hyphen) tag else tag
+
+-- the name of a language for a tag without a country and a script, or nothing
+abbrev pub plain_name : List ℕ → List ℕ
+plain_name tag = first_name (western_name tag) (eastern_name tag)
+
+-- BibLaTeX's name of the language of a tag, or nothing. A tag with a country or a script that has no name of its own has the name of its
+-- language.
 unfoldable pub language_name : List ℕ → List ℕ
-language_name tag = first_name (first_name (national_name tag) (western_name tag)) (eastern_name tag)
+language_name tag = first_name (national_name tag) (plain_name (without_country tag))

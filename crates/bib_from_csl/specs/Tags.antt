@@ -1,6 +1,6 @@
 -- Meaning: words of public contracts.
 -- Texts with HTML tags, written in LaTeX. A text is given by its bytes.
-use Rattle.std.specs.Prelude.{ℕ, zero, suc, ◌+◌, ◌-◌, ◌==◌, Bool, false, nat_lt, if◌then◌else◌, List, [], ◌∷◌, ◌++◌, length, drop, eqb, codes, encode_utf8_all, replicate, Option, Some, None, option_map}
+use Rattle.std.specs.Prelude.{ℕ, zero, suc, ◌+◌, ◌-◌, ◌==◌, false, nat_lt, if◌then◌else◌, List, [], ◌∷◌, ◌++◌, length, drop, eqb, codes, encode_utf8_all, replicate, Option, Some, None, option_map}
 use Rattle.std.specs.List.{after_first, before_first, position_or_len, slice_split, starts_with}
 use Rattle.std.specs.Option.{option_or}
 use Rattle.std.specs.Str.{chars}

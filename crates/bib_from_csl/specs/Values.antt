@@ -1,6 +1,6 @@
 -- Meaning: words of public contracts.
 -- The values of fields. A value is given by its bytes.
-use Rattle.std.specs.Prelude.{ℕ, Bool, ◌==◌, if◌then◌else◌, List, [], ◌∷◌, ◌++◌, codes, bytes_eq, encode_utf8}
+use Rattle.std.specs.Prelude.{ℕ, Bool, ◌==◌, if◌then◌else◌, List, ◌++◌, codes, bytes_eq, encode_utf8}
 use Rattle.std.specs.List.{flat_map, list_any, slice_split}
 use Rattle.std.specs.Str.{chars}
 use Rattle.bib_text.specs.Characters as char

@@ -1,6 +1,6 @@
 -- Meaning: words of public contracts.
 -- The fields for the variables of items.
-use Rattle.std.specs.Prelude.{ℕ, Bool, true, false, ◌==◌, ◌&&◌, ◌||◌, if◌then◌else◌, List, [], length, codes, bytes_eq}
+use Rattle.std.specs.Prelude.{ℕ, Bool, ◌==◌, ◌&&◌, ◌||◌, if◌then◌else◌, List, [], length, codes, bytes_eq}
 use Rattle.bib_tables.specs.declared.mechanics.EntryType.{EntryType}
 use Rattle.bib_tables.specs.declared.mechanics.EntryType.TheVariants as entry_type
 use Rattle.bib_from_csl.specs.EntryTypes.{numbers_issues, numbers_series, stands_in_book, is_of_institution, is_among_words, may_be_volume}

@@ -1,11 +1,11 @@
 -- Meaning: words of public contracts.
 -- The values of date fields, in the format of BibLaTeX (ISO 8601-2).
-use Rattle.std.specs.Prelude.{ℕ, ◌-◌, ◌==◌, ◌&&◌, ◌||◌, Bool, true, false, not, nat_lt, if◌then◌else◌, ℤ, pos, neg_ℤ, ◌+ℤ◌, List, [], ◌∷◌, ◌++◌, length, codes, Option, Some, None, option_map, option_and_then}
-use Rattle.std.specs.Ordering.{int_cmp, is_lt}
+use Rattle.std.specs.Prelude.{ℕ, ◌-◌, ◌==◌, ◌&&◌, ◌||◌, Bool, false, not, nat_lt, if◌then◌else◌, ℤ, pos, neg_ℤ, ◌+ℤ◌, List, [], ◌∷◌, ◌++◌, length, codes, Option, Some, None, is_some, option_map, option_and_then}
+use Rattle.std.specs.Ordering.{int_cmp, int_eq, is_lt}
 use Rattle.bib_dates.specs.Written.{datetime_text, date_text}
 use Rattle.bib_dates.specs.declared.date.Date.{Date}
 use Rattle.bib_dates.specs.declared.date.DateValue.{DateValue}
-use Rattle.bib_dates.specs.declared.date.DateValue.TheVariants.{At, Between}
+use Rattle.bib_dates.specs.declared.date.DateValue.TheVariants.{At, After, Before, Between}
 use Rattle.bib_dates.specs.declared.date.Datetime.{Datetime}
 use Rattle.bib_csl.specs.declared.item.DateParts.{DateParts}
 use Rattle.bib_csl.specs.declared.item.ItemDate.{ItemDate}
@@ -39,15 +39,26 @@ datetime_of_counts year month day =
 abbrev pub datetime_of : DateParts → Option Datetime
 datetime_of p = datetime_of_counts (counted_year p.year) (counted_part p.month 12) (counted_part p.day 31)
 
+-- whether a date stands for the open side of a range: the year 0, which CSL doesn't count, without a month and a day
+abbrev pub is_open_side : DateParts → Bool
+is_open_side p = int_eq p.year (pos 0) && (not (is_some p.month) && not (is_some p.day))
+
 -- a range, if both of its dates are given
 abbrev pub range_between : Option Datetime → Option Datetime → Option DateValue
 range_between start end = option_and_then (λ a. option_map (Between a) end) start
+
+-- a range, which may have an open side
+abbrev pub range_with_sides : DateParts → DateParts → Option DateValue
+range_with_sides start end =
+    if is_open_side end then option_map After (datetime_of start)
+    else if is_open_side start then option_map Before (datetime_of end)
+    else range_between (datetime_of start) (datetime_of end)
 
 -- the value for one date, or for the two dates of a range
 abbrev pub dates_value : List DateParts → Option DateValue
 dates_value [] = None
 dates_value (only ∷ []) = option_map At (datetime_of only)
-dates_value (start ∷ end ∷ []) = range_between (datetime_of start) (datetime_of end)
+dates_value (start ∷ end ∷ []) = range_with_sides start end
 dates_value (start ∷ end ∷ more ∷ rest) = None
 
 -- the last digit of the number of a season in ISO 8601-2 (21 to 24)

@@ -62,17 +62,35 @@ fn datetime_of(parts: &DateParts) -> Option<Datetime>
     })
 }
 
+// Returns whether a date stands for the open side of a range: the year 0 without a month and a day.
+fn is_open_side(parts: &DateParts) -> bool
+    ensures { result ≡ spec.is_open_side parts.now }
+{
+    parts.year == 0 && parts.month.is_none() && parts.day.is_none()
+}
+
+// Returns a range, which may have an open side.
+fn range_with_sides(start: &DateParts, end: &DateParts) -> Option<DateValue>
+    ensures { result ≡ spec.range_with_sides start.now end.now }
+{
+    if is_open_side(end) {
+        return Some(DateValue::After(datetime_of(start)?));
+    }
+    if is_open_side(start) {
+        return Some(DateValue::Before(datetime_of(end)?));
+    }
+    let start = datetime_of(start)?;
+    let end = datetime_of(end)?;
+    Some(DateValue::Between(start, end))
+}
+
 // Returns the value for one date, or for the two dates of a range.
 fn value_of(parts: &[DateParts]) -> Option<DateValue>
     ensures { result ≡ spec.dates_value parts.now }
 {
     match parts {
         [only] => Some(DateValue::At(datetime_of(only)?)),
-        [start, end] => {
-            let start = datetime_of(start)?;
-            let end = datetime_of(end)?;
-            Some(DateValue::Between(start, end))
-        }
+        [start, end] => range_with_sides(start, end),
         _ => None,
     }
 }

@@ -3,6 +3,8 @@
 ghost use Rattle.std.specs.Prelude.{◌≡◌};
 ghost use Rattle.bib_from_csl.specs.LanguageNames as spec;
 
+use crate::reading::sides;
+
 // Returns the name of a language for a tag with a country or a script, or an empty text.
 #[tactic(auto, unfolding(crate::specs::LanguageNames::national_name))]
 fn national_name(tag: &str) -> &'static str
@@ -18,6 +20,8 @@ fn national_name(tag: &str) -> &'static str
         "de-CH" => "nswissgerman",
         "pt-BR" => "brazil",
         "pt-PT" => "portuguese",
+        "es-MX" => "mexican",
+        "fr-CA" => "canadien",
         "sr-Latn" => "serbian",
         "sr-Cyrl" => "serbianc",
         _ => "",
@@ -69,6 +73,9 @@ fn other_name(tag: &str) -> &'static str
         "sl" => "slovene",
         "tr" => "turkish",
         "uk" => "ukrainian",
+        "gl" => "galician",
+        "la" => "latin",
+        "no" => "norwegian",
         _ => "",
     }
 }
@@ -80,11 +87,24 @@ fn first_name(first: &'static str, other: &'static str) -> &'static str
     if first.is_empty() { other } else { first }
 }
 
-// Returns BibLaTeX's name of the language of a tag, or an empty text.
+// Returns the tag of a language without its country or script.
+#[tactic(auto, unfolding(crate::specs::LanguageNames::without_country))]
+fn without_country(tag: &str) -> &str
+    ensures { result.now ≡ spec.without_country tag.now }
+{
+    match sides(tag) {
+        Some((language, _)) => language,
+        None => tag,
+    }
+}
+
+// Returns BibLaTeX's name of the language of a tag, or an empty text. A tag with a country or a script that has no name of its own has the
+// name of its language.
 #[tactic(auto, unfolding(crate::specs::LanguageNames::language_name))]
 pub(crate) fn language_name(tag: &str) -> &'static str
     ensures { result.now ≡ spec.language_name tag.now }
 {
-    let national = first_name(national_name(tag), western_name(tag));
-    first_name(national, other_name(tag))
+    let language = without_country(tag);
+    let name = first_name(western_name(language), other_name(language));
+    first_name(national_name(tag), name)
 }

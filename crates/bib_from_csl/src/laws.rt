@@ -11,7 +11,7 @@ ghost use Rattle.bib_csl.specs.declared.item.Name.{Name as AName};
 ghost use Rattle.bib_dates.specs.Kept.{IsKeptDate};
 ghost use Rattle.bib_dates.specs.declared.date.Date.{Date as ADate};
 ghost use Rattle.bib_values.specs.Ranges.{RangesKept};
-ghost use Rattle.bib_from_csl.specs.PlainDates.{HasBothEnds, IsDateReadBack};
+ghost use Rattle.bib_from_csl.specs.PlainDates.{IsDateReadBack};
 ghost use Rattle.bib_from_csl.specs.PlainPages.{pages_after};
 ghost use Rattle.bib_from_csl.specs.PlainPeople.{ArePlainNames};
 ghost use Rattle.bib_from_csl.specs.WrittenPeople.{names_chunks};
@@ -23,9 +23,9 @@ pub fn names_are_read_again()
 {}
 
 /// States that the date of an item for a BibLaTeX date is parsed back from its text, if the years are from -9999 to 9999, the
-/// days exist, there is no time, and a range has both ends.
+/// days exist, and there is no time.
 pub fn dates_are_read_again()
-    ensures { (d : ADate) → IsKeptDate d → HasBothEnds d.value → IsDateReadBack (date_item d) }
+    ensures { (d : ADate) → IsKeptDate d → IsDateReadBack (date_item d) }
 {}
 
 /// States that the pages of at least one range of 32-bit numbers are parsed back from a field that contains them.

@@ -81,7 +81,7 @@ fn dashed_text(alloc: Global, text: &str) -> Result<Text, AllocError>
 }
 
 // Returns the text before and after the first hyphen.
-fn sides(text: &str) -> Option<(&str, &str)>
+pub(crate) fn sides(text: &str) -> Option<(&str, &str)>
     ensures some { is_some result ≡ has_byte char.hyphen text.now }
     ensures from { IfSome result (λ p. p.0.now ≡ before_first (λ b. b == char.hyphen) text.now) }
     ensures to { IfSome result (λ p. p.1.now ≡ after_first (λ b. b == char.hyphen) text.now) }

@@ -1,200 +1,166 @@
 -- Meaning: words of public contracts.
--- Entries as records of RIS.
-use Rattle.std.specs.Prelude.{ℕ, ◌+◌, nat_lt, ◌==◌, ◌&&◌, if◌then◌else◌, ℤ, List, [], ◌∷◌, ◌++◌, length, map, codes, Option, Some, None, option_map}
-use Rattle.std.specs.FinMap as by_name
-use Rattle.std.specs.Fmt.{decimal, signed_decimal}
-use Rattle.std.specs.Option.{option_or}
-use Rattle.std.specs.declared.ops.Range.{Range}
-use Rattle.bib_chunks.specs.Values.{Value, text}
-use Rattle.bib_dates.specs.Chunks.{date_read, three_fields_reading}
-use Rattle.bib_dates.specs.Readings.{readable_value}
-use Rattle.bib_dates.specs.declared.date.Date.{Date}
-use Rattle.bib_dates.specs.declared.date.DateValue.{DateValue}
-use Rattle.bib_dates.specs.declared.date.DateValue.TheVariants.{At, After, Before, Between}
-use Rattle.bib_dates.specs.declared.date.Datetime.{Datetime}
+-- Entries as records of RIS. The texts are those of items of CSL-JSON, without HTML tags.
+use Rattle.std.specs.Prelude.{ℕ, if◌then◌else◌, List, [], ◌++◌, codes, Option, Some, None, is_some}
+use Rattle.bib_csl.specs.Identifiers.{archive_text, bare_doi, url_of}
+use Rattle.bib_csl.specs.Notes.{language_of, language_value}
+use Rattle.bib_csl.specs.Publishing.{genre_of, publisher_of}
+use Rattle.bib_csl.specs.Texts.{either, field, joined_by_mark, listed_field, shown_field}
+use Rattle.bib_chunks.specs.Values.{Value}
+use Rattle.bib_entry.specs.Fields.{field_or}
 use Rattle.bib_entry.specs.declared.entry.Entry.{Entry}
-use Rattle.bib_people.specs.People.{people_of}
-use Rattle.bib_people.specs.declared.person.Person.{Person}
 use Rattle.bib_values.specs.Lists.{strings_read}
-use Rattle.bib_values.specs.Ranges.{range_read}
-use Rattle.bib_ris.specs.Lines.{ris_line, ris_lines, line_if_given}
+use Rattle.bib_ris.specs.Bare.{bare_named, bare_named_or}
+use Rattle.bib_ris.specs.Dates.{lines_of_dates}
+use Rattle.bib_ris.specs.Lines.{given_line, ris_line, ris_lines}
+use Rattle.bib_ris.specs.Pages.{pages_lines}
+use Rattle.bib_ris.specs.People.{people_lines}
 use Rattle.bib_ris.specs.Types.{ris_type}
-
--- the chunks of a field, if the entry has it
-abbrev pub entry_field : Entry → List ℕ → Option Value
-entry_field entry name = by_name.get entry.fields name
-
--- the chunks of the first of these fields that the entry has
-abbrev pub first_field : Entry → List (List ℕ) → Option Value
-first_field entry [] = None
-first_field entry (name ∷ names) = option_or (entry_field entry name) (first_field entry names)
-
--- a line with the text of the first of these fields that the entry has; nothing if it has none of them
-abbrev pub ris_field : Entry → List ℕ → List (List ℕ) → List ℕ
-ris_field entry tag names = line_if_given tag (option_map text (first_field entry names))
 
 -- ---- people
 
--- a family name after its prefix
-abbrev pub family_name : Person → List ℕ
-family_name p = if length p.prefix == 0 then p.name else p.prefix ++ (codes " " ++ p.name)
+-- the authors, or the holders of a patent without authors, the authors of the book that contains the work, and the translators
+unfoldable pub authors_part : Entry → List ℕ
+authors_part entry =
+    people_lines (codes "AU") (field_or entry (codes "author") (codes "holder"))
+    ++ (people_lines (codes "A2") (field entry (codes "bookauthor"))
+    ++ people_lines (codes "A4") (field entry (codes "translator")))
 
--- a comma and the given name, unless the person has neither a given name nor a suffix
-abbrev pub given_part : Person → List ℕ
-given_part p = if (length p.given_name == 0) && (length p.suffix == 0) then [] else codes ", " ++ p.given_name
-
--- a comma and the suffix, if there is one
-abbrev pub suffix_part : Person → List ℕ
-suffix_part p = if length p.suffix == 0 then [] else codes ", " ++ p.suffix
-
--- the name of a person
-abbrev pub person_text : Person → List ℕ
-person_text p = family_name p ++ (given_part p ++ suffix_part p)
-
--- a line for each person of a field
-abbrev pub people_lines : List ℕ → Option Value → List ℕ
-people_lines tag None = []
-people_lines tag (Some chunks) = ris_lines tag (map person_text (people_of chunks))
-
--- the authors, and then the editors
-abbrev pub names_part : Entry → List ℕ
-names_part entry =
-    people_lines (codes "AU") (entry_field entry (codes "author"))
-    ++ people_lines (codes "ED") (entry_field entry (codes "editor"))
+-- the editors of every role
+unfoldable pub editors_part : Entry → List ℕ
+editors_part entry =
+    people_lines (codes "ED") (field entry (codes "editor"))
+    ++ (people_lines (codes "ED") (field entry (codes "editora"))
+    ++ (people_lines (codes "ED") (field entry (codes "editorb"))
+    ++ people_lines (codes "ED") (field entry (codes "editorc"))))
 
 -- ---- titles
 
--- a title, with its subtitle if there is one
-abbrev pub whole_title : Value → Option Value → List ℕ
-whole_title title None = text title
-whole_title title (Some subtitle) = text title ++ (codes ": " ++ text subtitle)
+-- a title with its subtitle and its addition, which are in the fields `subtitle` and `addon`
+unfoldable pub whole_title : Entry → List ℕ → List ℕ → List ℕ → List ℕ
+whole_title entry title subtitle addon =
+    joined_by_mark (codes ".") (joined_by_mark (codes ":") title (bare_named entry subtitle)) (bare_named entry addon)
 
--- the title with its subtitle, if there is a title
-abbrev pub title_given : Option Value → Option Value → Option (List ℕ)
-title_given None subtitle = None
-title_given (Some title) subtitle = Some (whole_title title subtitle)
+-- the title of the work itself
+unfoldable pub work_title : Entry → List ℕ
+work_title entry = whole_title entry (bare_named entry (codes "title")) (codes "subtitle") (codes "titleaddon")
 
--- the title, the title of the journal or the book, and the title of the series
-abbrev pub titles_part : Entry → List ℕ
+-- the title of the journal
+unfoldable pub periodical_title : Entry → List ℕ
+periodical_title entry =
+    whole_title entry (bare_named_or entry (codes "journaltitle") (codes "journal")) (codes "journalsubtitle") (codes "journaltitleaddon")
+
+-- the title of the book that contains the work
+unfoldable pub book_around : Entry → List ℕ
+book_around entry = whole_title entry (bare_named entry (codes "booktitle")) (codes "booksubtitle") (codes "booktitleaddon")
+
+-- the title of the work of several volumes
+unfoldable pub volumes_around : Entry → List ℕ
+volumes_around entry = whole_title entry (bare_named entry (codes "maintitle")) (codes "mainsubtitle") (codes "maintitleaddon")
+
+-- the title of the event, such as a conference
+unfoldable pub meeting_title : Entry → List ℕ
+meeting_title entry = joined_by_mark (codes ".") (bare_named entry (codes "eventtitle")) (bare_named entry (codes "eventtitleaddon"))
+
+-- the title of what contains the work: the journal, or else the book, the work of several volumes, or the event
+unfoldable pub host_title : Entry → List ℕ
+host_title entry = either (periodical_title entry) (either (book_around entry) (either (volumes_around entry) (meeting_title entry)))
+
+-- the titles of the journal and of the book once more, under the tags that bibutils reads as those of whole titles
+unfoldable pub whole_host_part : Entry → List ℕ
+whole_host_part entry = given_line (codes "JF") (periodical_title entry) ++ given_line (codes "BT") (book_around entry)
+
+-- the title of what contains the work, under two tags, and the short title of the journal
+unfoldable pub host_part : Entry → List ℕ
+host_part entry =
+    given_line (codes "T2") (host_title entry)
+    ++ (whole_host_part entry ++ given_line (codes "JA") (bare_named entry (codes "shortjournal")))
+
+-- the title, its short form, the titles of what contains the work, and the title of the series
+unfoldable pub titles_part : Entry → List ℕ
 titles_part entry =
-    line_if_given (codes "TI") (title_given (entry_field entry (codes "title")) (entry_field entry (codes "subtitle")))
-    ++ (ris_field entry (codes "T2") (codes "journaltitle" ∷ codes "journal" ∷ codes "booktitle" ∷ [])
-    ++ ris_field entry (codes "T3") (codes "series" ∷ []))
-
--- ---- dates
-
--- the date that a year, a month and a day are parsed as; `None` if there is no year or they can't be parsed
-abbrev pub three_fields_read : Option Value → Option Value → Option Value → Option Date
-three_fields_read None month day = None
-three_fields_read (Some year) month day = readable_value (three_fields_reading year month day)
-
--- the result of parsing the field `date`, or the date in three fields if the entry has no field `date`
-abbrev pub date_or_three : Option Value → Option Date → Option Date
-date_or_three None three = three
-date_or_three (Some chunks) three = date_read chunks
-
--- the date of an entry; `None` if it has none or the date can't be parsed
-abbrev pub entry_date : Entry → Option Date
-entry_date entry =
-    date_or_three (entry_field entry (codes "date"))
-    (three_fields_read (entry_field entry (codes "year")) (entry_field entry (codes "month"))
-    (entry_field entry (codes "day")))
-
--- the only date, or the start of a range, or its end if it has no start
-abbrev pub first_date : DateValue → Datetime
-first_date (At d) = d
-first_date (After d) = d
-first_date (Before d) = d
-first_date (Between d e) = d
-
--- a month or a day, counted from 1, in at least two digits, or nothing if it is unknown
-abbrev pub two_digits : Option ℕ → List ℕ
-two_digits None = []
-two_digits (Some index) = if nat_lt index 9 then codes "0" ++ decimal (index + 1) else decimal (index + 1)
-
--- a line of a year, a month and a day with a slash after each, if the month is known
-abbrev pub day_line : ℤ → Option ℕ → Option ℕ → List ℕ
-day_line year None day = []
-day_line year (Some month) day =
-    ris_line (codes "DA")
-    (signed_decimal year ++ (codes "/" ++ (two_digits (Some month) ++ (codes "/" ++ (two_digits day ++ codes "/")))))
-
--- the lines of a date: its year, and its day
-abbrev pub datetime_lines : Datetime → List ℕ
-datetime_lines d = ris_line (codes "PY") (signed_decimal d.year) ++ day_line d.year d.month d.day
-
--- the lines of a date, if there is one
-abbrev pub ris_date : Option Date → List ℕ
-ris_date None = []
-ris_date (Some d) = datetime_lines (first_date d.value)
+    given_line (codes "TI") (work_title entry)
+    ++ (given_line (codes "ST") (bare_named entry (codes "shorttitle"))
+    ++ (host_part entry ++ given_line (codes "T3") (bare_named entry (codes "series"))))
 
 -- ---- numbers
 
--- the first and the last page of a range, or the text if there is no range
-abbrev pub range_lines : Value → Option (Range ℕ) → List ℕ
-range_lines chunks None = ris_line (codes "SP") (text chunks)
-range_lines chunks (Some range) = ris_line (codes "SP") (decimal range.start) ++ ris_line (codes "EP") (decimal range.end)
+-- volume, number of volumes, number, edition or version, and chapter
+unfoldable pub volume_part : Entry → List ℕ
+volume_part entry =
+    given_line (codes "VL") (bare_named entry (codes "volume"))
+    ++ (given_line (codes "NV") (bare_named entry (codes "volumes"))
+    ++ (given_line (codes "IS") (bare_named_or entry (codes "number") (codes "issue"))
+    ++ (given_line (codes "ET") (bare_named_or entry (codes "edition") (codes "version"))
+    ++ given_line (codes "SE") (bare_named entry (codes "chapter")))))
 
--- the first range of pages, or the text if the list has no range or a part that is no range
-abbrev pub pages_lines : Option Value → List ℕ
-pages_lines None = []
-pages_lines (Some chunks) = range_lines chunks (range_read chunks)
+-- the number of pages, unless there are pages
+unfoldable pub page_total : Entry → List ℕ
+page_total entry = if is_some (field entry (codes "pages")) then [] else bare_named entry (codes "pagetotal")
 
--- volume, number, edition and pages
-abbrev pub numbers_part : Entry → List ℕ
-numbers_part entry =
-    ris_field entry (codes "VL") (codes "volume" ∷ [])
-    ++ (ris_field entry (codes "IS") (codes "number" ∷ codes "issue" ∷ [])
-    ++ (ris_field entry (codes "ET") (codes "edition" ∷ [])
-    ++ pages_lines (entry_field entry (codes "pages"))))
+-- the pages, or else their number, and the number of an article
+unfoldable pub pages_part : Entry → List ℕ
+pages_part entry =
+    pages_lines (field entry (codes "pages"))
+    ++ (given_line (codes "SP") (page_total entry) ++ given_line (codes "C7") (bare_named entry (codes "eid")))
 
 -- ---- publication
 
--- publisher and place
-abbrev pub publisher_part : Entry → List ℕ
-publisher_part entry =
-    ris_field entry (codes "PB") (codes "publisher" ∷ codes "institution" ∷ codes "school" ∷ codes "organization" ∷ [])
-    ++ ris_field entry (codes "CY") (codes "location" ∷ codes "address" ∷ [])
+-- the place of the publisher, or else of the event
+unfoldable pub publication_place : Entry → List ℕ
+publication_place entry = either (listed_field (field_or entry (codes "location") (codes "address"))) (bare_named entry (codes "venue"))
 
--- the ISBN or ISSN, the DOI and the URL
-abbrev pub links_part : Entry → List ℕ
+-- the publisher, the place, and the kind of thesis, report or patent
+unfoldable pub publisher_part : Entry → List ℕ
+publisher_part entry =
+    given_line (codes "PB") (publisher_of entry)
+    ++ (given_line (codes "CY") (publication_place entry) ++ given_line (codes "M3") (genre_of entry))
+
+-- the ISBN or ISSN, the DOI, the address, and the place in a database or a library
+unfoldable pub links_part : Entry → List ℕ
 links_part entry =
-    ris_field entry (codes "SN") (codes "isbn" ∷ codes "issn" ∷ [])
-    ++ (ris_field entry (codes "DO") (codes "doi" ∷ []) ++ ris_field entry (codes "UR") (codes "url" ∷ []))
+    given_line (codes "SN") (bare_named_or entry (codes "isbn") (codes "issn"))
+    ++ (given_line (codes "DO") (bare_doi (shown_field (field entry (codes "doi"))))
+    ++ (given_line (codes "UR") (url_of entry)
+    ++ (given_line (codes "DB") (archive_text entry)
+    ++ (given_line (codes "AN") (shown_field (field entry (codes "eprint")))
+    ++ given_line (codes "CN") (bare_named entry (codes "library"))))))
 
 -- ---- contents
 
 -- a line for each keyword
-abbrev pub keyword_lines : Option Value → List ℕ
+unfoldable pub keyword_lines : Option Value → List ℕ
 keyword_lines None = []
 keyword_lines (Some chunks) = ris_lines (codes "KW") (strings_read chunks)
 
--- abstract, note, keywords and language
-abbrev pub contents_part : Entry → List ℕ
+-- abstract, notes, annotation, keywords and language
+unfoldable pub contents_part : Entry → List ℕ
 contents_part entry =
-    ris_field entry (codes "AB") (codes "abstract" ∷ [])
-    ++ (ris_field entry (codes "N1") (codes "note" ∷ [])
-    ++ (keyword_lines (entry_field entry (codes "keywords"))
-    ++ ris_field entry (codes "LA") (codes "language" ∷ [])))
+    given_line (codes "AB") (bare_named entry (codes "abstract"))
+    ++ (given_line (codes "N1") (bare_named entry (codes "note"))
+    ++ (given_line (codes "N1") (bare_named entry (codes "addendum"))
+    ++ (given_line (codes "RN") (bare_named_or entry (codes "annotation") (codes "annote"))
+    ++ (keyword_lines (field entry (codes "keywords"))
+    ++ given_line (codes "LA") (language_of (language_value entry))))))
 
 -- ---- records
 
 -- the type
-abbrev pub type_part : Entry → List ℕ
-type_part entry = ris_line (codes "TY") (ris_type entry.entry_type (entry_field entry (codes "entrysubtype")))
+unfoldable pub type_part : Entry → List ℕ
+type_part entry = ris_line (codes "TY") (ris_type entry.entry_type (field entry (codes "entrysubtype")))
 
 -- the key, and the end of the record with an empty line after it
-abbrev pub end_part : Entry → List ℕ
+unfoldable pub end_part : Entry → List ℕ
 end_part entry = ris_line (codes "ID") entry.key ++ codes "ER  - \n\n"
 
--- the type, the names, the titles and the date
-abbrev pub work_part : Entry → List ℕ
-work_part entry = type_part entry ++ (names_part entry ++ (titles_part entry ++ ris_date (entry_date entry)))
+-- the type, the people, the titles and the dates
+unfoldable pub work_part : Entry → List ℕ
+work_part entry = type_part entry ++ (authors_part entry ++ (editors_part entry ++ (titles_part entry ++ lines_of_dates entry)))
 
 -- the numbers, the publisher, the identifiers and the contents
-abbrev pub publication_part : Entry → List ℕ
-publication_part entry = numbers_part entry ++ (publisher_part entry ++ (links_part entry ++ contents_part entry))
+unfoldable pub publication_part : Entry → List ℕ
+publication_part entry =
+    volume_part entry ++ (pages_part entry ++ (publisher_part entry ++ (links_part entry ++ contents_part entry)))
 
 -- the record of an entry
-abbrev pub ris_of : Entry → List ℕ
+unfoldable pub ris_of : Entry → List ℕ
 ris_of entry = work_part entry ++ (publication_part entry ++ end_part entry)

@@ -3,6 +3,9 @@
 use Rattle.std.specs.Prelude.{ℕ, if◌then◌else◌, List, codes, Option, Some, None}
 use Rattle.std.specs.Str.{str_eq_ignore_ascii_case}
 use Rattle.bib_chunks.specs.Values.{Value, text}
+use Rattle.bib_csl.specs.Types.{item_type_named}
+use Rattle.bib_csl.specs.declared.variables.ItemType.{ItemType}
+use Rattle.bib_csl.specs.declared.variables.ItemType.TheVariants as item_type
 use Rattle.bib_tables.specs.declared.mechanics.EntryType.{EntryType}
 use Rattle.bib_tables.specs.declared.mechanics.EntryType.TheVariants.{Article, Book, Booklet, InBook, InCollection, InProceedings, Manual, MastersThesis, PhdThesis, Misc, Proceedings, TechReport, Unpublished, MvBook, BookInBook, SuppBook, Periodical, SuppPeriodical, Collection, MvCollection, SuppCollection, Reference, MvReference, InReference, MvProceedings, Report, Patent, Thesis, Online, Software, Dataset, Set, XData, Unknown}
 
@@ -17,6 +20,19 @@ periodical_type subtype =
 abbrev pub article_type : Option Value → List ℕ
 article_type None = codes "JOUR"
 article_type (Some subtype) = periodical_type (text subtype)
+
+-- the type of a work of a type that only BibLaTeX's data model has, by the type of its item
+abbrev pub type_of_work : ItemType → List ℕ
+type_of_work item_type.Graphic = codes "ART"
+type_of_work item_type.LegalCase = codes "CASE"
+type_of_work item_type.Legislation = codes "STAT"
+type_of_work item_type.MotionPicture = codes "MPCT"
+type_of_work item_type.PersonalCommunication = codes "PCOMM"
+type_of_work item_type.Review = codes "JOUR"
+type_of_work item_type.Song = codes "SOUND"
+type_of_work item_type.Standard = codes "STAND"
+type_of_work item_type.Treaty = codes "LEGAL"
+type_of_work other = codes "GEN"
 
 -- the type of a record, by the type of its entry and the field `entrysubtype`
 abbrev pub ris_type : EntryType → Option Value → List ℕ
@@ -53,4 +69,4 @@ ris_type InReference subtype = codes "ENCYC"
 ris_type Misc subtype = codes "GEN"
 ris_type Set subtype = codes "GEN"
 ris_type XData subtype = codes "GEN"
-ris_type (Unknown name) subtype = codes "GEN"
+ris_type (Unknown name) subtype = type_of_work (item_type_named name)

@@ -1,19 +1,21 @@
 //! Lines of people.
 
-ghost use Rattle.std.specs.Prelude.{◌≡◌, ◌++◌, map, IfOk, OnOk};
+ghost use Rattle.std.specs.Prelude.{◌≡◌, ◌++◌, IfOk, OnOk};
+ghost use Rattle.std.specs.Option.{option_copied};
 ghost use Rattle.std.specs.String.{string_bytes};
-ghost use Rattle.bib_ris.specs.Lines.{ris_lines};
-ghost use Rattle.bib_ris.specs.Records as spec;
+ghost use Rattle.bib_ris.specs.People as spec;
 
 use crate::lines::push_line;
-use bib_entry::entry::Entry;
+use bib_chunks::chunk::ChunksRef;
+use bib_csl::tags::loosened;
 use bib_people::people::read_people;
 use bib_people::person::Person;
+use bib_text::text::Text;
 use std::alloc::{AllocError, Global};
 
 // Appends the prefix and the family name.
-fn push_family_name(out: &mut String, person: &Person) -> Result<(), AllocError>
-    ensures { OnOk result (string_bytes out.new ≡ string_bytes out.old ++ spec.family_name person.now) }
+fn push_family_name(out: &mut Text, person: &Person) -> Result<(), AllocError>
+    ensures { OnOk result (out.new ≡ out.old ++ spec.family_name person.now) }
 {
     if !person.prefix.is_empty() {
         out.push_str(person.prefix.as_str())?;
@@ -22,20 +24,40 @@ fn push_family_name(out: &mut String, person: &Person) -> Result<(), AllocError>
     out.push_str(person.name.as_str())
 }
 
-// Appends a comma and the given name, unless the person has neither a given name nor a suffix.
-fn push_given_part(out: &mut String, person: &Person) -> Result<(), AllocError>
-    ensures { OnOk result (string_bytes out.new ≡ string_bytes out.old ++ spec.given_part person.now) }
+// Returns whether a text contains a byte.
+fn contains_byte(text: &str, byte: u8) -> bool
+    ensures { result ≡ spec.contains_byte byte text.now }
+{
+    text.as_bytes().contains(&byte)
+}
+
+// Returns the comma after a name of several words without a given name.
+fn comma_alone(family_name: &str) -> &'static str
+    ensures { result.now ≡ spec.comma_alone family_name.now }
+{
+    if contains_byte(family_name, b' ') || contains_byte(family_name, b'~') {
+        ","
+    } else {
+        ""
+    }
+}
+
+// Appends a comma and the given name, or a comma alone after a family name of several words.
+fn push_given_part(out: &mut Text, person: &Person) -> Result<(), AllocError>
+    requires { out.old ≡ spec.family_name person.now }
+    ensures { OnOk result (out.new ≡ out.old ++ spec.given_part person.now) }
 {
     if person.given_name.is_empty() && person.suffix.is_empty() {
-        return Ok(());
+        let comma = comma_alone(out.as_str());
+        return out.push_str(comma);
     }
     out.push_str(", ")?;
     out.push_str(person.given_name.as_str())
 }
 
 // Appends a comma and the suffix, if there is one.
-fn push_suffix_part(out: &mut String, person: &Person) -> Result<(), AllocError>
-    ensures { OnOk result (string_bytes out.new ≡ string_bytes out.old ++ spec.suffix_part person.now) }
+fn push_suffix_part(out: &mut Text, person: &Person) -> Result<(), AllocError>
+    ensures { OnOk result (out.new ≡ out.old ++ spec.suffix_part person.now) }
 {
     if person.suffix.is_empty() {
         return Ok(());
@@ -44,15 +66,31 @@ fn push_suffix_part(out: &mut String, person: &Person) -> Result<(), AllocError>
     out.push_str(person.suffix.as_str())
 }
 
-// Returns the name of a person.
-fn person_text(alloc: Global, person: &Person) -> Result<String, AllocError>
-    ensures { IfOk result (λ text. string_bytes text ≡ spec.person_text person.now) }
+// Returns the name of a person, with spaces for tildes.
+fn person_text(alloc: Global, person: &Person) -> Result<Text, AllocError>
+    ensures { IfOk result (λ text. text ≡ spec.person_text person.now) }
 {
-    let mut text = String::new(alloc);
+    let mut text = Text::new(alloc);
     push_family_name(&mut text, person)?;
     push_given_part(&mut text, person)?;
     push_suffix_part(&mut text, person)?;
-    Ok(text)
+    loosened(alloc, text)
+}
+
+// Appends a line for a person, unless the person is the word `others`.
+fn push_person(
+    out: &mut String,
+    alloc: Global,
+    tag: &str,
+    person: &Person,
+) -> Result<(), AllocError>
+    ensures { OnOk result (string_bytes out.new ≡ string_bytes out.old ++ spec.person_line tag.now person.now) }
+{
+    let text = person_text(alloc, person)?;
+    if text.as_str() == "others" {
+        return Ok(());
+    }
+    push_line(out, tag, text.as_str())
 }
 
 // Appends a line for each person.
@@ -62,11 +100,10 @@ fn push_people(
     tag: &str,
     people: &[Person],
 ) -> Result<(), AllocError>
-    ensures { OnOk result (string_bytes out.new ≡ string_bytes out.old ++ ris_lines tag.now (map spec.person_text people.now)) }
+    ensures { OnOk result (string_bytes out.new ≡ string_bytes out.old ++ spec.person_lines tag.now people.now) }
 {
     'people: for person in people {
-        let text = person_text(alloc, person)?;
-        push_line(out, tag, text.as_str())?;
+        push_person(out, alloc, tag, person)?;
     }
     Ok(())
 }
@@ -75,14 +112,12 @@ fn push_people(
 pub(crate) fn push_people_of(
     out: &mut String,
     alloc: Global,
-    entry: &Entry,
     tag: &str,
-    name: &str,
+    field: Option<ChunksRef<'_>>,
 ) -> Result<(), AllocError>
-    ensures { OnOk result (string_bytes out.new ≡ string_bytes out.old ++
-        spec.people_lines tag.now (spec.entry_field entry.now name.now)) }
+    ensures { OnOk result (string_bytes out.new ≡ string_bytes out.old ++ spec.people_lines tag.now (option_copied field.entry)) }
 {
-    let Some(chunks) = entry.get(name) else {
+    let Some(chunks) = field else {
         return Ok(());
     };
     let people = read_people(alloc, chunks)?;

@@ -5,6 +5,8 @@ ghost use Rattle.std.specs.Option.{option_copied};
 ghost use Rattle.bib_ris.specs.Types as spec;
 
 use bib_chunks::chunk::{ChunksRef, format_verbatim};
+use bib_csl::types::item_type_named;
+use bib_csl::variables::ItemType;
 use bib_tables::mechanics::EntryType;
 use std::alloc::{AllocError, Global};
 
@@ -31,6 +33,24 @@ fn article_type(alloc: Global, subtype: Option<ChunksRef<'_>>) -> Result<&'stati
             Ok(periodical_type(subtype.as_str()))
         }
         None => Ok("JOUR"),
+    }
+}
+
+// Returns the type of a work of a type that only BibLaTeX's data model has, by the type of its item.
+fn type_of_work(kind: ItemType) -> &'static str
+    ensures { result.now ≡ spec.type_of_work kind }
+{
+    match kind {
+        ItemType::Graphic => "ART",
+        ItemType::LegalCase => "CASE",
+        ItemType::Legislation => "STAT",
+        ItemType::MotionPicture => "MPCT",
+        ItemType::PersonalCommunication => "PCOMM",
+        ItemType::Review => "JOUR",
+        ItemType::Song => "SOUND",
+        ItemType::Standard => "STAND",
+        ItemType::Treaty => "LEGAL",
+        _ => "GEN",
     }
 }
 
@@ -69,6 +89,7 @@ pub fn ris_type(
         EntryType::Periodical => "JFULL",
         EntryType::Booklet => "PAMP",
         EntryType::InReference => "ENCYC",
-        EntryType::Misc | EntryType::Set | EntryType::XData | EntryType::Unknown(_) => "GEN",
+        EntryType::Misc | EntryType::Set | EntryType::XData => "GEN",
+        EntryType::Unknown(name) => type_of_work(item_type_named(name.as_str())),
     })
 }

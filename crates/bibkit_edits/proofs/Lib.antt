@@ -1,1 +1,2 @@
 pub mod EditedFacts
+pub mod LeftNoteFacts

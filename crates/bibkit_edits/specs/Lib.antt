@@ -1,3 +1,4 @@
 pub mod Edited
+pub mod LeftNotes
 pub mod Printing
 pub mod Steps

@@ -1,132 +1,34 @@
 -- An entry without a field that a comment is before.
-use Rattle.std.proofs.Common.{◌≡◌, inl, inr, ℕ, zero, suc, ◌+◌, ◌-◌, ◌<◌, ◌≤◌, Bool, true, false, cond, ◌⊎◌, List, [], ◌∷◌, ◌++◌, drop, refl, sym, ap, ◌∙◌, subst, arith, Some}
-use Rattle.std.specs.Prelude.{◌==◌, ◌&&◌, not, slice_get}
+use Rattle.std.proofs.Common.{◌≡◌, inl, inr, ℕ, suc, ◌+◌, ◌-◌, ◌<◌, ◌≤◌, Bool, true, false, cond, List, length, drop, refl, sym, ap, ◌∙◌, subst, arith, Some}
+use Rattle.std.specs.Prelude.{◌==◌, not, slice_get}
 use Rattle.std.specs.Char.{is_ascii_whitespace, is_whitespace}
-use Rattle.std.specs.List.{prefix_len}
 use Rattle.std.specs.Option.{option_map_or}
-use Rattle.std.proofs.lemmas.Bool.{cases_lt}
+use Rattle.std.proofs.lemmas.Bool.{cases_lt, ne_eqb}
 use Rattle.std.proofs.lemmas.Bool.Decides.{nat_tests}
-use Rattle.std.proofs.lemmas.List.{drop-drop, take-append-drop}
 use Rattle.std.proofs.lemmas.Str.{len_utf8_ascii}
-use Rattle.bib_text.specs.Places.{Place, place, CharAt, Longest, Run, Stops, between}
+use Rattle.bib_text.specs.Places.{Place, place, CharAt, Longest, Run}
 use Rattle.bib_text.specs.Places.Run.{stop, step}
-use Rattle.bib_text.proofs.BoundaryFacts.{Border, char_boundary, not_over}
-use Rattle.bib_text.proofs.PlaceFacts.{ahead_char, ahead_run, ahead_then, char_clash, longest_rest, run_append, runs_same, same_char, same_place, stops_at, test_clash}
+use Rattle.bib_text.proofs.BoundaryFacts.{char_boundary}
+use Rattle.bib_text.proofs.PlaceFacts.{ahead_run, ahead_then, char_clash, char_left, longest_rest, run_append, runs_same, same_place, stops_at, test_clash}
+use Rattle.bib_syntax.specs.Characters.{is_id_start}
 use Rattle.bib_syntax.specs.Reading.{EntryReading, FieldReading}
-use Rattle.bib_syntax.specs.Grammar.{Fields, Gap, LineComment, longest}
-use Rattle.bib_syntax.specs.Grammar.{Fields as fields}
+use Rattle.bib_syntax.specs.Grammar.{Gap, LineComment, longest}
 use Rattle.bib_syntax.specs.Grammar.{Gap as gap}
+use Rattle.bib_syntax.proofs.FieldFacts.{ahead_gap}
 use Rattle.bib_syntax.proofs.FileFacts.{ahead_line_comment}
-use Rattle.bib_syntax.proofs.LawFacts.{start_plain}
 use Rattle.edit_entries.specs.Changes.{IsTrimmed}
 use Rattle.edit_entries.specs.Documents.{Document, IsDocument, field_limit}
 use Rattle.edit_entries.specs.Edits.{Edit, edited, moved_place}
-use Rattle.edit_entries.specs.Unset.{after_bytes, comma_end, end_before, feed_after, feed_before, has_byte_at, is_line_space, is_no_line_feed, joining_edit, line_end_at, lines_edit, sign_after, sign_before}
-use Rattle.edit_entries.proofs.EditFacts.{ascii_stands, before_frame, moved_after, moved_before, new_bytes, rest_stands}
+use Rattle.edit_entries.specs.Unset.{after_bytes, comma_before, comma_end, feed_after, feed_before, has_byte_at, is_closed, is_no_line_feed, joining_edit, line_end_at, lines_edit, sign_after, sign_before}
+use Rattle.edit_entries.proofs.EditFacts.{ascii_stands, before_frame, moved_after, moved_before, new_bytes}
 use Rattle.edit_entries.proofs.EntryFacts.{goes}
+use Rattle.edit_entries.proofs.FieldsFromFacts.{FieldsFrom}
+use Rattle.edit_entries.proofs.GapEndFacts.{blank_after, byte_char, byte_same, comment_line, fields_start, gap_stops, longest_after, run_cut, white_after}
 use Rattle.edit_entries.proofs.GrammarFacts.{line_comment_there}
-use Rattle.edit_entries.proofs.LineFacts.{FieldsFrom, LineRemoved, Surroundings, border_left, byte_char, byte_drop, char_byte, comma_past, cut_removed, drop_byte, run_stopped, surroundings}
+use Rattle.edit_entries.proofs.LineFacts.{LineRemoved, Surroundings, border_left, comma_past, cut_removed, surroundings}
 use Rattle.edit_entries.proofs.UnsetFacts.{limit_is, limit_of}
 use Rattle.edit_entries.proofs.ValueFacts.{run_stands}
-use Rattle.edit_entries.proofs.WhiteBeforeFacts.{white_ascii}
 use Rattle.edit_entries.proofs.ZoneFacts.{Inside, char_there, inside, inside_between, longest_there, run_there, stops_there}
-
--- ---- bytes that pass a test
-
-bytes_run : (bytes test : ℕ → Bool) → ((b : ℕ) → bytes b ≡ true → (b < 128) × (test b ≡ true)) → (text xs rest : List ℕ) (at : ℕ)
-    → drop at text ≡ xs ++ rest → Run test (place text at) (place text (at + prefix_len bytes xs))
-bytes_run bytes test each text [] rest at here =
-    let same : at ≡ at + 0 = omega arith in subst (λ n. Run test (place text at) (place text n)) same stop
-bytes_run bytes test each text (x ∷ xs) rest at here =
-    by_case (bytes x) refl (bytes_run bytes test each text xs rest (at + 1) (rest_stands text (xs ++ rest) at x here))
-  where
-    by_case : (b : Bool) → bytes x ≡ b → Run test (place text (at + 1)) (place text (at + 1 + prefix_len bytes xs))
-        → Run test (place text at) (place text (at + cond b (1 + prefix_len bytes xs) 0))
-    by_case true is others =
-        let next : at + 1 + prefix_len bytes xs ≡ at + (1 + prefix_len bytes xs) = omega arith in
-        let passes = each x is in
-        step (ascii_stands text (xs ++ rest) at x passes.0 here) passes.1
-        (subst (λ n. Run test (place text (at + 1)) (place text n)) next others)
-    by_case false is others =
-        let same : at ≡ at + 0 = omega arith in subst (λ n. Run test (place text at) (place text n)) same stop
-
--- the bytes between two byte offsets, and those after them
-cut_here : (text : List ℕ) (start end : ℕ)
-    → drop start text ≡ between (place text start) (place text end) ++ drop (end - start) (drop start text)
-cut_here text start end = sym (take-append-drop (end - start) (drop start text))
-
-white_after : (text : List ℕ) (at end : ℕ)
-    → Run is_whitespace (place text at) (place text (after_bytes is_ascii_whitespace text at end))
-white_after text at end =
-    bytes_run is_ascii_whitespace is_whitespace white_ascii text (between (place text at) (place text end))
-    (drop (end - at) (drop at text)) at (cut_here text at end)
-
-blank_white : (b : ℕ) → is_line_space b ≡ true → (b < 128) × (is_whitespace b ≡ true)
-blank_white b is = white_ascii b (first (is_ascii_whitespace b) (is_no_line_feed b) is)
-  where
-    first : (p q : Bool) → (p && q) ≡ true → p ≡ true
-    first true q is = refl
-    first false q is = absurd (cc)
-
-blank_after : (text : List ℕ) (at end : ℕ) → Run is_whitespace (place text at) (place text (after_bytes is_line_space text at end))
-blank_after text at end =
-    bytes_run is_line_space is_whitespace blank_white text (between (place text at) (place text end)) (drop (end - at) (drop at text)) at
-    (cut_here text at end)
-
-in_prefix : (test : ℕ → Bool) (xs rest : List ℕ) (k c : ℕ) → k < prefix_len test xs → has_byte_at (xs ++ rest) k c ≡ true → test c ≡ true
-in_prefix test [] rest k c less is = absurd (omega (arith, less))
-in_prefix test (x ∷ xs) rest zero c less is =
-    let same : x ≡ c = grind (arith, nat_tests) in by_case (test x) (ap test same) less
-  where
-    by_case : (b : Bool) → b ≡ test c → 0 < cond b (1 + prefix_len test xs) 0 → test c ≡ true
-    by_case true is some = sym is
-    by_case false is some = absurd (omega (arith, some))
-in_prefix test (x ∷ xs) rest (suc k) c less is = by_case (test x) less (λ more. in_prefix test xs rest k c more is)
-  where
-    by_case : (b : Bool) → suc k < cond b (1 + prefix_len test xs) 0 → (k < prefix_len test xs → test c ≡ true) → test c ≡ true
-    by_case true more others = others (omega (arith, more))
-    by_case false more others = absurd (omega (arith, more))
-
-before_end : (test : ℕ → Bool) (text : List ℕ) (at end k c : ℕ) → at ≤ k → k < after_bytes test text at end
-    → has_byte_at text k c ≡ true → test c ≡ true
-before_end test text at end k c from below is =
-    let sum : at + (k - at) ≡ k = omega (arith, from) in
-    let here : drop (k - at) (drop at text) ≡ c ∷ drop (k + 1) text =
-    drop-drop (k - at) at text ∙ ap (λ n. drop n text) sum ∙ byte_drop text k c is in
-    let found = drop_byte (drop at text) (drop (k + 1) text) (k - at) c here in
-    in_prefix test (between (place text at) (place text end)) (drop (end - at) (drop at text)) (k - at) c (omega (arith, from, below))
-    (subst (λ l. has_byte_at l (k - at) c ≡ true) (cut_here text at end) found)
-
-byte_same : (text : List ℕ) (at c d : ℕ) → has_byte_at text at c ≡ true → has_byte_at text at d ≡ true → c ≡ d
-byte_same text at c d first second =
-    let same : c ∷ drop (at + 1) text ≡ d ∷ drop (at + 1) text = sym (byte_drop text at c first) ∙ byte_drop text at d second in
-    cc
-
--- ---- runs
-
--- a run is cut at a border
-run_cut : {test : ℕ → Bool} {u v : Place} (text : List ℕ) (at : ℕ) → u.text ≡ text → Border (place text at) → Run test u v → u.at ≤ at
-    → at ≤ v.at → Run test u (place text at) × Run test (place text at) v
-run_cut {test} {u} text at same border stop from to =
-    let here : u ≡ place text at = same_place {u = u} {v = place text at} same (omega (arith, from, to)) in
-    (subst (λ p. Run test u p) here stop, subst (λ p. Run test p u) here stop)
-run_cut {test} {u} {v} text at same border (step {v = w} char passes rest) from to =
-    by_place (cases_lt u.at at) (λ before. run_cut text at (char.same ∙ same) border rest (not_over text at border same char before) to)
-  where
-    by_place : (u.at < at) ⊎ (at ≤ u.at) → (u.at < at → Run test w (place text at) × Run test (place text at) v)
-        → Run test u (place text at) × Run test (place text at) v
-    by_place (inl before) others = let parts = others before in (step char passes parts.0, parts.1)
-    by_place (inr past) others =
-        let here : u ≡ place text at = same_place {u = u} {v = place text at} same (omega (arith, from, past)) in
-        (subst (λ p. Run test u p) here stop, subst (λ p. Run test p v) here (step char passes rest))
-
-run_first : {test : ℕ → Bool} {u v w : Place} {c : ℕ} → Run test u v → u.at < v.at → CharAt u c w → test c ≡ true
-run_first stop some char = absurd (omega (arith, some))
-run_first {test} (step first passes rest) some char = subst (λ x. test x ≡ true) (same_char first char).0 passes
-
-longest_after : {test : ℕ → Bool} {u v w : Place} → Run test u v → Longest test u w → Longest test v w
-longest_after stop all = all
-longest_after (step char passes rest) all = longest_after rest (longest_rest all char passes)
 
 -- ---- a comment in a gap
 
@@ -138,104 +40,35 @@ record Commented (text : List ℕ) (u : Place) (sign feed : ℕ) (a : Place) : T
   some : sign < feed
   white' : Longest is_whitespace (place text feed) a
 
-in_line_feed : (c : ℕ) → not (c == 10) ≡ false → c ≡ 10
-in_line_feed c is = grind (arith, nat_tests)
-
-commented : {a b : Place} {c : ℕ} (text : List ℕ) (at end : ℕ) → Gap longest (place text at) a → CharAt a c b → (c == 37) ≡ false
-    → has_byte_at text (after_bytes is_ascii_whitespace text at end) 37 ≡ true
-    → has_byte_at text (after_bytes is_no_line_feed text (after_bytes is_ascii_whitespace text at end) end) 10 ≡ true
+commented : {a b : Place} {c : ℕ} (text : List ℕ) (at end : ℕ) → Gap longest (place text at) a → CharAt a c b → (37 == c) ≡ false
+    → a.at ≤ end → end ≤ length text → has_byte_at text (after_bytes is_ascii_whitespace text at end) 37 ≡ true
     → Commented text (place text at) (after_bytes is_ascii_whitespace text at end)
     (after_bytes is_no_line_feed text (after_bytes is_ascii_whitespace text at end) end) a
-commented {a} {b} {c} text at end (gap.white white ends) char plain sign feed =
+commented text at end (gap.white white ends) char plain below within sign =
     let s : ℕ = after_bytes is_ascii_whitespace text at end in
     let percent = byte_char text s 37 (omega arith) sign in
     let same = runs_same (white_after text at end) (stops_at is_whitespace percent refl) white.run white.stops in
-    absurd (char_clash (subst (λ p. CharAt p 37 (place text (s + 1))) same percent) char plain')
-  where
-    plain' : (37 == c) ≡ false
-    plain' = grind (arith, nat_tests)
-commented {a} {b} {c} text at end (gap.line_comment {v = v} {w = w} white m white') char plain sign feed =
+    absurd (char_clash (subst (λ p. CharAt p 37 (place text (s + 1))) same percent) char plain)
+commented {a} text at end (gap.line_comment {w = w} white m white') char plain below within sign =
     let s : ℕ = after_bytes is_ascii_whitespace text at end in
     let n : ℕ = after_bytes is_no_line_feed text s end in
     let percent = byte_char text s 37 (omega arith) sign in
-    let feeds = byte_char text n 10 (omega arith) feed in
     let first = runs_same white.run white.stops (white_after text at end) (stops_at is_whitespace percent refl) in
     let m' : LineComment (place text s) w = subst (λ p. LineComment p w) first m in
-    let later : s < n = by_place s n (omega arith) (λ same. let clash : 37 ≡ 10 = byte_same text s 37 10 sign
-    (subst (λ i. has_byte_at text i 10 ≡ true) (sym same) feed) in absurd (omega (arith, clash))) in
-    let inside_at : m'.inside.at ≡ s + 1 = m'.sign.next ∙ ap (λ i. s + i) (len_utf8_ascii 37 (omega arith)) in
-    let w_text : w.text ≡ text = (ahead_then (ahead_char m'.sign) (ahead_run m'.line.run)).text in
-    let w_past : s < w.at = omega (arith, inside_at, (ahead_run m'.line.run).at) in
-    let last : w ≡ place text n =
-    by_order (cases_lt n w.at) (cases_lt w.at n)
-    (λ before.
-    let parts =
-    run_cut text n m'.sign.same (inr (10, place text (n + 1), feeds)) m'.line.run (omega (arith, inside_at, later))
-    (omega (arith, before)) in
-    let passes = run_first parts.1 before feeds in test_clash (not (10 == 10)) passes refl)
-    (λ past.
     let next = run_stands white'.run char in
-    let is_feed = in_line_feed next.char (m'.line.stops next.char next.next next.here) in
-    let byte = char_byte 10 (omega arith) (subst (λ x. CharAt w x next.next) is_feed next.here) in
-    let passes =
-    before_end is_no_line_feed text s end w.at 10 (omega (arith, w_past)) past (subst (λ t. has_byte_at t w.at 10 ≡ true) w_text byte) in
-    test_clash (not (10 == 10)) passes refl) w_text in
+    let line = comment_line text s end m' next.here (omega (arith, (ahead_run white'.run).at, below)) within in
+    let feed = subst (λ p. CharAt p 10 next.next) line.0 (subst (λ d. CharAt w d next.next) line.1 next.here) in
+    let after : next.next ≡ place text (n + 1) =
+    same_place {u = next.next} {v = place text (n + 1)} feed.same (omega (arith, feed.next, len_utf8_ascii 10 (omega arith))) in
     record {
       white = subst (λ p. Longest is_whitespace (place text at) p) first white;
-      line = subst (λ p. LineComment (place text s) p) last m';
-      feeds = feeds;
-      some = later;
-      white' = subst (λ p. Longest is_whitespace p a) last white';
+      line = subst (λ p. LineComment (place text s) p) line.0 m';
+      feeds = subst (λ p. CharAt (place text n) 10 p) after feed;
+      some = omega (arith, line.2, ap (λ p. p.at) line.0);
+      white' = subst (λ p. Longest is_whitespace p a) line.0 white';
     }
-  where
-    by_place : (i k : ℕ) → i ≤ k → (i ≡ k → i < k) → i < k
-    by_place i k ordered differs =
-        elim (cases_lt i k) [ inl before ↦ before | inr past ↦ differs (omega (arith, ordered, past)) ]
-
-    by_order : {n : ℕ} → (n < w.at) ⊎ (w.at ≤ n) → (w.at < n) ⊎ (n ≤ w.at) → (n < w.at → ⊥) → (w.at < n → ⊥) → w.text ≡ text
-        → w ≡ place text n
-    by_order (inl before) other none1 none2 same = absurd (none1 before)
-    by_order (inr up) (inl past) none1 none2 same = absurd (none2 past)
-    by_order {n} (inr up) (inr down) none1 none2 same = same_place {u = w} {v = place text n} same (omega (arith, up, down))
 
 -- ---- the gap after a field
-
--- what is at the start of fields after white space
-record Starts (u : Place) (at : ℕ) : Type 0 where
-  char : ℕ
-  next : Place
-  here : CharAt u char next
-  plain : (char == 37) ≡ false
-  is : at ≡ u.at
-
-fields_start : {u v w : Place} {fs : List FieldReading} → Fields longest u fs v → Stops is_whitespace u → CharAt v 125 w
-    → Starts u (limit_of fs v.at)
-unfolding limit_of
-fields_start {u} {v} {w} (fields.none white) stops closes =
-    let same = run_stopped white.run stops in
-    record { char = 125; next = w; here = subst (λ p. CharAt p 125 w) (sym same) closes; plain = refl; is = ap (λ p. p.at) (sym same) }
-fields_start (fields.last field gap) stops closes =
-    let name = field.name in
-    record {
-      char = name.first;
-      next = name.second;
-      here = name.here;
-      plain = start_plain name.first name.starts;
-      is = ap (λ p. p.start) name.reading;
-    }
-fields_start (fields.more field gap comma gap' rest) stops closes =
-    let name = field.name in
-    record {
-      char = name.first;
-      next = name.second;
-      here = name.here;
-      plain = start_plain name.first name.starts;
-      is = ap (λ p. p.start) name.reading;
-    }
-
-gap_stops : {u v : Place} → Gap longest u v → Stops is_whitespace v
-gap_stops (gap.white white ends) = white.stops
-gap_stops (gap.line_comment white m white') = white'.stops
 
 -- a gap without a comment
 plain_gap : {a b : Place} {c : ℕ} (text : List ℕ) (at end : ℕ) → Gap longest (place text at) a → CharAt a c b → (c == 37) ≡ false
@@ -267,17 +100,21 @@ signed_gap text at end (gap.line_comment {w = w} white m white') sign =
     let same = runs_same white.run white.stops (white_after text at end) (stops_at is_whitespace percent refl) in
     (w, subst (λ p. LineComment p w) same m, white')
 
+percent_plain : (c : ℕ) → is_id_start c ≡ true → (37 == c) ≡ false
+percent_plain c starts =
+    ne_eqb 37 c (λ same. test_clash (is_id_start 37) (subst (λ x. is_id_start x ≡ true) (sym same) starts) refl)
+
 -- ---- the edits
 
 module _ (d : Document) (k : ℕ) (e : EntryReading) (j : ℕ) (f : FieldReading) (read : IsDocument d)
     (here : slice_get d.says.entries k ≡ Some e) (there' : slice_get e.fields j ≡ Some f) (trimmed : IsTrimmed d.text f)
-    (comma : has_byte_at d.text (end_before e j) 44 ≡ true) (sign : has_byte_at d.text (sign_before d.text e j f) 37 ≡ true)
-    (feed : has_byte_at d.text (feed_before d.text e j f) 10 ≡ true) (plain : has_byte_at d.text f.value.end 37 ≡ false) where
+    (comma : has_byte_at d.text (comma_before d.text e j f) 44 ≡ true) (sign : has_byte_at d.text (sign_before d.text e j f) 37 ≡ true)
+    (closed : is_closed d.text e j f ≡ true) where
   abbrev text : List ℕ
   text = d.text
 
-  a : Surroundings d k e j f
-  a = surroundings d k e j f read here there' trimmed comma plain
+  a : Surroundings d k e j f (comma_before d.text e j f + 1) (comma_end d.text e j f)
+  a = surroundings d k e j f read here there' trimmed comma closed
 
   abbrev s : ℕ
   s = sign_before d.text e j f
@@ -286,13 +123,15 @@ module _ (d : Document) (k : ℕ) (e : EntryReading) (j : ℕ) (f : FieldReading
   n = feed_before d.text e j f
 
   abbrev at : ℕ
-  at = comma_end d.text f
+  at = comma_end d.text e j f
 
-  before : Commented d.text (place d.text (end_before e j + 1)) s n a.g.start
+  before : Commented d.text (place d.text (comma_before d.text e j f + 1)) s n a.g.start
   before =
       let name = a.g.field.name in
-      commented d.text (end_before e j + 1) f.name.start (subst (λ p. Gap longest p a.g.start) a.after a.c.next) name.here
-      (start_plain name.first name.starts) sign feed
+      let name_is = ap (λ p. p.start) name.reading in
+      let gap = subst (λ p. Gap longest p a.g.start) a.after a.c.next in
+      commented d.text (comma_before d.text e j f + 1) f.name.start gap name.here (percent_plain name.first name.starts)
+      (omega (arith, name_is)) (omega (arith, name_is, char_left name.here, ap length (ahead_gap gap).text)) sign
 
   white_before : Longest is_whitespace a.c.after (place d.text s)
   white_before = subst (λ p. Longest is_whitespace p (place d.text s)) (sym a.after) before.white
@@ -301,14 +140,20 @@ module _ (d : Document) (k : ℕ) (e : EntryReading) (j : ℕ) (f : FieldReading
   first = (ahead_run white_before.run).at
 
   later : n < at
-  later = omega (arith, (ahead_run before.white'.run).at, comma_past d.text f a.g.field)
+  later = omega (arith, (ahead_run before.white'.run).at, comma_past d.text e j f a.g.field)
+
+  low : comma_before d.text e j f + 1 ≤ s
+  low = omega (arith, first, ap (λ p. p.at) a.after)
+
+  named : f.name.start < at
+  named = omega (arith, ap (λ p. p.start) a.g.field.name.reading, comma_past d.text e j f a.g.field)
 
   following : Gap longest (place d.text at) a.r.rest.start
   following = subst (λ p. Gap longest p a.r.rest.start) (same_place {u = a.r.from} {v = place d.text at} a.r.same a.r.is) a.r.rest.gap
 
   -- the field's lines after the comment
   pub lines_removed : sign_after d.text e j f ≡ field_limit e j → has_byte_at d.text (feed_after d.text e j f) 10 ≡ true
-      → LineRemoved d k e j (lines_edit d.text e j f)
+      → LineRemoved d k e j f (comma_before d.text e j f + 1) (lines_edit d.text e j f)
   lines_removed none feeds =
       let edit : Edit = lines_edit text e j f in
       let q : ℕ = feed_after text e j f in
@@ -331,7 +176,8 @@ module _ (d : Document) (k : ℕ) (e : EntryReading) (j : ℕ) (f : FieldReading
       } in
       let some : edit.start < edit.end = omega (arith, later) in
       let starts = run_stands (longest_rest before.white' before.feeds refl).run a.g.field.name.here in
-      cut_removed d k e j f edit a.s a.g a.c r (omega (arith, first, before.some)) some
+      cut_removed d k e j f edit a.s a.g a.c r (comma_before text e j f + 1) (ap (λ p. p.at) a.after)
+      (omega (arith, low, before.some)) (omega (arith, named)) some
       (border_left edit text refl (omega (arith, some)) r a.s.block.closes) (char_boundary starts.here)
       (λ z1 z2 ix jr jf below.
       let is = inside {u = place text s} z1 refl (omega arith) (omega (arith, before.some)) in
@@ -384,7 +230,8 @@ module _ (d : Document) (k : ℕ) (e : EntryReading) (j : ℕ) (f : FieldReading
           record { char = 10; next = place d.text (n + 1); found = before.feeds; some = before.some; within = omega arith }
 
   -- two comments are joined
-  pub joining_removed : has_byte_at d.text (sign_after d.text e j f) 37 ≡ true → LineRemoved d k e j (joining_edit d.text e j f)
+  pub joining_removed : has_byte_at d.text (sign_after d.text e j f) 37 ≡ true
+      → LineRemoved d k e j f (comma_before d.text e j f + 1) (joining_edit d.text e j f)
   joining_removed signs =
       let edit : Edit = joining_edit text e j f in
       let new : List ℕ = edited edit text in
@@ -406,7 +253,8 @@ module _ (d : Document) (k : ℕ) (e : EntryReading) (j : ℕ) (f : FieldReading
       let boundary = char_boundary cut.found in
       let space : CharAt (place new end) 32 (place new (end + 1)) =
       ascii_stands new (drop from text) end 32 (omega arith) (new_bytes edit text boundary.0) in
-      cut_removed d k e j f edit a.s a.g a.c r (omega (arith, first, cut.some)) some (inr (32, place new (end + 1), space)) boundary
+      cut_removed d k e j f edit a.s a.g a.c r (comma_before text e j f + 1) (ap (λ p. p.at) a.after)
+      (omega (arith, low, cut.some)) (omega (arith, named)) some (inr (32, place new (end + 1), space)) boundary
       (λ z1 z2 ix jr jf below.
       let m = before.line in
       let next : m.inside.at ≡ s + 1 = m.sign.next ∙ ap (λ i. s + i) (len_utf8_ascii 37 (omega arith)) in

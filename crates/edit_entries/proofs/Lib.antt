@@ -18,7 +18,9 @@ pub mod EntryFacts
 pub mod FieldEditFacts
 pub mod FieldMadeFacts
 pub mod FieldNameFacts
+mod FieldsFromFacts
 mod FitFacts
+mod GapEndFacts
 mod IndexFacts
 pub mod GrammarFacts
 pub mod JoinedFacts
@@ -28,15 +30,19 @@ pub mod KindFacts
 mod LayoutFacts
 mod LineEndFacts
 mod LineFacts
+mod LineThereFacts
 pub mod MadeFacts
 pub mod MovedFacts
 mod NameSetFacts
 pub mod NameStandsFacts
 pub mod NewFieldFacts
 pub mod NewValueFacts
+mod OwnEditFacts
+mod OwnListFacts
 pub mod PartFacts
 pub mod PlacelessFacts
 pub mod PositionFacts
+mod PrefixFacts
 pub mod PutFacts
 pub mod ReferenceFacts
 pub mod RemovalFacts

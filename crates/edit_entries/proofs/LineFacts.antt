@@ -1,16 +1,13 @@
 -- An entry without a field and its line.
-use Rattle.std.proofs.Common.{◌≡◌, inr, ℕ, zero, suc, ◌+◌, ◌<◌, ◌≤◌, Bool, true, false, cond, List, [], ◌∷◌, ◌++◌, length, drop, map, refl, sym, ap, ◌∙◌, subst, arith, Some}
+use Rattle.std.proofs.Common.{◌≡◌, inr, ℕ, suc, ◌+◌, ◌-◌, ◌<◌, ◌≤◌, Bool, true, false, cond, List, [], ◌∷◌, ◌++◌, length, map, refl, sym, ap, ◌∙◌, subst, arith, Some}
 use Rattle.std.specs.Prelude.{◌==◌, slice_get}
-use Rattle.std.specs.Char.{is_whitespace}
 use Rattle.std.specs.List.{remove}
 use Rattle.std.specs.Option.{option_map_or}
 use Rattle.std.specs.Str.{IsCharBoundary}
-use Rattle.std.proofs.lemmas.Bool.Decides.{nat_tests}
-use Rattle.std.proofs.lemmas.Str.{encode_ascii, len_utf8_ascii, len_utf8_bounds}
-use Rattle.bib_text.specs.Places.{Place, place, CharAt, Run, Stops}
-use Rattle.bib_text.specs.Places.Run.{stop, step}
+use Rattle.std.proofs.lemmas.Str.{len_utf8_ascii, len_utf8_bounds}
+use Rattle.bib_text.specs.Places.{Place, place, CharAt}
 use Rattle.bib_text.proofs.BoundaryFacts.{Border, char_boundary}
-use Rattle.bib_text.proofs.PlaceFacts.{Ahead, ahead_char, ahead_here, ahead_run, ahead_then, char_clash, pass_clash, run_append, same_place, stops_at, test_clash}
+use Rattle.bib_text.proofs.PlaceFacts.{Ahead, ahead_char, ahead_here, ahead_run, ahead_then, char_left, same_place, stops_at}
 use Rattle.bib_syntax.specs.Reading.{EntryReading, FieldReading}
 use Rattle.bib_syntax.specs.Grammar.{Field, Fields, Gap, longest}
 use Rattle.bib_syntax.specs.Grammar.{Fields as fields}
@@ -18,61 +15,20 @@ use Rattle.bib_syntax.specs.Grammar.{Gap as gap}
 use Rattle.bib_syntax.proofs.FieldFacts.{ahead_elements, ahead_field, ahead_fields, ahead_gap, elements_stop}
 use Rattle.bib_syntax.proofs.FileFacts.{ahead_head}
 use Rattle.edit_entries.specs.Changes.{IsTrimmed, value_end}
-use Rattle.edit_entries.specs.Documents.{Document, IsDocument}
+use Rattle.edit_entries.specs.Documents.{Document, IsDocument, field_limit}
 use Rattle.edit_entries.specs.Edits.{Edit, edited, moved_place, moved_entry, moved_field, moved_part}
-use Rattle.edit_entries.specs.Unset.{comma_end, end_before, has_byte_at, line_edit}
-use Rattle.edit_entries.proofs.EditFacts.{Fits, ascii_stands, before_frame, after_frame, moved_after, moved_before, zone_before, zone_after}
+use Rattle.edit_entries.specs.Unset.{after_bytes, comma_after, comma_before, comma_end, end_before, has_byte_at, is_closed, is_no_line_feed, line_edit}
+use Rattle.edit_entries.proofs.EditFacts.{Fits, before_frame, after_frame, moved_after, moved_before, zone_before, zone_after}
 use Rattle.edit_entries.proofs.ZoneFacts.{Frame, Inside, Zone, char_there, inside, inside_between, longest_there, part_there, there}
 use Rattle.edit_entries.proofs.GrammarFacts.{below_between, below_char, field_there, fields_there, gap_there, head_there}
-use Rattle.edit_entries.proofs.SplitFacts.{EntryBlock, EntrySplit, FieldSplit, FieldsAfter, FieldsBefore, ahead_fields_after, ahead_fields_before, ahead_file_before, block_of, split_fields, split_file}
+use Rattle.edit_entries.proofs.SplitFacts.{EntryBlock, EntrySplit, FieldSplit, FieldsBefore, ahead_fields_after, ahead_fields_before, ahead_file_before, block_of, split_fields, split_file}
 use Rattle.edit_entries.proofs.MovedFacts.{char_within}
 use Rattle.edit_entries.proofs.EntryFacts.{entry_edited_read, goes}
 use Rattle.edit_entries.proofs.RemovedFacts.{taken_out}
-use Rattle.edit_entries.proofs.UnsetFacts.{field_cut}
-use Rattle.edit_entries.proofs.ValueFacts.{Stands, gap_stands, run_stands}
-
--- ---- bytes and characters
-
-pub byte_drop : (text : List ℕ) (at c : ℕ) → has_byte_at text at c ≡ true → drop at text ≡ c ∷ drop (at + 1) text
-byte_drop [] at c is = absurd (cc)
-byte_drop (b ∷ bs) zero c is = let same : b ≡ c = grind (arith, nat_tests) in ap (λ x. x ∷ bs) same
-byte_drop (b ∷ bs) (suc at) c is =
-    let next : suc at + 1 ≡ suc (at + 1) = omega arith in
-    byte_drop bs at c is ∙ ap (λ n. c ∷ drop n (b ∷ bs)) (sym next)
-
-pub drop_byte : (text rest : List ℕ) (at c : ℕ) → drop at text ≡ c ∷ rest → has_byte_at text at c ≡ true
-drop_byte [] rest zero c here = absurd (cc)
-drop_byte [] rest (suc at) c here = absurd (cc)
-drop_byte (b ∷ bs) rest zero c here = let same : b ≡ c = cc in grind (arith, nat_tests)
-drop_byte (b ∷ bs) rest (suc at) c here = drop_byte bs rest at c here
-
-pub byte_char : (text : List ℕ) (at c : ℕ) → c < 128 → has_byte_at text at c ≡ true → CharAt (place text at) c (place text (at + 1))
-byte_char text at c small is = ascii_stands text (drop (at + 1) text) at c small (byte_drop text at c is)
-
-pub char_byte : {u v : Place} (c : ℕ) → c < 128 → CharAt u c v → has_byte_at u.text u.at c ≡ true
-char_byte {u} {v} c small char =
-    drop_byte u.text (drop v.at u.text) u.at c (char.here ∙ ap (λ bs. bs ++ drop v.at u.text) (encode_ascii c small))
-
--- ---- gaps that are empty
-
-run_none : {u v w : Place} {c : ℕ} → Run is_whitespace u v → CharAt u c w → is_whitespace c ≡ false → u ≡ v
-run_none stop char dark = refl
-run_none (step first white rest) char dark = absurd (pass_clash is_whitespace first white char dark)
-
-pub run_stopped : {u v : Place} → Run is_whitespace u v → Stops is_whitespace u → u ≡ v
-run_stopped stop stops = refl
-run_stopped (step {v = w} {c = c} first white rest) stops = absurd (test_clash (is_whitespace c) white (stops c w first))
-
-gap_none : {u v w : Place} {c : ℕ} → Gap longest u v → CharAt u c w → is_whitespace c ≡ false → (c == 37) ≡ false → u ≡ v
-gap_none (gap.white white ends) char dark plain = run_none white.run char dark
-gap_none (gap.line_comment white m white') char dark plain =
-    let same = run_none white.run char dark in
-    absurd (pass_clash (λ d. d == 37) (subst (λ p. CharAt p 37 m.inside) (sym same) m.sign) refl char plain)
-
-white_gap : {u v w : Place} → Run is_whitespace u v → Gap longest v w → Gap longest u w
-white_gap run (gap.white white ends) = gap.white (record { run = run_append run white.run; stops = white.stops }) ends
-white_gap run (gap.line_comment white m white') =
-    gap.line_comment (record { run = run_append run white.run; stops = white.stops }) m white'
+use Rattle.edit_entries.proofs.FieldsFromFacts.{FieldsFrom, GapAndFields, fields_from, fields_stand}
+use Rattle.edit_entries.proofs.GapEndFacts.{gap_found, gap_past}
+use Rattle.edit_entries.proofs.UnsetFacts.{field_cut, limit_is, limit_of}
+use Rattle.edit_entries.proofs.ValueFacts.{gap_stands}
 
 -- ---- the comma before a field
 
@@ -104,12 +60,6 @@ up_to_there {f} z iu iv (UpTo.more gap field gap' comma others) =
     (field_there z a b (below_between f (ahead_gap gap') below) field) (gap_there z b c below gap')
     (char_there z c d comma) (up_to_there z d iv others)
 
--- a gap, and fields after it
-pub record GapAndFields (u : Place) (fs : List FieldReading) (v : Place) : Type 0 where
-  pub start : Place
-  pub gap : Gap longest u start
-  pub fields : Fields longest start fs v
-
 joined : {u v w : Place} {fs gs : List FieldReading} → UpTo u fs v → GapAndFields v gs w → GapAndFields u (fs ++ gs) w
 joined UpTo.nothing rest = rest
 joined (UpTo.more {v = start} gap field gap' comma others) rest =
@@ -131,13 +81,13 @@ pub record CommaBefore (u : Place) (fs : List FieldReading) (end : ℕ) (a : Pla
   pub fields : UpTo u fs after
   pub next : Gap longest after a
 
-comma_before : {k c u v a : Place} {fs : List FieldReading} (end : ℕ) → k.at ≡ end → Gap longest k c → CharAt c 44 u
+comma_found : {k c u v a : Place} {fs : List FieldReading} (end : ℕ) → k.at ≡ end → Gap longest k c → CharAt c 44 u
     → Gap longest u v → FieldsBefore v fs a → CommaBefore u fs (last_end end fs) a
 unfolding last_end
-comma_before {k} {c} {u} end is gap comma next FieldsBefore.none =
+comma_found {k} {c} {u} end is gap comma next FieldsBefore.none =
     record { from = k; sign = c; after = u; is = is; gap = gap; comma = comma; fields = UpTo.nothing; next = next }
-comma_before end is gap comma next (FieldsBefore.more {f = f} field gap1 comma1 gap2 others) =
-    let rest = comma_before f.value.end (sym field.ends) gap1 comma1 gap2 others in
+comma_found end is gap comma next (FieldsBefore.more {f = f} field gap1 comma1 gap2 others) =
+    let rest = comma_found f.value.end (sym field.ends) gap1 comma1 gap2 others in
     record {
       from = rest.from;
       sign = rest.sign;
@@ -165,63 +115,14 @@ end_is e j (b ∷ before) following f whole index =
     ∙ ap (λ fs. option_map_or (λ x. x.value.end) (slice_get fs (length before)) e.key.end) whole
     ∙ value_before e.key.end e.key.end b before following f
 
--- ---- what is after the edit's stretch
-
--- the fields after a byte offset of a text, and the gap before them
-pub record FieldsFrom (text : List ℕ) (at : ℕ) (fs : List FieldReading) (v : Place) : Type 0 where
-  pub from : Place
-  pub is : from.at ≡ at
-  pub same : from.text ≡ text
-  pub rest : GapAndFields from fs v
-
-fields_from : {u v w : Place} {fs : List FieldReading} (text : List ℕ) (f : FieldReading) → u ≡ place text f.value.end
-    → Stops is_whitespace u → IsTrimmed text f → has_byte_at text f.value.end 37 ≡ false → (b : Bool)
-    → has_byte_at text f.value.end 44 ≡ b → FieldsAfter u fs v → CharAt v 125 w
-    → FieldsFrom text (cond b (f.value.end + 1) (value_end text f)) fs v
-fields_from text f here stops trimmed plain true is (FieldsAfter.last gap) closes =
-    let comma = subst (λ p. CharAt p 44 (place text (f.value.end + 1))) (sym here) (byte_char text f.value.end 44 (omega arith) is) in
-    let same = gap_none gap comma refl refl in
-    absurd (char_clash (subst (λ p. CharAt p 44 (place text (f.value.end + 1))) same comma) closes refl)
-fields_from {v = v} text f here stops trimmed plain false is (FieldsAfter.last gap) closes = record {
-  from = place text (value_end text f);
-  is = refl;
-  same = refl;
-  rest = record {
-    start = v;
-    gap = white_gap (subst (λ p. Run is_whitespace (place text (value_end text f)) p) (sym here) trimmed) gap;
-    fields = fields.none (record { run = stop; stops = stops_at is_whitespace closes refl });
-  };
-}
-fields_from {u} text f here stops trimmed plain true is (FieldsAfter.more {v = sign} {w = after} {x = start} gap comma gap' rest) closes =
-    let comma' = subst (λ p. CharAt p 44 (place text (f.value.end + 1))) (sym here) (byte_char text f.value.end 44 (omega arith) is) in
-    let same = gap_none gap comma' refl refl in
-    record {
-      from = after;
-      is = omega (arith, comma.next, len_utf8_ascii 44 (omega arith), ap (λ p. p.at) same, ap (λ p. p.at) here);
-      same = comma.same ∙ ap (λ p. p.text) (sym same) ∙ ap (λ p. p.text) here;
-      rest = record { start = start; gap = gap'; fields = rest };
-    }
-fields_from text f here stops trimmed plain false is (FieldsAfter.more {w = after} (gap.white white ends) comma gap' rest) closes =
-    let same = run_stopped white.run stops in
-    let found = char_byte 44 (omega arith) (subst (λ p. CharAt p 44 after) (sym same ∙ here) comma) in
-    absurd (test_clash (has_byte_at text f.value.end 44) found is)
-fields_from text f here stops trimmed plain false is (FieldsAfter.more (gap.line_comment white m white') comma gap' rest) closes =
-    let same = run_stopped white.run stops in
-    let found = char_byte 37 (omega arith) (subst (λ p. CharAt p 37 m.inside) (sym same ∙ here) m.sign) in
-    absurd (test_clash (has_byte_at text f.value.end 37) found plain)
-
-pub fields_stand : {u v w : Place} {fs : List FieldReading} → Fields longest u fs v → CharAt v 125 w → Stands u
-fields_stand (fields.none white) closes = run_stands white.run closes
-fields_stand (fields.last field gap) closes = record { char = field.name.first; next = field.name.second; here = field.name.here }
-fields_stand (fields.more field gap comma gap' rest) closes =
-    record { char = field.name.first; next = field.name.second; here = field.name.here }
-
 -- ---- the whole
 
--- an edit that removes a field in a document: the new text has the reading without it
-pub record LineRemoved (d : Document) (k : ℕ) (e : EntryReading) (j : ℕ) (edit : Edit) : Type 0 where
+-- an edit after the comma before a field that removes the field in a document: the new text has the reading without it
+pub record LineRemoved (d : Document) (k : ℕ) (e : EntryReading) (j : ℕ) (f : FieldReading) (low : ℕ) (edit : Edit) : Type 0 where
   pub read : IsDocument (field_cut d k e j edit)
   pub past : e.key.end ≤ edit.start
+  pub after_comma : low ≤ edit.start
+  pub over : f.name.start < edit.end
   pub some : edit.start < edit.end
   pub within : edit.end ≤ e.end
   pub start_cut : IsCharBoundary d.text edit.start
@@ -238,11 +139,13 @@ LeftGap d edit u v w =
 pub cut_removed : (d : Document) (k : ℕ) (e : EntryReading) (j : ℕ) (f : FieldReading) (edit : Edit)
     → (s : EntrySplit (place d.text 0) d.says e k) → (g : FieldSplit s.block.fields_start e.fields f j s.block.brace)
     → {end : ℕ} → (c : CommaBefore s.block.after_comma g.before end g.start)
-    → (r : FieldsFrom d.text edit.end g.following s.block.brace) → c.after.at ≤ edit.start → edit.start < edit.end
+    → (r : FieldsFrom d.text edit.end g.following s.block.brace) → (low : ℕ) → c.after.at ≡ low → low ≤ edit.start
+    → f.name.start < edit.end → edit.start < edit.end
     → Border (place (edited edit d.text) edit.start) → IsCharBoundary d.text edit.start
-    → LeftGap d edit c.after r.from r.rest.start → LineRemoved d k e j edit
-cut_removed d k e j f edit s g {end} c r past some border start_cut gap =
+    → LeftGap d edit c.after r.from r.rest.start → LineRemoved d k e j f low edit
+cut_removed d k e j f edit s g {end} c r low low_is after_comma over some border start_cut gap =
     let text : List ℕ = d.text in
+    let past : c.after.at ≤ edit.start = omega (arith, low_is, after_comma) in
     let b = s.block in
     let move = moved_place edit in
     let to_start = ahead_file_before s.first in
@@ -340,6 +243,8 @@ cut_removed d k e j f edit s g {end} c r past some border start_cut gap =
             up.at,
           )) (omega (arith, r.is, to_brace.at, (ahead_char b.closes).at)) (block_of block);
       past = omega (arith, past, key_end_is, (ahead_run b.white.run).at, from_comma.at);
+      after_comma = after_comma;
+      over = over;
       some = some;
       within = omega (arith, r.is, to_brace.at, b.ends);
       start_cut = start_cut;
@@ -378,18 +283,37 @@ border_left edit text none ordered r closes =
     )
 
 -- where a field's comma ends
-pub comma_past : (text : List ℕ) (f : FieldReading) {u v : Place} → Field longest u f v → u.at < comma_end text f
-comma_past text f {u} field =
+pub comma_past : (text : List ℕ) (e : EntryReading) (j : ℕ) (f : FieldReading) {u v : Place} → Field longest u f v
+    → u.at < comma_end text e j f
+comma_past text e j f {u} field =
     let over =
     ahead_then (ahead_run field.name.rest.run)
     (ahead_then (ahead_run field.white.run) (ahead_then (ahead_char field.sign) (ahead_run field.white'.run))) in
-    by_case (has_byte_at text f.value.end 44)
-    (omega (arith, field.name.here.next, (len_utf8_bounds field.name.first).0, over.at, field.starts))
-    (omega (arith, field.starts, field.ends, (ahead_elements field.elements).at))
+    let first : u.at + 1 < f.value.start =
+    omega (
+      arith,
+      field.name.here.next,
+      (len_utf8_bounds field.name.first).0,
+      (ahead_run field.name.rest.run).at,
+      (ahead_run field.white.run).at,
+      field.sign.next,
+      (len_utf8_bounds 61).0,
+      (ahead_run field.white'.run).at,
+      field.starts,
+    ) in
+    let last : f.value.start ≤ f.value.end = omega (arith, field.starts, field.ends, (ahead_elements field.elements).at) in
+    by_case (has_byte_at text (comma_after text e j f) 44) (has_byte_at text f.value.end 37) (has_byte_at text (n - 1) 13)
+    (gap_past text f.value.end (field_limit e j)) first last
   where
-    by_case : (b : Bool) → u.at < f.value.start → f.value.start ≤ f.value.end → u.at < cond b (f.value.end + 1) (value_end text f)
-    by_case true first last = omega (arith, first, last)
-    by_case false first last = omega (arith, first)
+    n : ℕ
+    n = after_bytes is_no_line_feed text f.value.end (field_limit e j)
+
+    by_case : (comma own cr : Bool) → f.value.end ≤ comma_after text e j f → u.at + 1 < f.value.start → f.value.start ≤ f.value.end
+        → u.at < cond comma (comma_after text e j f + 1) (cond own (cond cr (n - 1) n) (value_end text f))
+    by_case true own cr past first last = omega (arith, past, first, last)
+    by_case false true true past first last = omega (arith, first, last)
+    by_case false true false past first last = omega (arith, first, last)
+    by_case false false cr past first last = omega (arith, first)
 
 -- the comma before a field
 pub record Preceded (d : Document) (k : ℕ) (e : EntryReading) (j : ℕ) (f : FieldReading) : Type 0 where
@@ -414,7 +338,7 @@ preceded d k e j f read here there' =
     let at_field = ahead_then at_comma (ahead_then (ahead_gap b.gap) (ahead_fields_before g.first)) in
     let at_value = ahead_then at_field (ahead_field g.field) in
     let key_gap = gap.white b.white (stops_at (λ c. c == 37) b.comma refl) in
-    let c = comma_before e.key.end (sym (ap (λ p. p.end) b.key_is)) key_gap b.comma b.gap g.first in
+    let c = comma_found e.key.end (sym (ap (λ p. p.end) b.key_is)) key_gap b.comma b.gap g.first in
     let ends : c.from.at ≡ end_before e j = c.is ∙ sym (end_is e j g.before g.following f g.whole g.index) in
     let at_after = ahead_then at_comma (ahead_up_to c.fields) in
     let from_text : c.from.text ≡ text = sym ((ahead_then (ahead_gap c.gap) (ahead_char c.comma)).text) ∙ at_after.text in
@@ -426,70 +350,94 @@ preceded d k e j f read here there' =
       value = same_place {u = g.end} {v = place text f.value.end} at_value.text (sym g.field.ends);
     }
 
--- a comma is before a field
+-- a comma is before a field, and an equals sign is after its name
 pub before_name : (d : Document) (k : ℕ) (e : EntryReading) (j : ℕ) (f : FieldReading) → IsDocument d
-    → slice_get d.says.entries k ≡ Some e → slice_get e.fields j ≡ Some f → end_before e j < f.name.start
+    → slice_get d.says.entries k ≡ Some e → slice_get e.fields j ≡ Some f
+    → (end_before e j < f.name.start) × (f.name.start < f.value.start)
 before_name d k e j f read here there' =
     let a = preceded d k e j f read here there' in
-    omega (
-      arith,
-      ap (λ p. p.at) a.from,
-      (ahead_gap a.c.gap).at,
-      a.c.comma.next,
-      (len_utf8_bounds 44).0,
-      (ahead_gap a.c.next).at,
-      ap (λ p. p.start) a.g.field.name.reading,
+    let field = a.g.field in
+    let name_is = ap (λ p. p.start) field.name.reading in (
+      omega (
+        arith,
+        ap (λ p. p.at) a.from,
+        (ahead_gap a.c.gap).at,
+        a.c.comma.next,
+        (len_utf8_bounds 44).0,
+        (ahead_gap a.c.next).at,
+        name_is,
+      ),
+      omega (
+        arith,
+        name_is,
+        field.name.here.next,
+        (len_utf8_bounds field.name.first).0,
+        (ahead_run field.name.rest.run).at,
+        (ahead_run field.white.run).at,
+        (ahead_char field.sign).at,
+        (ahead_run field.white'.run).at,
+        field.starts,
+      ),
     )
 
--- the comma before a field, and the fields after its comma
-pub record Surroundings (d : Document) (k : ℕ) (e : EntryReading) (j : ℕ) (f : FieldReading) : Type 0 where
+-- the place after the comma before a field
+pub comma_place : (d : Document) (k : ℕ) (e : EntryReading) (j : ℕ) (f : FieldReading) → (a : Preceded d k e j f)
+    → has_byte_at d.text (comma_before d.text e j f) 44 ≡ true → a.c.after ≡ place d.text (comma_before d.text e j f + 1)
+comma_place d k e j f a comma =
+    let text : List ℕ = d.text in
+    let c = a.c in
+    let to_name = ahead_then (ahead_char c.comma) (ahead_gap c.next) in
+    let name_is = ap (λ p. p.start) a.g.field.name.reading in
+    let name_text : a.g.start.text ≡ text = (ahead_then (ahead_gap c.gap) to_name).text ∙ ap (λ p. p.text) a.from in
+    let name_within : f.name.start ≤ length text = omega (arith, name_is, char_left a.g.field.name.here, ap length name_text) in
+    let sign_is : c.sign ≡ place text (comma_before text e j f) =
+    gap_found text (end_before e j) f.name.start 44 (subst (λ p. Gap longest p c.sign) a.from c.gap) c.comma
+    (omega (arith, to_name.at, name_is)) name_within (omega arith) refl refl comma in
+    same_place {u = c.after} {v = place text (comma_before text e j f + 1)} (c.comma.same ∙ ap (λ p. p.text) sign_is)
+    (omega (arith, c.comma.next, len_utf8_ascii 44 (omega arith), ap (λ p. p.at) sign_is))
+
+-- the comma before a field, which ends at a byte offset, and the fields from another one on
+pub record Surroundings (d : Document) (k : ℕ) (e : EntryReading) (j : ℕ) (f : FieldReading) (start end : ℕ) : Type 0 where
   pub s : EntrySplit (place d.text 0) d.says e k
   pub g : FieldSplit s.block.fields_start e.fields f j s.block.brace
   pub c : CommaBefore s.block.after_comma g.before (last_end e.key.end g.before) g.start
-  pub r : FieldsFrom d.text (comma_end d.text f) g.following s.block.brace
-  pub after : c.after ≡ place d.text (end_before e j + 1)
+  pub r : FieldsFrom d.text end g.following s.block.brace
+  pub after : c.after ≡ place d.text start
 
 pub surroundings : (d : Document) (k : ℕ) (e : EntryReading) (j : ℕ) (f : FieldReading) → IsDocument d
     → slice_get d.says.entries k ≡ Some e → slice_get e.fields j ≡ Some f → IsTrimmed d.text f
-    → has_byte_at d.text (end_before e j) 44 ≡ true → has_byte_at d.text f.value.end 37 ≡ false → Surroundings d k e j f
-surroundings d k e j f read here there' trimmed comma plain =
-    let text : List ℕ = d.text in
+    → has_byte_at d.text (comma_before d.text e j f) 44 ≡ true → is_closed d.text e j f ≡ true
+    → Surroundings d k e j f (comma_before d.text e j f + 1) (comma_end d.text e j f)
+surroundings d k e j f read here there' trimmed comma closed =
     let a = preceded d k e j f read here there' in
-    let c = a.c in
-    let sign_is = gap_none c.gap (subst (λ p. CharAt p 44 (place text (end_before e j + 1))) (sym a.from)
-    (byte_char text (end_before e j) 44 (omega arith) comma)) refl refl in
-    let from_sign : place text (end_before e j) ≡ c.sign = sym a.from ∙ sign_is in
+    let limit : field_limit e j ≡ limit_of a.g.following a.s.block.brace.at =
+    ap (λ fs. option_map_or (λ h. h.name.start) (slice_get fs (suc j)) e.end) a.g.whole
+    ∙ limit_is a.g.before a.g.following f j e.end a.g.index ∙ ap (limit_of a.g.following) a.s.block.ends in
     record {
       s = a.s;
       g = a.g;
-      c = c;
-      r = fields_from text f a.value (elements_stop a.g.field.elements).0 trimmed plain (has_byte_at text f.value.end 44) refl a.g.rest
-          a.s.block.closes;
-      after =
-          same_place {u = c.after} {v = place text (end_before e j + 1)} (c.comma.same ∙ ap (λ p. p.text) (sym from_sign))
-          (omega (arith, c.comma.next, len_utf8_ascii 44 (omega arith), ap (λ p. p.at) from_sign));
+      c = a.c;
+      r = fields_from d.text e j f a.value (elements_stop a.g.field.elements).0 trimmed limit closed a.g.rest a.s.block.closes;
+      after = comma_place d k e j f a comma;
     }
 
 -- its own comma is in the entry
 pub comma_within : (d : Document) (k : ℕ) (e : EntryReading) (j : ℕ) (f : FieldReading) → IsDocument d
     → slice_get d.says.entries k ≡ Some e → slice_get e.fields j ≡ Some f → IsTrimmed d.text f
-    → has_byte_at d.text (end_before e j) 44 ≡ true → has_byte_at d.text f.value.end 37 ≡ false → comma_end d.text f ≤ e.end
-comma_within d k e j f read here there' trimmed comma plain =
-    let a = surroundings d k e j f read here there' trimmed comma plain in
+    → has_byte_at d.text (comma_before d.text e j f) 44 ≡ true → is_closed d.text e j f ≡ true → comma_end d.text e j f ≤ e.end
+comma_within d k e j f read here there' trimmed comma closed =
+    let a = surroundings d k e j f read here there' trimmed comma closed in
     omega (arith, a.r.is, (ahead_gap a.r.rest.gap).at, (ahead_fields a.r.rest.fields).at, a.s.block.ends)
 
-pub line_removed : (d : Document) (k : ℕ) (e : EntryReading) (j : ℕ) (f : FieldReading) → IsDocument d
-    → slice_get d.says.entries k ≡ Some e → slice_get e.fields j ≡ Some f → IsTrimmed d.text f
-    → has_byte_at d.text (end_before e j) 44 ≡ true → has_byte_at d.text f.value.end 37 ≡ false
-    → LineRemoved d k e j (line_edit d.text e j f)
-line_removed d k e j f read here there' trimmed comma plain =
+-- an edit from after the comma before a field to the fields after it
+pub line_cut : (d : Document) (k : ℕ) (e : EntryReading) (j : ℕ) (f : FieldReading) (start end : ℕ) → Surroundings d k e j f start end
+    → start < end → f.name.start < end → LineRemoved d k e j f start (record { start = start; end = end; bytes = [] })
+line_cut d k e j f start end a some over =
     let text : List ℕ = d.text in
-    let edit : Edit = line_edit text e j f in
-    let a = surroundings d k e j f read here there' trimmed comma plain in
+    let edit : Edit = record { start = start; end = end; bytes = [] } in
     let start_is : a.c.after.at ≡ edit.start = ap (λ p. p.at) a.after in
-    let some : edit.start < edit.end = omega (arith, start_is, (ahead_gap a.c.next).at, comma_past text f a.g.field) in
     let starts = gap_stands a.c.next a.g.field.name.here in
-    cut_removed d k e j f edit a.s a.g a.c a.r (omega (arith, start_is)) some
+    cut_removed d k e j f edit a.s a.g a.c a.r start start_is (omega arith) over some
     (border_left edit text refl (omega (arith, some)) a.r a.s.block.closes)
     (subst (λ p. IsCharBoundary p.text p.at) a.after (char_boundary starts.here))
     (λ z1 z2 ix jr jf below.
@@ -497,3 +445,14 @@ line_removed d k e j f read here there' trimmed comma plain =
     let rest_goes = moved_after edit a.r.from.at (omega (arith, a.r.is)) in
     let same : moved_place edit a.r.from.at ≡ moved_place edit a.c.after.at = omega (arith, after_goes, rest_goes, start_is, a.r.is) in
     subst (λ n. Gap longest (place (edited edit text) n) (goes edit text a.r.rest.start)) same (gap_there z2 jr jf below a.r.rest.gap))
+
+pub line_removed : (d : Document) (k : ℕ) (e : EntryReading) (j : ℕ) (f : FieldReading) → IsDocument d
+    → slice_get d.says.entries k ≡ Some e → slice_get e.fields j ≡ Some f → IsTrimmed d.text f
+    → has_byte_at d.text (comma_before d.text e j f) 44 ≡ true → is_closed d.text e j f ≡ true
+    → LineRemoved d k e j f (comma_before d.text e j f + 1) (line_edit d.text e j f)
+line_removed d k e j f read here there' trimmed comma closed =
+    let a = surroundings d k e j f read here there' trimmed comma closed in
+    let past = comma_past d.text e j f a.g.field in
+    line_cut d k e j f (comma_before d.text e j f + 1) (comma_end d.text e j f) a
+    (omega (arith, ap (λ p. p.at) a.after, (ahead_gap a.c.next).at, past))
+    (omega (arith, ap (λ p. p.start) a.g.field.name.reading, past))

@@ -1,22 +1,50 @@
 -- Comma lists of keys.
-use Rattle.std.proofs.Common.{◌≡◌, ℕ, zero, suc, ◌<◌, Bool, true, false, List, [], ◌∷◌, ◌++◌, map, length, get_or, refl, sym, ap, ◌∙◌, arith}
-use Rattle.std.specs.Prelude.{◌||◌}
-use Rattle.std.specs.List.{flat_map, join_by, list_any}
+use Rattle.std.proofs.Common.{◌≡◌, ℕ, zero, suc, ◌<◌, Bool, true, false, cond, List, [], ◌∷◌, ◌++◌, map, length, get_or, take, refl, sym, ap, ◌∙◌, arith, Option, Some, None}
+use Rattle.std.specs.Prelude.{◌||◌, is_some, option_map}
+use Rattle.std.specs.List.{find, flat_map, join_by, list_any}
 
-any_here : (b rest : Bool) → b ≡ true → b || rest ≡ true
-any_here true rest is = refl
-any_here false rest is = absurd (let clash : true ≡ false = sym is in cc)
+-- the first element that passes a test, if none before it does
+pub found_at : {A : Type 0} (test : A → Bool) (xs : List A) (k : ℕ) (x : A) → k < length xs → x ≡ get_or xs k x
+    → find test (take k xs) ≡ None → test x ≡ true → find test xs ≡ Some x
+found_at test [] k x within is before passes = absurd (omega arith)
+found_at test (y ∷ ys) zero x within is before passes =
+    let here : test y ≡ true = ap test (sym is) ∙ passes in
+    ap (λ b. cond b (Some y) (find test ys)) here ∙ ap Some (sym is)
+found_at test (y ∷ ys) (suc k) x within is before passes =
+    by_case (test y) before (λ none. found_at test ys k x (omega arith) is none passes)
+  where
+    by_case : (b : Bool) → cond b (Some y) (find test (take k ys)) ≡ None → (find test (take k ys) ≡ None → find test ys ≡ Some x)
+        → cond b (Some y) (find test ys) ≡ Some x
+    by_case true clash rest = absurd (cc)
+    by_case false none rest = rest none
 
-any_later : (b rest : Bool) → rest ≡ true → b || rest ≡ true
-any_later true rest is = refl
-any_later false rest is = is
+-- no element passes a test, with one more that doesn't
+pub none_found : {A : Type 0} (test : A → Bool) (xs : List A) (x : A) → find test xs ≡ None → test x ≡ false
+    → find test (xs ++ x ∷ []) ≡ None
+none_found test [] x none fails = ap (λ b. cond b (Some x) None) fails
+none_found test (y ∷ ys) x none fails = by_case (test y) none (λ rest. none_found test ys x rest fails)
+  where
+    by_case : (b : Bool) → cond b (Some y) (find test ys) ≡ None → (find test ys ≡ None → find test (ys ++ x ∷ []) ≡ None)
+        → cond b (Some y) (find test (ys ++ x ∷ [])) ≡ None
+    by_case true clash rest = absurd (cc)
+    by_case false found rest = rest found
 
--- a test that is passed at an index is passed by one
-pub any_at : {A : Type 0} (test : A → Bool) (xs : List A) (k : ℕ) (x : A) → k < length xs → x ≡ get_or xs k x
-    → test x ≡ true → list_any test xs ≡ true
-any_at test [] k x within is passes = absurd (omega arith)
-any_at test (y ∷ ys) zero x within is passes = any_here (test y) (list_any test ys) (ap test (sym is) ∙ passes)
-any_at test (y ∷ ys) (suc k) x within is passes = any_later (test y) (list_any test ys) (any_at test ys k x (omega arith) is passes)
+some_mapped : {A B : Type 0} (f : A → B) (o : Option A) → is_some (option_map f o) ≡ is_some o
+some_mapped f None = refl
+some_mapped f (Some x) = refl
+
+some_found : {A : Type 0} (test : A → Bool) (xs : List A) → is_some (find test xs) ≡ list_any test xs
+some_found test [] = refl
+some_found test (x ∷ xs) = by_case (test x) (some_found test xs)
+  where
+    by_case : (b : Bool) → is_some (find test xs) ≡ list_any test xs → is_some (cond b (Some x) (find test xs)) ≡ b || list_any test xs
+    by_case true rest = refl
+    by_case false rest = rest
+
+-- whether an element passes a test, by the first one that does
+pub any_found : {A B C : Type 0} (f : A → B) (g : C → B) (test : A → Bool) (xs : List A) (o : Option C)
+    → option_map g o ≡ option_map f (find test xs) → is_some o ≡ list_any test xs
+any_found f g test xs o same = sym (some_mapped g o) ∙ ap is_some same ∙ some_mapped f (find test xs) ∙ some_found test xs
 
 -- texts that are joined, by what they are
 flat_read : {A B C : Type 0} (f : A → List C) (g : B → List C) (sep : List C) (xs : List A) (ys : List B)

@@ -59,7 +59,7 @@ pub record Removed (d : Document) (before others : List EntryReading) (e : Entry
   pub alike : placeless after.says ≡ placeless (of_entries d.says (before ++ with_fields e (fb ++ unnamed name fs) ∷ others))
 
 -- an entry begins before its fields
-start_in_fields : (d : Document) (k : ℕ) (e : EntryReading) (j : ℕ) (f : FieldReading) → IsDocument d
+pub start_in_fields : (d : Document) (k : ℕ) (e : EntryReading) (j : ℕ) (f : FieldReading) → IsDocument d
     → slice_get d.says.entries k ≡ Some e → slice_get e.fields j ≡ Some f → e.start ≤ f.name.start
 start_in_fields d k e j f read here there =
     let at = entry_inside d k e read here in

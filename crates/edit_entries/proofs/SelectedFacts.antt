@@ -1,59 +1,40 @@
 -- A field of the entries with selected keys is unset, from the last entry to the first.
 use Rattle.std.proofs.Common.{◌≡◌, ℕ, zero, suc, ◌+◌, ◌-◌, ◌<◌, ◌≤◌, Bool, true, false, cond, List, [], ◌∷◌, ◌++◌, length, map, take, refl, sym, ap, ◌∙◌, subst, arith, append_assoc, length-append, Option, Some, None}
-use Rattle.std.specs.Prelude.{◌==◌, ◌&&◌, codes, not, drop, slice_get, slice_set}
+use Rattle.std.specs.Prelude.{◌==◌, ◌&&◌, ◌||◌, codes, not, slice_get, slice_set}
 use Rattle.std.specs.Char.{is_ascii_whitespace, is_whitespace}
-use Rattle.std.specs.List.{flat_map, list_any, prefix_len}
+use Rattle.std.specs.List.{flat_map, list_any}
 use Rattle.std.specs.Option.{option_map_or}
 use Rattle.std.specs.Str.{IsUtf8, trim_end}
-use Rattle.std.proofs.lemmas.List.{length-take}
-use Rattle.std.proofs.lemmas.List.Sums.{prefix_len-le-length}
-use Rattle.bib_text.specs.Places.{Run, between, place}
+use Rattle.bib_text.specs.Places.{Run, place}
 use Rattle.bib_text.proofs.ListFacts.{get_here}
 use Rattle.bib_syntax.specs.Reading.{EntryReading, FieldReading, FileReading}
 use Rattle.edit_entries.specs.Changes.{IsTrimmed, value_end}
 use Rattle.edit_entries.specs.Cuts.{AreEntriesCut}
-use Rattle.edit_entries.specs.Documents.{Document, IsDocument, IsEdited, field_limit, first_position, has_name}
+use Rattle.edit_entries.specs.Documents.{Document, IsDocument, IsEdited, field_limit, has_name}
 use Rattle.edit_entries.specs.EditList.{AreEditsInOrder}
 use Rattle.edit_entries.specs.Edits.{Edit, edited_all, moved_entry, placeless}
 use Rattle.edit_entries.specs.Selected.{FieldsUnset, unset_if_selected, without_if_selected, would_be_empty}
-use Rattle.edit_entries.specs.Unset.{after_bytes, comma_end, commented_edit, edits_at, edits_from, end_before, feed_after, feed_before, has_byte_at, has_percent, is_line_space, is_no_line_feed, line_edit, line_end_at, or_removals, own_edit, sign_after, sign_before, unset_edits, without_named}
+use Rattle.edit_entries.specs.Unset.{after_bytes, comma_after, comma_before, comma_end, commented_edit, edit_before, end_before, feed_after, feed_before, gap_end, has_byte_at, has_percent, is_closed, is_line_space, is_no_line_feed, line_end_at, or_removals, own_edit, own_edits, own_end, plain_edit, sign_after, sign_before, unset_edits, with_edit, without_named}
 use Rattle.edit_entries.proofs.AgreementFacts.{same_bytes, same_run}
 use Rattle.edit_entries.proofs.CutFacts.{document_cut}
 use Rattle.edit_entries.proofs.KeptFacts.{AreEditsWithin, IsFieldInside, edited_append, entry_inside, field_inside, front_kept, within_append, within_earlier, within_order}
+use Rattle.edit_entries.proofs.GapEndFacts.{after_within, gap_within}
 use Rattle.edit_entries.proofs.LineFacts.{before_name, comma_within}
 use Rattle.edit_entries.proofs.MadeFacts.{of_entries}
+use Rattle.edit_entries.proofs.PrefixFacts.{after_prefix, byte_prefix, gap_prefix, percent_prefix}
 use Rattle.edit_entries.proofs.TrimmedFacts.{trimmed_known}
 use Rattle.edit_entries.proofs.UnsetEntryFacts.{around, entry_unset}
 use Rattle.edit_entries.proofs.ValueFacts.{field_placed}
 
 -- ---- the edits of an entry depend on the text up to its end
 
-get_take : (xs : List ℕ) (at n : ℕ) → n < at → slice_get (take at xs) n ≡ slice_get xs n
-get_take xs zero n less = absurd (omega (arith, less))
-get_take [] (suc at) n less = refl
-get_take (x ∷ xs) (suc at) zero less = refl
-get_take (x ∷ xs) (suc at) (suc n) less = get_take xs at n (omega (arith, less))
-
-after_within : (test : ℕ → Bool) (text : List ℕ) (start end most : ℕ) → start ≤ most → end ≤ most → after_bytes test text start end ≤ most
-after_within test text start end most first last =
-    omega (
-      arith,
-      first,
-      last,
-      prefix_len-le-length test (between (place text start) (place text end)),
-      length-take (end - start) (drop start text),
-    )
-
 module _ (x y : List ℕ) (e : EntryReading) (at : ℕ) (same : take at x ≡ take at y) (past : e.end < at) (key : e.key.end ≤ e.end)
     (inside : (j : ℕ) (f : FieldReading) → slice_get e.fields j ≡ Some f → IsFieldInside e f) where
   byte_same : (n c : ℕ) → n ≤ e.end → has_byte_at x n c ≡ has_byte_at y n c
-  byte_same n c within =
-      let less : n < at = omega (arith, within, past) in
-      ap (λ o. option_map_or (λ b. b == c) o false) (sym (get_take x at n less) ∙ ap (λ l. slice_get l n) same ∙ get_take y at n less)
+  byte_same n c within = byte_prefix x y at same n c (omega (arith, within, past))
 
   percent_same : (start end : ℕ) → start ≤ e.end → end ≤ e.end → has_percent x start end ≡ has_percent y start end
-  percent_same start end first last =
-      ap (list_any (λ b. b == 37)) (same_bytes x y at start (end - start) same (omega (arith, first, last, past)))
+  percent_same start end first last = percent_prefix x y at same start end (omega (arith, first, past)) (omega (arith, last, past))
 
   before_inside : (j : ℕ) → end_before e j ≤ e.end
   before_inside zero = key
@@ -71,8 +52,7 @@ module _ (x y : List ℕ) (e : EntryReading) (at : ℕ) (same : take at x ≡ ta
       by_case (Some f) is = let at_field = inside (suc j) f is in omega (arith, at_field.name, at_field.value, at_field.end)
 
   after_same : (test : ℕ → Bool) (start end : ℕ) → start ≤ e.end → end ≤ e.end → after_bytes test x start end ≡ after_bytes test y start end
-  after_same test start end first last =
-      ap (λ l. start + prefix_len test l) (same_bytes x y at start (end - start) same (omega (arith, first, last, past)))
+  after_same test start end first last = after_prefix x y at same test start end (omega (arith, first, past)) (omega (arith, last, past))
 
   pub value_end_same : (j : ℕ) (f : FieldReading) → slice_get e.fields j ≡ Some f → value_end x f ≡ value_end y f
   value_end_same j f there =
@@ -80,13 +60,44 @@ module _ (x y : List ℕ) (e : EntryReading) (at : ℕ) (same : take at x ≡ ta
       ap (λ l. f.value.start + length (trim_end l))
       (same_bytes x y at f.value.start (f.value.end - f.value.start) same (omega (arith, at_field.value, at_field.end, past)))
 
-  comma_same : (j : ℕ) (f : FieldReading) → slice_get e.fields j ≡ Some f → comma_end x f ≡ comma_end y f
-  comma_same j f there =
-      ap (λ b. cond b (f.value.end + 1) (value_end x f)) (byte_same f.value.end 44 (inside j f there).end)
-      ∙ ap (cond (has_byte_at y f.value.end 44) (f.value.end + 1)) (value_end_same j f there)
+  gap_same : (start end : ℕ) → start ≤ e.end → end ≤ e.end → gap_end x start end ≡ gap_end y start end
+  gap_same start end first last = gap_prefix x y at same start end (omega (arith, first, past)) (omega (arith, last, past))
+
+  after_gap_same : (j : ℕ) (f : FieldReading) → slice_get e.fields j ≡ Some f → comma_after x e j f ≡ comma_after y e j f
+  after_gap_same j f there = gap_same f.value.end (field_limit e j) (inside j f there).end (limit_inside j)
+
+  comma_in : (j : ℕ) (f : FieldReading) → slice_get e.fields j ≡ Some f → comma_after y e j f ≤ e.end
+  comma_in j f there = gap_within y f.value.end (field_limit e j) e.end (inside j f there).end (limit_inside j)
+
+  comma_byte_same : (j : ℕ) (f : FieldReading) (c : ℕ) → slice_get e.fields j ≡ Some f
+      → has_byte_at x (comma_after x e j f) c ≡ has_byte_at y (comma_after y e j f) c
+  comma_byte_same j f c there =
+      ap (λ n. has_byte_at x n c) (after_gap_same j f there) ∙ byte_same (comma_after y e j f) c (comma_in j f there)
+
+  closed_same : (j : ℕ) (f : FieldReading) → slice_get e.fields j ≡ Some f → is_closed x e j f ≡ is_closed y e j f
+  closed_same j f there =
+      ap (λ b. b || has_byte_at x (comma_after x e j f) 125) (comma_byte_same j f 44 there)
+      ∙ ap (λ b. has_byte_at y (comma_after y e j f) 44 || b) (comma_byte_same j f 125 there)
 
   line_end_same : (n : ℕ) → n ≤ e.end → line_end_at x n ≡ line_end_at y n
   line_end_same n within = ap (λ b. cond b (n - 1) n) (byte_same (n - 1) 13 (omega (arith, within)))
+
+  own_end_same : (j : ℕ) (f : FieldReading) → slice_get e.fields j ≡ Some f → own_end x e j f ≡ own_end y e j f
+  own_end_same j f there =
+      let at_field = inside j f there in
+      let n : ℕ = after_bytes is_no_line_feed y f.value.end (field_limit e j) in
+      let n_in : n ≤ e.end = after_within is_no_line_feed y f.value.end (field_limit e j) e.end at_field.end (limit_inside j) in
+      let feed = after_same is_no_line_feed f.value.end (field_limit e j) at_field.end (limit_inside j) in
+      ap (λ b. cond b (line_end_at x (after_bytes is_no_line_feed x f.value.end (field_limit e j))) (value_end x f))
+      (byte_same f.value.end 37 at_field.end)
+      ∙ ap (λ m. cond (has_byte_at y f.value.end 37) m (value_end x f)) (ap (line_end_at x) feed ∙ line_end_same n n_in)
+      ∙ ap (cond (has_byte_at y f.value.end 37) (line_end_at y n)) (value_end_same j f there)
+
+  comma_same : (j : ℕ) (f : FieldReading) → slice_get e.fields j ≡ Some f → comma_end x e j f ≡ comma_end y e j f
+  comma_same j f there =
+      ap (λ b. cond b (comma_after x e j f + 1) (own_end x e j f)) (comma_byte_same j f 44 there)
+      ∙ ap (λ n. cond (has_byte_at y (comma_after y e j f) 44) (n + 1) (own_end x e j f)) (after_gap_same j f there)
+      ∙ ap (cond (has_byte_at y (comma_after y e j f) 44) (comma_after y e j f + 1)) (own_end_same j f there)
 
   -- what the edit of a field after a comment depends on
   abbrev chosen : EntryReading → ℕ → Bool → Bool → Bool → Bool → ℕ → ℕ → ℕ → ℕ → Option Edit
@@ -95,31 +106,46 @@ module _ (x y : List ℕ) (e : EntryReading) (at : ℕ) (same : take at x ≡ ta
       (cond next (Some (record { start = start; end = from; bytes = codes " " }))
       (cond ((from == field_limit e j) && ends) (Some (record { start = n + 1; end = q + 1; bytes = [] })) None)) None
 
-  commented_same : (j : ℕ) (f : FieldReading) → slice_get e.fields j ≡ Some f → end_before e j < f.name.start → comma_end y f ≤ e.end
+  -- the comma before a field
+  first_same : (j : ℕ) (f : FieldReading) → slice_get e.fields j ≡ Some f → comma_before x e j f ≡ comma_before y e j f
+  first_same j f there =
+      let at_field = inside j f there in
+      gap_same (end_before e j) f.name.start (before_inside j) (omega (arith, at_field.name, at_field.value, at_field.end))
+
+  first_in : (j : ℕ) (f : FieldReading) → slice_get e.fields j ≡ Some f → end_before e j < f.name.start
+      → comma_before y e j f ≤ f.name.start
+  first_in j f there before = gap_within y (end_before e j) f.name.start f.name.start (omega (arith, before)) (omega arith)
+
+  commented_same : (j : ℕ) (f : FieldReading) → slice_get e.fields j ≡ Some f
+      → (end_before e j < f.name.start) × (f.name.start < f.value.start) → comma_end y e j f ≤ e.end
       → commented_edit x e j f ≡ commented_edit y e j f
   commented_same j f there before comma =
       let at_field = inside j f there in
       let name : f.name.start ≤ e.end = omega (arith, at_field.name, at_field.value, at_field.end) in
       let limit = limit_inside j in
+      let c : ℕ = comma_before y e j f in
+      let c_in : c + 1 ≤ e.end =
+      omega (arith, first_in j f there before.0, before.1, at_field.value, at_field.end) in
       let s : ℕ = sign_before y e j f in
       let n : ℕ = feed_before y e j f in
       let from : ℕ = sign_after y e j f in
       let q : ℕ = feed_after y e j f in
       let s_in : s ≤ e.end =
-      omega (arith, after_within is_ascii_whitespace y (end_before e j + 1) f.name.start e.end (omega (arith, before, name)) name) in
+      after_within is_ascii_whitespace y (c + 1) f.name.start e.end c_in name in
       let n_in : n ≤ e.end = after_within is_no_line_feed y s f.name.start e.end s_in name in
-      let from_in : from ≤ e.end = after_within is_ascii_whitespace y (comma_end y f) (field_limit e j) e.end comma limit in
-      let q_in : q ≤ e.end = after_within is_line_space y (comma_end y f) (field_limit e j) e.end comma limit in
+      let from_in : from ≤ e.end = after_within is_ascii_whitespace y (comma_end y e j f) (field_limit e j) e.end comma limit in
+      let q_in : q ≤ e.end = after_within is_line_space y (comma_end y e j f) (field_limit e j) e.end comma limit in
       let s_is : sign_before x e j f ≡ s =
-      after_same is_ascii_whitespace (end_before e j + 1) f.name.start (omega (arith, before, name)) name in
+      ap (λ m. after_bytes is_ascii_whitespace x (m + 1) f.name.start) (first_same j f there)
+      ∙ after_same is_ascii_whitespace (c + 1) f.name.start c_in name in
       let n_is : feed_before x e j f ≡ n =
       ap (λ m. after_bytes is_no_line_feed x m f.name.start) s_is ∙ after_same is_no_line_feed s f.name.start s_in name in
       let from_is : sign_after x e j f ≡ from =
       ap (λ m. after_bytes is_ascii_whitespace x m (field_limit e j)) (comma_same j f there)
-      ∙ after_same is_ascii_whitespace (comma_end y f) (field_limit e j) comma limit in
+      ∙ after_same is_ascii_whitespace (comma_end y e j f) (field_limit e j) comma limit in
       let q_is : feed_after x e j f ≡ q =
       ap (λ m. after_bytes is_line_space x m (field_limit e j)) (comma_same j f there)
-      ∙ after_same is_line_space (comma_end y f) (field_limit e j) comma limit in
+      ∙ after_same is_line_space (comma_end y e j f) (field_limit e j) comma limit in
       let byte : (m k c : ℕ) → m ≡ k → k ≤ e.end → has_byte_at x m c ≡ has_byte_at y k c =
       λ (m k c : ℕ) (is : m ≡ k) (within : k ≤ e.end). ap (λ i. has_byte_at x i c) is ∙ byte_same k c within in
       let start_is : line_end_at x (feed_before x e j f) ≡ line_end_at y n = ap (line_end_at x) n_is ∙ line_end_same n n_in in
@@ -134,49 +160,90 @@ module _ (x y : List ℕ) (e : EntryReading) (at : ℕ) (same : take at x ≡ ta
           ∙ ap (λ i. chosen e j s2 f2 n2 e2 i b1 c1 d1) a ∙ ap (λ i. chosen e j s2 f2 n2 e2 a2 i c1 d1) b
           ∙ ap (λ i. chosen e j s2 f2 n2 e2 a2 b2 i d1) c ∙ ap (λ i. chosen e j s2 f2 n2 e2 a2 b2 c2 i) d
 
-  own_same : (j : ℕ) (f : FieldReading) → slice_get e.fields j ≡ Some f → end_before e j < f.name.start
-      → (has_byte_at y (end_before e j) 44 ≡ true → has_byte_at y f.value.end 37 ≡ false → comma_end y f ≤ e.end)
+  own_same : (j : ℕ) (f : FieldReading) → slice_get e.fields j ≡ Some f
+      → (end_before e j < f.name.start) × (f.name.start < f.value.start)
+      → (has_byte_at y (comma_before y e j f) 44 ≡ true → is_closed y e j f ≡ true → comma_end y e j f ≤ e.end)
       → own_edit x e j f ≡ own_edit y e j f
   own_same j f there before comma =
-      let start : ℕ = end_before e j in
+      let start : ℕ = comma_before y e j f in
       let at_field = inside j f there in
       let name : f.name.start ≤ e.end = omega (arith, at_field.name, at_field.value, at_field.end) in
-      let inner : List ℕ → Option Edit =
-      λ (t : List ℕ). cond (has_percent t start f.name.start) (commented_edit t e j f) (Some (line_edit t e j f)) in
-      ap (λ b. cond (b && not (has_byte_at x f.value.end 37)) (inner x) None) (byte_same start 44 (before_inside j))
-      ∙ ap (λ b. cond (has_byte_at y start 44 && not b) (inner x) None) (byte_same f.value.end 37 at_field.end)
-      ∙ by_case (has_byte_at y start 44) (has_byte_at y f.value.end 37) refl refl (inner x) (inner y)
+      let start_in : start ≤ e.end = omega (arith, first_in j f there before.0, name) in
+      let inner : List ℕ → ℕ → Option Edit =
+      λ (t : List ℕ) (n : ℕ). cond (has_percent t n f.name.start) (commented_edit t e j f) (Some (build n (comma_end t e j f))) in
+      ap (λ n. cond (has_byte_at x n 44 && is_closed x e j f) (inner x n) None) (first_same j f there)
+      ∙ ap (λ b. cond (b && is_closed x e j f) (inner x start) None) (byte_same start 44 start_in)
+      ∙ ap (λ b. cond (has_byte_at y start 44 && b) (inner x start) None) (closed_same j f there)
+      ∙ by_case (has_byte_at y start 44) (is_closed y e j f) refl refl (inner x start) (inner y start)
       (λ c p.
-      ap (λ b. cond b (commented_edit x e j f) (Some (line_edit x e j f)))
-      (percent_same start f.name.start (before_inside j) name)
-      ∙ ap (λ o. cond (has_percent y start f.name.start) o (Some (line_edit x e j f))) (commented_same j f there before (comma c p))
-      ∙ ap (λ n. cond (has_percent y start f.name.start) (commented_edit y e j f) (Some (build j n))) (comma_same j f there))
+      ap (λ b. cond b (commented_edit x e j f) (Some (build start (comma_end x e j f))))
+      (percent_same start f.name.start start_in name)
+      ∙ ap (λ o. cond (has_percent y start f.name.start) o (Some (build start (comma_end x e j f))))
+      (commented_same j f there before (comma c p))
+      ∙ ap (λ n. cond (has_percent y start f.name.start) (commented_edit y e j f) (Some (build start n))) (comma_same j f there))
     where
       build : ℕ → ℕ → Edit
-      build j n = record { start = end_before e j + 1; end = n; bytes = [] }
+      build m n = record { start = m + 1; end = n; bytes = [] }
 
-      by_case : (a b : Bool) → has_byte_at y (end_before e j) 44 ≡ a → has_byte_at y f.value.end 37 ≡ b → (m n : Option Edit)
-          → (has_byte_at y (end_before e j) 44 ≡ true → has_byte_at y f.value.end 37 ≡ false → m ≡ n)
-          → cond (a && not b) m None ≡ cond (a && not b) n None
-      by_case true false c p m n same = same c p
-      by_case true true c p m n same = refl
+      by_case : (a b : Bool) → has_byte_at y (comma_before y e j f) 44 ≡ a → is_closed y e j f ≡ b → (m n : Option Edit)
+          → (has_byte_at y (comma_before y e j f) 44 ≡ true → is_closed y e j f ≡ true → m ≡ n)
+          → cond (a && b) m None ≡ cond (a && b) n None
+      by_case true true c p m n same = same c p
+      by_case true false c p m n same = refl
       by_case false b c p m n same = refl
 
-  pub unset_same : (name : List ℕ) → ((j : ℕ) (f : FieldReading) → slice_get e.fields j ≡ Some f → end_before e j < f.name.start)
-      → ((j : ℕ) (f : FieldReading) → slice_get e.fields j ≡ Some f → has_byte_at y (end_before e j) 44 ≡ true
-      → has_byte_at y f.value.end 37 ≡ false → comma_end y f ≤ e.end)
-      → unset_edits x name e ≡ unset_edits y name e
-  unset_same name before comma = by_place (first_position (has_name name) e.fields)
+  plain_same : (j : ℕ) (f : FieldReading) → slice_get e.fields j ≡ Some f
+      → (end_before e j < f.name.start) × (f.name.start < f.value.start) → plain_edit x e j f ≡ plain_edit y e j f
+  plain_same j f there before =
+      let start : ℕ = comma_before y e j f in
+      let at_field = inside j f there in
+      let name : f.name.start ≤ e.end = omega (arith, at_field.name, at_field.value, at_field.end) in
+      let start_in : start ≤ e.end = omega (arith, first_in j f there before.0, name) in
+      all_same _ _ _ _ _ _ _ _ _ _
+      (ap (λ n. has_byte_at x n 44) (first_same j f there) ∙ byte_same start 44 start_in)
+      (comma_byte_same j f 44 there)
+      (ap (λ n. has_percent x n f.name.start) (first_same j f there) ∙ percent_same start f.name.start start_in name)
+      (first_same j f there) (after_gap_same j f there)
     where
-      by_field : (j : ℕ) (o : Option FieldReading) → slice_get e.fields j ≡ o → edits_from x name e j o ≡ edits_from y name e j o
-      by_field j None is = refl
-      by_field j (Some f) is =
-          ap (λ o. or_removals name e (cond (list_any (has_name name) (drop (suc j) e.fields)) None o))
-          (own_same j f is (before j f is) (comma j f is))
+      build : Bool → Bool → Bool → ℕ → ℕ → Option Edit
+      build a b c m n = cond (a && b && not c) (Some (record { start = m + 1; end = n + 1; bytes = [] })) None
 
-      by_place : (o : Option ℕ) → edits_at x name e o ≡ edits_at y name e o
-      by_place None = refl
-      by_place (Some j) = by_field j (slice_get e.fields j) refl
+      all_same : (a1 a2 b1 b2 c1 c2 : Bool) (m1 m2 n1 n2 : ℕ) → a1 ≡ a2 → b1 ≡ b2 → c1 ≡ c2 → m1 ≡ m2 → n1 ≡ n2
+          → build a1 b1 c1 m1 n1 ≡ build a2 b2 c2 m2 n2
+      all_same a1 a2 b1 b2 c1 c2 m1 m2 n1 n2 a b c m n =
+          ap (λ i. build i b1 c1 m1 n1) a ∙ ap (λ i. build a2 i c1 m1 n1) b ∙ ap (λ i. build a2 b2 i m1 n1) c
+          ∙ ap (λ i. build a2 b2 c2 i n1) m ∙ ap (build a2 b2 c2 m2) n
+
+  pub unset_same : (name : List ℕ)
+      → ((j : ℕ) (f : FieldReading) → slice_get e.fields j ≡ Some f → (end_before e j < f.name.start) × (f.name.start < f.value.start))
+      → ((j : ℕ) (f : FieldReading) → slice_get e.fields j ≡ Some f → has_byte_at y (comma_before y e j f) 44 ≡ true
+      → is_closed y e j f ≡ true → comma_end y e j f ≤ e.end)
+      → unset_edits x name e ≡ unset_edits y name e
+  unset_same name before comma =
+      ap (or_removals name e)
+      (from_index 0 e.fields (λ i f found. let same' : i ≡ 0 + i = omega arith in subst (λ n. slice_get e.fields n ≡ Some f) same' found))
+    where
+      each : (more : Bool) (j : ℕ) (f : FieldReading) → slice_get e.fields j ≡ Some f
+          → edit_before more x e j f ≡ edit_before more y e j f
+      each true j f there = plain_same j f there (before j f there)
+      each false j f there = own_same j f there (before j f there) (comma j f there)
+
+      from_index : (n : ℕ) (fs : List FieldReading)
+          → ((i : ℕ) (f : FieldReading) → slice_get fs i ≡ Some f → slice_get e.fields (n + i) ≡ Some f)
+          → own_edits x name e n fs ≡ own_edits y name e n fs
+      from_index n [] among = refl
+      from_index n (f ∷ fs) among =
+          let zero_is : n + 0 ≡ n = omega arith in
+          let there : slice_get e.fields n ≡ Some f = subst (λ m. slice_get e.fields m ≡ Some f) zero_is (among 0 f refl) in
+          let more = list_any (has_name name) fs in
+          let rest =
+          from_index (suc n) fs
+          (λ i g found.
+          let next : n + suc i ≡ suc n + i = omega arith in
+          subst (λ m. slice_get e.fields m ≡ Some g) next (among (suc i) g found)) in
+          ap (λ o. cond (has_name name f) (with_edit o (own_edits x name e (suc n) fs)) (own_edits x name e (suc n) fs))
+          (each more n f there)
+          ∙ ap (λ o. cond (has_name name f) (with_edit (edit_before more y e n f) o) o) rest
 
 -- ---- readings that agree without byte offsets
 
@@ -246,9 +313,9 @@ module _ (d : Document) (selected : List ℕ → Bool) (name : List ℕ) (read :
       let edits : unset_edits new.text name e ≡ unset_edits d.text name e =
       unset_same new.text d.text e (e.end + 1) more.front past at_entry.key_end inside name
       (λ (j : ℕ) (f : FieldReading) (there : slice_get e.fields j ≡ Some f). before_name d k e j f read here there)
-      (λ (j : ℕ) (f : FieldReading) (there : slice_get e.fields j ≡ Some f) (comma : has_byte_at d.text (end_before e j) 44 ≡ true)
-      (plain : has_byte_at d.text f.value.end 37 ≡ false).
-      comma_within d k e j f read here there (trimmed j f there) comma plain) in
+      (λ (j : ℕ) (f : FieldReading) (there : slice_get e.fields j ≡ Some f)
+      (comma : has_byte_at d.text (comma_before d.text e j f) 44 ≡ true) (closed : is_closed d.text e j f ≡ true).
+      comma_within d k e j f read here there (trimmed j f there) comma closed) in
       let small : at ≤ e.key.end = omega (arith, less, at_entry.kind_start, at_entry.kind, at_entry.key_start, at_entry.key) in
       record {
         after = x.after;

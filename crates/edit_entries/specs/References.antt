@@ -3,7 +3,7 @@
 -- new keys.
 use Rattle.std.specs.Prelude.{◌≡◌, ℕ, suc, ◌-◌, ◌<◌, ◌==◌, Bool, true, false, if◌then◌else◌, List, [], ◌∷◌, ◌++◌, codes, length, map, take, drop, Option, Some, None, bytes_eq, is_some, option_and_then, option_map, slice_get, slice_index_or, ⊤}
 use Rattle.std.specs.Borrow.{Bor}
-use Rattle.std.specs.List.{AllByRecursion, flat_map, join_by, list_any, slice_split}
+use Rattle.std.specs.List.{AllByRecursion, find, flat_map, join_by, list_any, slice_split}
 use Rattle.std.specs.Option.{option_map_or}
 use Rattle.std.specs.Str.{trim, trim_end, trim_start}
 use Rattle.bib_text.specs.Characters as char
@@ -66,6 +66,10 @@ elements_of list = slice_split (λ c. c == char.comma) list
 -- whether an element of a comma list gets a new name
 abbrev pub is_renamed : (List ℕ → Option (List ℕ)) → List ℕ → Bool
 is_renamed names element = is_some (names (trim element))
+
+-- the first element of a comma list that gets a new name, without the white space around it
+abbrev pub first_renamed : (List ℕ → Option (List ℕ)) → List ℕ → Option (List ℕ)
+first_renamed names list = option_map trim (find (is_renamed names) (elements_of list))
 
 -- a text with the white space at the ends of an element
 abbrev pub between_white : List ℕ → List ℕ → List ℕ

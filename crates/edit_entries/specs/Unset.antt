@@ -1,6 +1,6 @@
 -- Meaning: words of public contracts.
 -- Unsetting a field of an entry: the bytes of the text that go, and the outcome.
-use Rattle.std.specs.Prelude.{◌≡◌, ℕ, zero, suc, ◌+◌, ◌-◌, ◌==◌, ◌&&◌, not, Bool, false, if◌then◌else◌, List, [], ◌∷◌, ◌++◌, codes, drop, filter, Option, Some, None, slice_get, slice_set}
+use Rattle.std.specs.Prelude.{◌≡◌, ℕ, zero, suc, ◌+◌, ◌-◌, ◌==◌, ◌&&◌, ◌||◌, not, Bool, true, false, if◌then◌else◌, List, [], ◌∷◌, ◌++◌, codes, filter, Option, Some, None, slice_get, slice_set}
 use Rattle.std.specs.Char.{is_ascii_whitespace}
 use Rattle.std.specs.List.{list_any, prefix_len}
 use Rattle.std.specs.Option.{option_map_or}
@@ -8,34 +8,18 @@ use Rattle.bib_text.specs.Characters as char
 use Rattle.bib_text.specs.Places.{between, place}
 use Rattle.bib_syntax.specs.Reading.{EntryReading, FieldReading}
 use Rattle.edit_entries.specs.Changes.{value_end}
-use Rattle.edit_entries.specs.Documents.{Document, HasEntry, field_edit, field_limit, first_position, has_name, have_only}
+use Rattle.edit_entries.specs.Documents.{Document, HasEntry, field_edit, field_limit, has_name, have_only}
 use Rattle.edit_entries.specs.Edits.{Edit, edited_all, placeless}
 
--- ---- a field without a comment before it
+-- ---- byte offsets
 
 -- whether a text has a byte at a byte offset
 abbrev pub has_byte_at : List ℕ → ℕ → ℕ → Bool
 has_byte_at text at c = option_map_or (λ b. b == c) (slice_get text at) false
 
--- the byte offset at which the value before the field with an index ends, or the key before the first field
-abbrev pub end_before : EntryReading → ℕ → ℕ
-end_before e zero = e.key.end
-end_before e (suc j) = option_map_or (λ f. f.value.end) (slice_get e.fields j) e.key.end
-
 -- whether a percent sign occurs between two byte offsets
 abbrev pub has_percent : List ℕ → ℕ → ℕ → Bool
 has_percent text start end = list_any (λ b. b == char.percent) (between (place text start) (place text end))
-
--- the byte offset after the comma of a field that has no comment directly after its value, or where its value ends if it has no comma
-abbrev pub comma_end : List ℕ → FieldReading → ℕ
-comma_end text f = if has_byte_at text f.value.end char.comma then f.value.end + 1 else value_end text f
-
--- the edit that removes a field without a comment before it, with the white space before it and its comma; the text after its
--- comma stays
-abbrev pub line_edit : List ℕ → EntryReading → ℕ → FieldReading → Edit
-line_edit text e j f = record { start = end_before e j + 1; end = comma_end text f; bytes = [] }
-
--- ---- a field with a comment before it
 
 -- the first byte offset between two at which a byte fails a test, or the second one
 abbrev pub after_bytes : (ℕ → Bool) → List ℕ → ℕ → ℕ → ℕ
@@ -49,9 +33,65 @@ is_no_line_feed b = not (b == char.line_feed)
 abbrev pub is_line_space : ℕ → Bool
 is_line_space b = is_ascii_whitespace b && is_no_line_feed b
 
+-- the byte offset of the line end at a line feed: LF or CR LF
+abbrev pub line_end_at : List ℕ → ℕ → ℕ
+line_end_at text feed = if has_byte_at text (feed - 1) char.carriage_return then feed - 1 else feed
+
+-- the byte offset after a line comment and the ASCII white space after it, if a line comment is at a byte offset, or else that one
+abbrev pub after_comment : List ℕ → ℕ → ℕ → ℕ
+after_comment text sign end =
+    if has_byte_at text sign char.percent then after_bytes is_ascii_whitespace text (after_bytes is_no_line_feed text sign end) end
+    else sign
+
+-- the byte offset after the ASCII white space between two byte offsets, in which one line comment may occur
+abbrev pub gap_end : List ℕ → ℕ → ℕ → ℕ
+gap_end text start end = after_comment text (after_bytes is_ascii_whitespace text start end) end
+
+-- ---- the commas around a field
+
+-- the byte offset at which the value before the field with an index ends, or the key before the first field
+abbrev pub end_before : EntryReading → ℕ → ℕ
+end_before e zero = e.key.end
+end_before e (suc j) = option_map_or (λ f. f.value.end) (slice_get e.fields j) e.key.end
+
+-- the byte offset of the comma before a field; a comment of the field before may be before that comma
+abbrev pub comma_before : List ℕ → EntryReading → ℕ → FieldReading → ℕ
+comma_before text e j f = gap_end text (end_before e j) f.name.start
+
+-- the byte offset of the comma of a field, or of the closing brace if it has no comma; a comment of the field may be before it
+abbrev pub comma_after : List ℕ → EntryReading → ℕ → FieldReading → ℕ
+comma_after text e j f = gap_end text f.value.end (field_limit e j)
+
+-- whether a comma or a closing brace is there
+abbrev pub is_closed : List ℕ → EntryReading → ℕ → FieldReading → Bool
+is_closed text e j f =
+    has_byte_at text (comma_after text e j f) char.comma || has_byte_at text (comma_after text e j f) char.close_brace
+
+-- the byte offset at which a field without a comma ends: at the end of the line of the comment directly after its value, or else after its
+-- value
+abbrev pub own_end : List ℕ → EntryReading → ℕ → FieldReading → ℕ
+own_end text e j f =
+    if has_byte_at text f.value.end char.percent
+    then line_end_at text (after_bytes is_no_line_feed text f.value.end (field_limit e j))
+    else value_end text f
+
+-- the byte offset after the comma of a field, or at which it ends if it has no comma
+abbrev pub comma_end : List ℕ → EntryReading → ℕ → FieldReading → ℕ
+comma_end text e j f =
+    if has_byte_at text (comma_after text e j f) char.comma then comma_after text e j f + 1 else own_end text e j f
+
+-- ---- a field without a comment before it
+
+-- the edit that removes a field without a comment before it, with the white space before it, the comment directly after its value and its
+-- comma; the text after its comma stays
+abbrev pub line_edit : List ℕ → EntryReading → ℕ → FieldReading → Edit
+line_edit text e j f = record { start = comma_before text e j f + 1; end = comma_end text e j f; bytes = [] }
+
+-- ---- a field with a comment before it
+
 -- the byte offset after the comma before a field and the ASCII white space after that comma
 abbrev pub sign_before : List ℕ → EntryReading → ℕ → FieldReading → ℕ
-sign_before text e j f = after_bytes is_ascii_whitespace text (end_before e j + 1) f.name.start
+sign_before text e j f = after_bytes is_ascii_whitespace text (comma_before text e j f + 1) f.name.start
 
 -- the byte offset of the line feed that ends the comment before a field
 abbrev pub feed_before : List ℕ → EntryReading → ℕ → FieldReading → ℕ
@@ -59,15 +99,11 @@ feed_before text e j f = after_bytes is_no_line_feed text (sign_before text e j 
 
 -- the byte offset after the comma of a field and the ASCII white space after that comma
 abbrev pub sign_after : List ℕ → EntryReading → ℕ → FieldReading → ℕ
-sign_after text e j f = after_bytes is_ascii_whitespace text (comma_end text f) (field_limit e j)
+sign_after text e j f = after_bytes is_ascii_whitespace text (comma_end text e j f) (field_limit e j)
 
 -- the byte offset of the line feed that ends the line of a field's comma, if only white space follows the comma there
 abbrev pub feed_after : List ℕ → EntryReading → ℕ → FieldReading → ℕ
-feed_after text e j f = after_bytes is_line_space text (comma_end text f) (field_limit e j)
-
--- the byte offset of the line end at a line feed: LF or CR LF
-abbrev pub line_end_at : List ℕ → ℕ → ℕ
-line_end_at text feed = if has_byte_at text (feed - 1) char.carriage_return then feed - 1 else feed
+feed_after text e j f = after_bytes is_line_space text (comma_end text e j f) (field_limit e j)
 
 -- the edit that removes a field between two comments: they become one line, since an entry can't have two comments in a row
 abbrev pub joining_edit : List ℕ → EntryReading → ℕ → FieldReading → Edit
@@ -94,12 +130,13 @@ commented_edit text e j f =
     then following_edit text e j f
     else None
 
--- the edit that removes a field and no comment, if a comma is directly after the value or the key before it, and no comment is
--- directly after its own value
+-- the edit that removes a field and no comment of another one, if the commas around it are found
 abbrev pub own_edit : List ℕ → EntryReading → ℕ → FieldReading → Option Edit
 own_edit text e j f =
-    if has_byte_at text (end_before e j) char.comma && not (has_byte_at text f.value.end char.percent)
-    then (if has_percent text (end_before e j) f.name.start then commented_edit text e j f else Some (line_edit text e j f))
+    if has_byte_at text (comma_before text e j f) char.comma && is_closed text e j f
+    then (
+    if has_percent text (comma_before text e j f) f.name.start then commented_edit text e j f else Some (line_edit text e j f)
+    )
     else None
 
 -- ---- the fields with a name
@@ -113,26 +150,43 @@ abbrev pub removals : List ℕ → EntryReading → ℕ → List FieldReading �
 removals name e index [] = []
 removals name e index (f ∷ rest) = removal name e index f ++ removals name e (suc index) rest
 
--- an edit, or those that remove each field with a name up to the next field or the closing brace
-abbrev pub or_removals : List ℕ → EntryReading → Option Edit → List Edit
+-- the edit that removes a field up to the comma after its value and no comment of another one, if the commas around it are found and no
+-- comment is before it
+abbrev pub plain_edit : List ℕ → EntryReading → ℕ → FieldReading → Option Edit
+plain_edit text e j f =
+    if has_byte_at text (comma_before text e j f) char.comma && has_byte_at text (comma_after text e j f) char.comma
+    && not (has_percent text (comma_before text e j f) f.name.start)
+    then Some (record { start = comma_before text e j f + 1; end = comma_after text e j f + 1; bytes = [] })
+    else None
+
+-- the edit that removes a field by itself, by whether a later field has the same name
+abbrev pub edit_before : Bool → List ℕ → EntryReading → ℕ → FieldReading → Option Edit
+edit_before true text e j f = plain_edit text e j f
+edit_before false text e j f = own_edit text e j f
+
+-- an edit and those after it, if there are all
+abbrev pub with_edit : Option Edit → Option (List Edit) → Option (List Edit)
+with_edit None more = None
+with_edit (Some edit) None = None
+with_edit (Some edit) (Some edits) = Some (edit ∷ edits)
+
+-- the edits that remove each of these fields with a name by itself, if there are such edits; the first field has the given index
+abbrev pub own_edits : List ℕ → List ℕ → EntryReading → ℕ → List FieldReading → Option (List Edit)
+own_edits text name e index [] = Some []
+own_edits text name e index (f ∷ rest) =
+    if has_name name f
+    then with_edit (edit_before (list_any (has_name name) rest) text e index f) (own_edits text name e (suc index) rest)
+    else own_edits text name e (suc index) rest
+
+-- these edits, or those that remove each field with a name up to the next field or the closing brace
+abbrev pub or_removals : List ℕ → EntryReading → Option (List Edit) → List Edit
 or_removals name e None = removals name e 0 e.fields
-or_removals name e (Some edit) = edit ∷ []
+or_removals name e (Some edits) = edits
 
--- the edits that unset the first field with a name, at this index
-abbrev pub edits_from : List ℕ → List ℕ → EntryReading → ℕ → Option FieldReading → List Edit
-edits_from text name e j None = []
-edits_from text name e j (Some f) =
-    or_removals name e (if list_any (has_name name) (drop (suc j) e.fields) then None else own_edit text e j f)
-
--- the same, by the index of the first field with the name, if there is one
-abbrev pub edits_at : List ℕ → List ℕ → EntryReading → Option ℕ → List Edit
-edits_at text name e None = []
-edits_at text name e (Some j) = edits_from text name e j (slice_get e.fields j)
-
--- the edits that unset the fields of an entry with a name. The only field with the name is removed without a comment, if there is an edit
--- that does it. Otherwise each field with the name is removed up to the next field or the closing brace.
+-- the edits that unset the fields of an entry with a name. Each of them is removed without a comment of another field, if there are edits
+-- that do it. Otherwise each is removed up to the next field or the closing brace.
 abbrev pub unset_edits : List ℕ → List ℕ → EntryReading → List Edit
-unset_edits text name e = edits_at text name e (first_position (has_name name) e.fields)
+unset_edits text name e = or_removals name e (own_edits text name e 0 e.fields)
 
 -- ---- the outcome
 

@@ -29,11 +29,12 @@ use crate::keys::{first_unsafe_key, have_new_keys, may_get_keys};
 use crate::lookup::{entry_index, entry_with};
 use crate::new_keys::NewKeys;
 use crate::quotes::{contain_unbalanced_quote, have_unbalanced_quote};
-use crate::removing::{have_only, without_entry, without_fields};
+use crate::removing::{have_only, without_entry};
 use crate::renaming::with_new_keys;
 use crate::selected::{all_unset_edits, removals, would_one_be_empty};
 use crate::setting::with_field_set;
 use crate::taken::is_new_key_taken;
+use crate::unsetting::without_fields;
 use bib_syntax::raw::{ParseError, RawBibliography};
 use std::alloc::{AllocError, Global};
 use std::collections::BTreeSet;
@@ -127,17 +128,16 @@ impl<'s> RawDocument<'s> {
     /// Returns the text without a field of an entry: each field with `name`, in any ASCII case, of the first entry with `key` is removed.
     /// Returns the same text if the entry lacks the field.
     ///
-    /// The only field with the name is removed with its comma and the white space before it. Comments before the field and after its comma
-    /// stay. If both are there, they become one line. If only the comment before the field is there, the field is removed with its lines,
-    /// so the closing brace keeps its column.
+    /// A field is removed with its comma, the white space before it, and the comment between its value and its comma.
+    /// Comments before the field and after its comma stay. If both are there, they become one line. If only the comment before the field is
+    /// there, the field is removed with its lines, so the closing brace keeps its column.
     ///
-    /// In these cases the text from the name up to the next field or the closing brace is removed, with a comment in it:
+    /// In these cases the text from the name up to the next field or the closing brace is removed, with a comment in it. If this is the
+    /// case for one of several fields with the name, it is done for each of them.
     ///
-    /// - Several fields have the name.
-    /// - A comment is directly after the value of the field, or of the field before it.
-    /// - The field is the first one, and white space is between the key and the comma.
-    /// - A comment is before the field, and the next field or the closing brace is on the line of its comma.
-    /// - A comment is before the field, and the white space before the comment or after the field's comma isn't ASCII.
+    /// - A comment is after the comma before the field, and a later field has the same name.
+    /// - A comment is after the comma before the field, and the next field or the closing brace is on the line of the field's comma.
+    /// - White space that isn't ASCII is directly before one of the two commas, or next to a comment.
     ///
     /// # Errors
     ///

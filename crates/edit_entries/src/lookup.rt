@@ -15,8 +15,8 @@ fn is_keyed(entry: &Spanned<RawEntry<'_>>, key: &str) -> bool
     entry.v.key.v == key
 }
 
-// Returns the index of the first entry with this key.
-pub(crate) fn entry_index(entries: &[Spanned<RawEntry<'_>>], key: &str) -> Option<usize>
+/// Returns the index of the first entry with this key.
+pub fn entry_index(entries: &[Spanned<RawEntry<'_>>], key: &str) -> Option<usize>
     ensures is { result ≡ first_position (documents.is_keyed key.now) (map entry_reading_of entries.now) }
     ensures bound { IfSome result (λ index. index < length entries.now) }
 {

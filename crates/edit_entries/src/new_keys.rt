@@ -16,12 +16,12 @@ use bib_text::spanned::Spanned;
 use std::alloc::{AllocError, Global};
 use std::collections::BTreeMap;
 
-// New keys of entries, by the indices of the entries.
+/// New keys of entries, by the indices of the entries.
 #[derive(Clone, Copy, Drop)]
-pub(crate) enum NewKeys<'k> {
-    // The entry at an index gets a key.
+pub enum NewKeys<'k> {
+    /// The entry at an index gets a key.
     One(usize, &'k str),
-    // Each entry gets the key at its index, if there is one.
+    /// Each entry gets the key at its index, if there is one.
     Each(&'k [Option<&'k str>]),
 }
 
@@ -40,9 +40,9 @@ impl<'k> NewKeys<'k> {
     }
 }
 
-// The new keys of entries, and the indices of entries by names.
+/// The new keys of entries, and the indices of entries by names.
 #[derive(Drop)]
-pub(crate) struct Names<'k, 's> {
+pub struct Names<'k, 's> {
     pub(crate) keys: NewKeys<'k>,
     // The first entry with each key.
     exact: BTreeMap<&'s str, usize>,
@@ -199,8 +199,8 @@ fn unless_other(keys: &[&str], found: Option<&usize>, other: Option<&usize>) -> 
 }
 
 impl<'k, 's> Names<'k, 's> {
-    // Returns the new keys, with the indices of the entries by their names.
-    pub(crate) fn new(
+    /// Returns the new keys, with the indices of the entries by their names.
+    pub fn new(
         alloc: Global,
         entries: &[Spanned<RawEntry<'s>>],
         keys: NewKeys<'k>,

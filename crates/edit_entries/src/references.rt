@@ -26,6 +26,24 @@ fn is_renamed(
     Ok(names.name_for(alloc, field, element.trim())?.is_some())
 }
 
+/// Returns the first element of a comma list in a field that gets a new name, without the white space around it.
+pub fn first_renamed<'l>(
+    alloc: Global,
+    names: &Names<'_, '_>,
+    field: &str,
+    list: &'l str,
+) -> Result<Option<&'l str>, AllocError>
+    ensures { IfOk result (λ element. option_map (λ e. e.now) element ≡
+        references.first_renamed (name_for names.now field.now) list.now) }
+{
+    'elements: for element in list.split(',') {
+        if is_renamed(alloc, names, field, element)? {
+            return Ok(Some(element.trim()));
+        }
+    }
+    Ok(None)
+}
+
 // Returns whether any element of a comma list in a field gets a new name.
 fn has_renamed(
     alloc: Global,
@@ -35,12 +53,8 @@ fn has_renamed(
 ) -> Result<bool, AllocError>
     ensures { IfOk result (λ has. has ≡ list_any (references.is_renamed (name_for names.now field.now)) (elements_of list.now)) }
 {
-    'elements: for element in list.split(',') {
-        if is_renamed(alloc, names, field, element)? {
-            return Ok(true);
-        }
-    }
-    Ok(false)
+    let first = first_renamed(alloc, names, field, list)?;
+    Ok(first.is_some())
 }
 
 // Returns a new text with the white space at the ends of another.

@@ -1,6 +1,6 @@
 //! Removes entries and fields.
 
-ghost use Rattle.std.specs.Prelude.{◌≡◌, ◌+◌, ◌-◌, ◌^◌, ◌++◌, ◌≤◌, ◌<◌, ℕ, [], ◌∷◌, IfOk, IfSome, OnOk, length, map, option_map};
+ghost use Rattle.std.specs.Prelude.{◌≡◌, ◌+◌, ◌-◌, ◌^◌, ◌++◌, ◌≤◌, ◌<◌, ℕ, [], ◌∷◌, IfOk, OnOk, length, map, option_map};
 ghost use Rattle.std.specs.Bool.{OnTrue};
 ghost use Rattle.std.specs.Char.{is_ascii_whitespace, is_whitespace};
 ghost use Rattle.std.specs.List.{AllByRecursion, list_all, prefix_len};
@@ -10,15 +10,14 @@ ghost use Rattle.bib_text.specs.Places.{Longest};
 ghost use Rattle.bib_text.specs.Places as places;
 ghost use Rattle.bib_syntax.specs.Views.{entry_reading_of, field_of};
 ghost use Rattle.edit_entries.specs.Documents as documents;
-ghost use Rattle.edit_entries.specs.Documents.{first_position};
 ghost use Rattle.edit_entries.specs.Edits as edits;
 ghost use Rattle.edit_entries.specs.Placed.{IsEntryPlaced};
-ghost use Rattle.edit_entries.specs.EditList.{AreEditsInOrder, edit_of};
+ghost use Rattle.edit_entries.specs.EditList.{edit_of};
 ghost use Rattle.edit_entries.specs.Placed.{IsPlaced};
 ghost use Rattle.edit_entries.specs.Selected.{AreRemovals};
 ghost use Rattle.edit_entries.specs.Unset as unset;
 
-use crate::editing::{Edit, edited, edited_all};
+use crate::editing::{Edit, edited};
 use crate::setting::has_field;
 use crate::values::value_end;
 use bib_syntax::raw::{Pair, RawEntry, is_word};
@@ -113,7 +112,7 @@ fn push_removal(
 }
 
 // Returns the edits that remove each field with `name` from an entry, up to the next field or the closing brace.
-fn removals(
+pub(crate) fn removals(
     alloc: Global,
     entry: &Spanned<RawEntry<'_>>,
     name: &str,
@@ -159,7 +158,7 @@ fn stretch(text: &str, start: usize, end: usize) -> &[u8]
 }
 
 // Returns whether a percent sign occurs between two byte offsets.
-fn has_percent(text: &str, start: usize, end: usize) -> bool
+pub(crate) fn has_percent(text: &str, start: usize, end: usize) -> bool
     ensures { result ≡ unset.has_percent text.now start end }
 {
     stretch(text, start, end).contains(&b'%')
@@ -185,18 +184,6 @@ fn end_before(entry: &Spanned<RawEntry<'_>>, index: usize) -> usize
         return entry.v.key.span.end;
     }
     entry.v.fields[index - 1].value.span.end
-}
-
-// Returns the byte offset after the comma of a field that has no comment directly after its value, or where its value ends if it has no
-// comma.
-fn comma_end(text: &str, field: &Pair<'_>) -> usize
-    requires { IsPlaced text.now (field_of field.now) }
-    ensures { result ≡ unset.comma_end text.now (field_of field.now) }
-{
-    if has_byte(text, field.value.span.end, b',') {
-        return field.value.span.end + 1;
-    }
-    value_end(text, field)
 }
 
 // Returns the number of bytes of ASCII white space at the start.
@@ -257,6 +244,79 @@ fn line_end_at(text: &str, feed: usize) -> usize
     }
 }
 
+// Returns the byte offset after the ASCII white space between two byte offsets, in which one line comment may occur.
+fn gap_end(text: &str, start: usize, end: usize) -> usize
+    ensures { result ≡ unset.gap_end text.now start end }
+{
+    let sign = white_end(text, start, end);
+    if !has_byte(text, sign, b'%') {
+        return sign;
+    }
+    white_end(text, line_feed(text, sign, end), end)
+}
+
+// Returns the byte offset of the comma before the field with an index.
+pub(crate) fn comma_before(
+    text: &str,
+    entry: &Spanned<RawEntry<'_>>,
+    index: usize,
+    field: &Pair<'_>,
+) -> usize
+    requires { index < length (entry_reading_of entry.now).fields }
+    ensures { result ≡ unset.comma_before text.now (entry_reading_of entry.now) index (field_of field.now) }
+{
+    gap_end(text, end_before(entry, index), field.key.span.start)
+}
+
+// Returns the byte offset of the comma of a field, or of the closing brace if it has no comma. `index` is that of the field.
+pub(crate) fn comma_after(
+    text: &str,
+    entry: &Spanned<RawEntry<'_>>,
+    index: usize,
+    field: &Pair<'_>,
+) -> usize
+    requires { index < length (entry_reading_of entry.now).fields }
+    ensures { result ≡ unset.comma_after text.now (entry_reading_of entry.now) index (field_of field.now) }
+{
+    gap_end(text, field.value.span.end, field_limit(entry, index))
+}
+
+// Returns whether a comma or a closing brace is where the comma of a field is looked for.
+fn is_closed(text: &str, entry: &Spanned<RawEntry<'_>>, index: usize, field: &Pair<'_>) -> bool
+    requires { index < length (entry_reading_of entry.now).fields }
+    ensures { result ≡ unset.is_closed text.now (entry_reading_of entry.now) index (field_of field.now) }
+{
+    let at = comma_after(text, entry, index, field);
+    has_byte(text, at, b',') || has_byte(text, at, b'}')
+}
+
+// Returns the byte offset at which a field without a comma ends: at the end of the line of the comment directly after its value, or else
+// after its value.
+fn own_end(text: &str, entry: &Spanned<RawEntry<'_>>, index: usize, field: &Pair<'_>) -> usize
+    requires index { index < length (entry_reading_of entry.now).fields }
+    requires placed { IsPlaced text.now (field_of field.now) }
+    ensures { result ≡ unset.own_end text.now (entry_reading_of entry.now) index (field_of field.now) }
+{
+    let end = field.value.span.end;
+    if has_byte(text, end, b'%') {
+        return line_end_at(text, line_feed(text, end, field_limit(entry, index)));
+    }
+    value_end(text, field)
+}
+
+// Returns the byte offset after the comma of a field, or at which it ends if it has no comma.
+fn comma_end(text: &str, entry: &Spanned<RawEntry<'_>>, index: usize, field: &Pair<'_>) -> usize
+    requires index { index < length (entry_reading_of entry.now).fields }
+    requires placed { IsPlaced text.now (field_of field.now) }
+    ensures { result ≡ unset.comma_end text.now (entry_reading_of entry.now) index (field_of field.now) }
+{
+    let comma = comma_after(text, entry, index, field);
+    if has_byte(text, comma, b',') {
+        return comma + 1;
+    }
+    own_end(text, entry, index, field)
+}
+
 // Returns the edit that removes a field after a comment whose line feed is at a byte offset: it joins the comment and the next one, or
 // removes the lines of the field.
 fn following_edit(
@@ -274,7 +334,7 @@ fn following_edit(
     ensures { IfOk result (λ found. option_map edit_of found ≡
         unset.following_edit text.now (entry_reading_of entry.now) index (field_of field.now)) }
 {
-    let comma = comma_end(text, field);
+    let comma = comma_end(text, entry, index, field);
     let limit = field_limit(entry, index);
     let sign = white_end(text, comma, limit);
     if has_byte(text, sign, b'%') {
@@ -305,12 +365,12 @@ fn commented_edit(
 ) -> Result<Option<Edit>, AllocError>
     requires index { index < length (entry_reading_of entry.now).fields }
     requires placed { IsPlaced text.now (field_of field.now) }
-    requires bound { unset.end_before (entry_reading_of entry.now) index < 2 ^ 64 - 1 }
+    requires bound { unset.comma_before text.now (entry_reading_of entry.now) index (field_of field.now) < 2 ^ 64 - 1 }
     ensures { IfOk result (λ found. option_map edit_of found ≡
         unset.commented_edit text.now (entry_reading_of entry.now) index (field_of field.now)) }
 {
     let name = field.key.span.start;
-    let sign = white_end(text, end_before(entry, index) + 1, name);
+    let sign = white_end(text, comma_before(text, entry, index, field) + 1, name);
     let feed = line_feed(text, sign, name);
     if !has_byte(text, sign, b'%') || !has_byte(text, feed, b'\n') {
         return Ok(None);
@@ -318,8 +378,8 @@ fn commented_edit(
     following_edit(alloc, text, entry, index, field, feed)
 }
 
-// Returns the edit that removes a field and no comment, if there is one.
-fn own_edit(
+// Returns the edit that removes a field and no comment of another one, if there is one.
+pub(crate) fn own_edit(
     alloc: Global,
     text: &str,
     entry: &Spanned<RawEntry<'_>>,
@@ -331,8 +391,8 @@ fn own_edit(
     ensures { IfOk result (λ found. option_map edit_of found ≡
         unset.own_edit text.now (entry_reading_of entry.now) index (field_of field.now)) }
 {
-    let start = end_before(entry, index);
-    if !has_byte(text, start, b',') || has_byte(text, field.value.span.end, b'%') {
+    let start = comma_before(text, entry, index, field);
+    if !has_byte(text, start, b',') || !is_closed(text, entry, index, field) {
         return Ok(None);
     }
     if has_percent(text, start, field.key.span.start) {
@@ -340,62 +400,7 @@ fn own_edit(
     }
     Ok(Some(Edit {
         start: start + 1,
-        end: comma_end(text, field),
+        end: comma_end(text, entry, index, field),
         text: String::new(alloc),
     }))
-}
-
-// Returns the index of the first of these fields with a name, in any ASCII case.
-fn field_index(fields: &[Pair<'_>], name: &str) -> Option<usize>
-    ensures is { result ≡ first_position (documents.has_name name.now) (map field_of fields.now) }
-    ensures bound { IfSome result (λ index. index < length fields.now) }
-{
-    'fields: for (index, field) in fields.iter().enumerate() {
-        if is_word(field.key.v, name) {
-            return Some(index);
-        }
-    }
-    None
-}
-
-// Returns the edits that unset a field of an entry: each field with the name is removed.
-pub(crate) fn unset_edits(
-    alloc: Global,
-    text: &str,
-    entry: &Spanned<RawEntry<'_>>,
-    name: &str,
-) -> Result<Vec<Edit>, AllocError>
-    requires { AllByRecursion (IsPlaced text.now) (entry_reading_of entry.now).fields }
-    ensures { IfOk result (λ edits. map edit_of edits.items ≡ unset.unset_edits text.now name.now (entry_reading_of entry.now)) }
-{
-    let mut edits = Vec::new(alloc);
-    let fields = entry.v.fields.as_slice();
-    let Some(index) = field_index(fields, name) else {
-        return Ok(edits);
-    };
-    let field = &fields[index];
-    if has_field(&fields[index + 1..], name) {
-        return removals(alloc, entry, name);
-    }
-    let Some(edit) = own_edit(alloc, text, entry, index, field)? else {
-        return removals(alloc, entry, name);
-    };
-    edits.push(edit)?;
-    Ok(edits)
-}
-
-// Returns the text without the fields of an entry with a name.
-pub(crate) fn without_fields(
-    alloc: Global,
-    text: &str,
-    entry: &Spanned<RawEntry<'_>>,
-    name: &str,
-) -> Result<String, AllocError>
-    requires placed { AllByRecursion (IsPlaced text.now) (entry_reading_of entry.now).fields }
-    requires ordered { AreEditsInOrder text.now 0 (unset.unset_edits text.now name.now (entry_reading_of entry.now)) }
-    ensures { IfOk result (λ new. string_bytes new ≡
-        edits.edited_all (unset.unset_edits text.now name.now (entry_reading_of entry.now)) text.now) }
-{
-    let edits = unset_edits(alloc, text, entry, name)?;
-    edited_all(alloc, text, &edits)
 }

@@ -12,7 +12,8 @@ ghost use Rattle.edit_entries.specs.Selected as spec;
 ghost use Rattle.edit_entries.specs.Selected.{AreRemovals, has_selected_key, unset_if_selected};
 
 use crate::editing::Edit;
-use crate::removing::{entry_removal, have_only, unset_edits};
+use crate::removing::{entry_removal, have_only};
+use crate::unsetting::unset_edits;
 use bib_syntax::raw::RawEntry;
 use bib_text::spanned::Spanned;
 use std::alloc::{AllocError, Global};

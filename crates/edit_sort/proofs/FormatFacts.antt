@@ -28,9 +28,10 @@ use Rattle.edit_format.proofs.FileFacts.{file_read, line_end_is, text_read}
 use Rattle.edit_format.proofs.GapFacts.{are_blank, blank_ends, gap_read}
 use Rattle.edit_entries.proofs.ByEntriesFacts.{ByEntries, by_entries}
 use Rattle.edit_entries.proofs.StandsFacts.{Stands, between_stands, past}
-use Rattle.edit_sort.specs.Sorted.{AreEntriesInOrder, IsSortedText, Item, gap_before, item_cmp, items, place_at, rank, text_in_order}
+use Rattle.edit_sort.specs.Sorted.{AreEntriesInOrder, IsSortedText, Item, entry_place, gap_before, item_cmp, items, place_at, rank, text_in_order}
 use Rattle.edit_sort.specs.Steps.{gaps_from, items_from, run_after}
 use Rattle.edit_sort.proofs.AlikeFacts.{PassAlike, content_keeps, head_same, order_keeps, rank_alike, rank_kept, rest_same}
+use Rattle.edit_sort.proofs.FirstFacts.{first_by_keys, keys_of, keys_through}
 use Rattle.edit_sort.proofs.OneOrderFacts.{starts_in_order}
 use Rattle.edit_sort.proofs.SetFacts.{any_through}
 use Rattle.edit_sort.proofs.StaysFacts.{in_order_stays}
@@ -172,15 +173,19 @@ runs_listed all all' text text' places places' index index' at at' run (e ∷ es
     (run_after run (gap_before text at e)) es es' signs.1)
 
 places_listed : (all all' : List EntryReading) (text text' places : List ℕ) (index at at' run run' : ℕ)
-    (es es' : List EntryReading) → length es' ≡ length es
+    (es es' : List EntryReading) → keys_of all' ≡ keys_of all → keys_of es' ≡ keys_of es
     → map (λ i. i.place) (items_from all' text' places index at' run' es') ≡ map (λ i. i.place) (items_from all text places index at run es)
-places_listed all all' text text' places index at at' run run' [] [] size = refl
-places_listed all all' text text' places index at at' run run' [] (e' ∷ es') size = absurd (omega (arith, size))
-places_listed all all' text text' places index at at' run run' (e ∷ es) [] size = absurd (omega (arith, size))
-places_listed all all' text text' places index at at' run run' (e ∷ es) (e' ∷ es') size =
-    ap (λ l. place_at places index ∷ l)
+places_listed all all' text text' places index at at' run run' [] [] keys same = refl
+places_listed all all' text text' places index at at' run run' [] (e' ∷ es') keys same = absurd (cc)
+places_listed all all' text text' places index at at' run run' (e ∷ es) [] keys same = absurd (cc)
+places_listed all all' text text' places index at at' run run' (e ∷ es) (e' ∷ es') keys same =
+    let here : e'.key.text ≡ e.key.text = head_same e'.key.text e.key.text (keys_of es') (keys_of es) same in
+    let rest = items_from all' text' places (index + 1) (e'.end + 1) (run_after run' (gap_before text' at' e')) es' in
+    ap (λ n. n ∷ map (λ i. i.place) rest) (ap (place_at places) (first_by_keys all all' e e' keys here))
+    ∙ ap (λ l. entry_place all places e ∷ l)
     (places_listed all all' text text' places (index + 1) (e.end + 1) (e'.end + 1)
-    (run_after run (gap_before text at e)) (run_after run' (gap_before text' at' e')) es es' (omega (arith, size)))
+    (run_after run (gap_before text at e)) (run_after run' (gap_before text' at' e')) es es' keys
+    (rest_same e'.key.text e.key.text (keys_of es') (keys_of es) same))
 
 module _ (all all' : List EntryReading) (style : Style) (old : List ℕ) (ranked : (e : EntryReading) → rank all' e ≡ rank all e) where
   abbrev ordered : EntryReading → EntryReading
@@ -232,6 +237,10 @@ in_style_in_order style d after places read read' is sorted =
     let size : length all' ≡ length all =
     sym (length-map all' entry_content) ∙ ap length alike ∙ length-map (map (entry_in_order style d.text) all) entry_content
     ∙ length-map all (entry_in_order style d.text) in
+    let keys : keys_of all' ≡ keys_of all =
+    sym (keys_through entry_content all' (λ e. content_keeps.keyed e)) ∙ ap keys_of alike
+    ∙ keys_through entry_content (map (entry_in_order style d.text) all) (λ e. content_keeps.keyed e)
+    ∙ keys_through (entry_in_order style d.text) all (λ e. (order_keeps style d.text).keyed e) in
     let pass : PassAlike all all' =
     λ p kept.
     sym (any_through p entry_content all' (kept entry_content content_keeps)) ∙ ap (list_any p) alike
@@ -247,7 +256,7 @@ in_style_in_order style d after places read read' is sorted =
     ∙ ap (map (λ (i : Item). i.rank)) (sym (items_are d places)) in
     let numbers =
     ap (map (λ (i : Item). i.place)) (items_are after places)
-    ∙ places_listed all all' d.text after.text places 0 0 0 0 0 all all' size
+    ∙ places_listed all all' d.text after.text places 0 0 0 0 0 all all' keys keys
     ∙ ap (map (λ (i : Item). i.place)) (sym (items_are d places)) in
     sorted_as (items after places) (items d places) runs ranks numbers (starts_in_order after places read') sorted
 

@@ -2,10 +2,12 @@ pub mod AlikeFacts
 pub mod ChainFacts
 pub mod FeedFacts
 pub mod FileFacts
+pub mod FirstFacts
 pub mod FormatFacts
 pub mod GatherFacts
 pub mod GraphFacts
 pub mod GreatestFacts
+pub mod KeyOrderFacts
 pub mod LengthFacts
 pub mod LineFacts
 pub mod OneOrderFacts

@@ -1,5 +1,5 @@
 -- Keys as indices: entries have a chain of references exactly if the indices of their keys have a chain of the same length.
-use Rattle.std.proofs.Common.{◌≡◌, ℕ, zero, suc, ◌<◌, Bool, true, false, cond, leb, List, [], ◌∷◌, ◌++◌, Option, Some, None, get_or, is_some, length, map, option_map, slice_get, unwrap_or, refl, sym, ap, ap₂, ◌∙◌, subst, arith}
+use Rattle.std.proofs.Common.{◌≡◌, ℕ, zero, suc, ◌<◌, Bool, true, false, cond, leb, List, [], ◌∷◌, ◌++◌, Option, Some, None, get_or, is_some, length, map, option_map, slice_get, take, unwrap_or, refl, sym, ap, ap₂, ◌∙◌, subst, arith}
 use Rattle.std.specs.Prelude.{◌==◌, ◌&&◌, ◌||◌, bytes_eq}
 use Rattle.std.specs.FinMap.{empty, get, get-empty, get-insert, insert}
 use Rattle.std.specs.List.{All, AllByRecursion, list_any}
@@ -7,16 +7,17 @@ use Rattle.std.specs.Option.{option_map_or}
 use Rattle.std.specs.Str.{str_eq_ignore_ascii_case, str_to_ascii_lowercase}
 use Rattle.std.proofs.lemmas.Bool.{and_right, eq-eqb, eqb-true, false≢true, leb-false, lt-leb, or_parts}
 use Rattle.std.proofs.lemmas.Cmp.{nat_list_cmp_total}
+use Rattle.std.proofs.lemmas.List.{get_or-take, length-take-le}
 use Rattle.std.proofs.lemmas.List.Elements.{All-from_get_or, All-from_recursion, All-push, All-weaker, recursion_from_All}
 use Rattle.std.proofs.lemmas.List.FromFn.{get_or-map-range_with_len}
 use Rattle.std.proofs.lemmas.Map.Text.{is_eq-slice_cmp}
-use Rattle.std.proofs.lemmas.Option.{none-some, same_Some, slice_get_within}
+use Rattle.std.proofs.lemmas.Option.{get_or_from_slice_get, none-some, same_Some, slice_get_within}
 use Rattle.std.proofs.lemmas.Slice.Eq.{bytes_eq-Decides}
 use Rattle.bib_collections.specs.Graph.{Graph, IsInRange, refs_of}
 use Rattle.bib_collections.specs.Names.{AreIndicesBelow}
 use Rattle.bib_collections.specs.Sorted.{ByText, by_bytes}
 use Rattle.bib_syntax.specs.Reading.{FieldReading, EntryReading}
-use Rattle.edit_sort.specs.Ranks.{AreChildren, AreIndicesOf, AreKeyIndices, HaveIndices, has_walk, longest, longest_chains, lower_key, names_index, owner, points_to}
+use Rattle.edit_sort.specs.Ranks.{AreChildren, AreFirstIndices, AreIndicesOf, AreKeyIndices, HaveIndices, has_walk, longest, longest_chains, lower_key, names_index, owner, points_to}
 use Rattle.edit_sort.specs.Sorted.{crossref, has_chain, names_key, rank, refers_to}
 use Rattle.edit_sort.proofs.GreatestFacts.{greatest_same}
 use Rattle.edit_sort.proofs.SetFacts.{any_same, any_where, same_tests}
@@ -29,7 +30,7 @@ some_is : {A : Type 0} (o : Option A) (d : A) → is_some o ≡ true → o ≡ S
 some_is None d some = absurd (false≢true some)
 some_is (Some x) d some = refl
 
-mapped_from : {A B : Type 0} (f : A → B) (o : Option A) (y : B) → option_map f o ≡ Some y → (x : A) × (o ≡ Some x)
+pub mapped_from : {A B : Type 0} (f : A → B) (o : Option A) (y : B) → option_map f o ≡ Some y → (x : A) × (o ≡ Some x)
 mapped_from f None y is = absurd (let clash : None ≡ Some y = is in cc)
 mapped_from f (Some x) y is = (x, refl)
 
@@ -41,7 +42,7 @@ pub indices_below : (all : List EntryReading) (names : ByText ℕ) → AreIndice
 indices_below all names of_key key k is = index_below all key k (of_key key k is)
 
 module _ (entries : List EntryReading) (names : ByText ℕ) (keys : AreKeyIndices entries names) where
-  owner_is : (e : EntryReading) → HasIndex names e → get names (lower_key e) ≡ Some (owner names e)
+  pub owner_is : (e : EntryReading) → HasIndex names e → get names (lower_key e) ≡ Some (owner names e)
   owner_is e known = some_is (get names (lower_key e)) 0 known
 
   pub owner_below : (e : EntryReading) → HasIndex names e → owner names e < length entries
@@ -160,6 +161,10 @@ pub indices_none : (all : List EntryReading) (names : ByText ℕ) → names ≡ 
 indices_none all names is key k at =
     absurd (none-some k (sym (get-empty {X = ℕ} by_bytes key) ∙ ap (λ m. get m key) (sym is) ∙ at))
 
+pub first_none : (all : List EntryReading) (names : ByText ℕ) → names ≡ empty → AreFirstIndices all names
+first_none all names is key k j at before there =
+    none-some k (sym (get-empty {X = ℕ} by_bytes key) ∙ ap (λ m. get m key) (sym is) ∙ at)
+
 get_more : (names new : ByText ℕ) (key : List ℕ) (index : ℕ) (q : List ℕ) → new ≡ insert names key index
     → get new q ≡ cond (bytes_eq q key) (Some index) (get names q)
 get_more names new key index q is =
@@ -167,7 +172,7 @@ get_more names new key index q is =
     ∙ ap (λ b. cond b (Some index) (get names q)) (is_eq-slice_cmp q key)
 
 -- each key points to the index of an entry with this key, after one more entry
-pub indices_more : (all : List EntryReading) (names new : ByText ℕ) (e : EntryReading) (index : ℕ) → slice_get all index ≡ Some e
+indices_more : (all : List EntryReading) (names new : ByText ℕ) (e : EntryReading) (index : ℕ) → slice_get all index ≡ Some e
     → new ≡ insert names (lower_key e) index → AreIndicesOf all names → AreIndicesOf all new
 indices_more all names new e index here is of_key key k at =
     by_tie (bytes_eq key (lower_key e)) refl (sym (get_more names new (lower_key e) index key is) ∙ at)
@@ -183,7 +188,7 @@ some_tied true index o some = refl
 some_tied false index o some = some
 
 -- the keys of the entries so far point to an index, after one more entry
-pub have_more : (names new : ByText ℕ) (es : List EntryReading) (e : EntryReading) (index : ℕ)
+have_more : (names new : ByText ℕ) (es : List EntryReading) (e : EntryReading) (index : ℕ)
     → new ≡ insert names (lower_key e) index → HaveIndices names es → HaveIndices new (es ++ e ∷ [])
 have_more names new es e index is known =
     All-push (HasIndex new) es e
@@ -194,3 +199,47 @@ have_more names new es e index is known =
     (ap is_some
     (get_more names new (lower_key e) index (lower_key e) is
     ∙ ap (λ b. cond b (Some index) (get names (lower_key e))) ((bytes_eq-Decides (lower_key e) (lower_key e)).1 refl)))
+
+-- if no key of the entries before an index is that of its entry, each key still points to the first entry with it
+first_more : (all : List EntryReading) (names new : ByText ℕ) (e : EntryReading) (index : ℕ) → index < length all
+    → is_some (get names (lower_key e)) ≡ false → new ≡ insert names (lower_key e) index → HaveIndices names (take index all)
+    → AreFirstIndices all names → AreFirstIndices all new
+first_more all names new e index long missing is known first key k j at before there =
+    by_tie (bytes_eq key (lower_key e)) refl (sym (get_more names new (lower_key e) index key is) ∙ at)
+  where
+    by_tie : (b : Bool) → bytes_eq key (lower_key e) ≡ b → cond b (Some index) (get names key) ≡ Some k → ⊥
+    by_tie false tied found = first key k j found before there
+    by_tie true tied found =
+        let last : index ≡ k = same_Some index k found in
+        let x = mapped_from lower_key (slice_get all j) key there in
+        let same : lower_key x.0 ≡ lower_key e =
+        same_Some (lower_key x.0) key (sym (ap (option_map lower_key) x.1) ∙ there) ∙ (bytes_eq-Decides key (lower_key e)).0 tied in
+        let early : j < index = omega (arith, before, last) in
+        let within : j < length (take index all) =
+        omega (arith, early, length-take-le index all (omega (arith, long))) in
+        let here : get_or (take index all) j x.0 ≡ x.0 =
+        get_or-take index all j x.0 early ∙ get_or_from_slice_get all j x.0 x.0 x.1 in
+        let some : is_some (get names (lower_key x.0)) ≡ true = subst (HasIndex names) here (known j x.0 within) in
+        false≢true (sym missing ∙ ap (λ q. is_some (get names q)) (sym same) ∙ some)
+
+-- the keys of entries so far point to the index of the first entry of `all` with that key
+pub record AreFirstKeys (all : List EntryReading) (names : ByText ℕ) (es : List EntryReading) : Type 0 where
+  pub of_key : AreIndicesOf all names
+  pub first : AreFirstIndices all names
+  pub each : HaveIndices names es
+
+pub keys_more : (all : List EntryReading) (names new : ByText ℕ) (e : EntryReading) (index : ℕ) → slice_get all index ≡ Some e
+    → new ≡ cond (is_some (get names (lower_key e))) names (insert names (lower_key e) index)
+    → AreFirstKeys all names (take index all) → AreFirstKeys all new (take index all ++ e ∷ [])
+keys_more all names new e index here is keys = by_key (is_some (get names (lower_key e))) refl is
+  where
+    by_key : (b : Bool) → is_some (get names (lower_key e)) ≡ b → new ≡ cond b names (insert names (lower_key e) index)
+        → AreFirstKeys all new (take index all ++ e ∷ [])
+    by_key true has is' =
+        subst (λ m. AreFirstKeys all m (take index all ++ e ∷ [])) (sym is')
+        (record { of_key = keys.of_key; first = keys.first; each = All-push (HasIndex names) (take index all) e keys.each has })
+    by_key false has is' = record {
+      of_key = indices_more all names new e index here is' keys.of_key;
+      first = first_more all names new e index (slice_get_within all index e here) has is' keys.each keys.first;
+      each = have_more names new (take index all) e index is' keys.each;
+    }

@@ -8,7 +8,7 @@ use Rattle.bib_text.specs.Characters as char
 use Rattle.bib_syntax.specs.Reading.{EntryReading}
 use Rattle.bib_syntax.specs.Recovery.{has_byte}
 use Rattle.edit_entries.specs.Documents.{Document}
-use Rattle.edit_sort.specs.Sorted.{AreEntriesInOrder, Item, comment_in, entry_bytes, gap_before, gaps, item_at, items, place_at, rank, rest_of, run_at, space_in, spaces_of, text_in_order}
+use Rattle.edit_sort.specs.Sorted.{AreEntriesInOrder, Item, comment_in, entry_bytes, entry_place, gap_before, gaps, item_at, items, rank, rest_of, run_at, space_in, spaces_of, text_in_order}
 use Rattle.edit_sort.specs.Steps.{gaps_from, items_from, items_laid_out, place_after, run_after, spaces_from}
 
 -- ---- gaps and spaces
@@ -70,7 +70,7 @@ items_are_from all text places before index at run (e ∷ es) size counted =
     let first : Item = record {
       run = run_after run gap;
       rank = rank all e;
-      place = place_at places index;
+      place = entry_place all places e;
       comment = comment_in (index == 0) gap;
       entry = e;
     } in
@@ -79,7 +79,7 @@ items_are_from all text places before index at run (e ∷ es) size counted =
     let i : Item = record {
       run = n;
       rank = rank all e;
-      place = place_at places index;
+      place = entry_place all places e;
       comment = comment_in (index == 0) gap;
       entry = e;
     } in i in

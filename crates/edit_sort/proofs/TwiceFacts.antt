@@ -1,15 +1,15 @@
 -- The entries of a sorted text are in order.
-use Rattle.std.proofs.Common.{◌≡◌, inl, inr, ℕ, zero, suc, ◌+◌, ◌-◌, ◌^◌, ◌<◌, ◌≤◌, Bool, true, false, cond, List, [], ◌∷◌, ◌++◌, drop, get_or, length, map, refl, sym, ap, ◌∙◌, subst, arith}
+use Rattle.std.proofs.Common.{◌≡◌, inl, inr, ℕ, ◌+◌, ◌<◌, ◌≤◌, Bool, true, false, cond, List, [], ◌∷◌, ◌++◌, get_or, length, map, refl, sym, ap, ◌∙◌, subst, arith}
 use Rattle.std.specs.Prelude.{◌==◌, ◌||◌}
 use Rattle.std.specs.Cmp.{nat_cmp_is}
-use Rattle.std.specs.List.{AllByRecursion, list_any}
+use Rattle.std.specs.List.{AllByRecursion, Contains, list_any}
 use Rattle.std.specs.List.Sorted.{IsSorted}
 use Rattle.std.specs.Ordering.{is_lt, nat_cmp, ordering_then}
 use Rattle.std.specs.declared.cmp.Ordering.{Ordering}
 use Rattle.std.specs.declared.cmp.Ordering.TheVariants.{Less, Equal, Greater}
 use Rattle.std.proofs.lemmas.Bool.{cases_lt}
 use Rattle.std.proofs.lemmas.List.{length-map}
-use Rattle.std.proofs.lemmas.List.Elements.{All-from_recursion, recursion_from_All}
+use Rattle.std.proofs.lemmas.List.Elements.{All-contains_itself, All-from_recursion, recursion_from_All}
 use Rattle.std.proofs.lemmas.List.Folds.{list_any-append}
 use Rattle.std.proofs.lemmas.List.Sorted.{All-permutation, IsPermutation-map, length_permutation, list_any-IsPermutation}
 use Rattle.std.proofs.Math.ListN.{get_or-map}
@@ -24,6 +24,7 @@ use Rattle.edit_sort.specs.Steps.{items_from, run_after, spaces_from}
 use Rattle.edit_sort.proofs.AlikeFacts.{PassAlike, head_same, moved_keeps, rank_alike, rank_kept, rest_same}
 use Rattle.edit_sort.proofs.FeedFacts.{clear_of}
 use Rattle.edit_sort.proofs.FileFacts.{AreLaid, length-items, read_in_order}
+use Rattle.edit_sort.proofs.FirstFacts.{IsPlaced, keys_of, keys_of_items, keys_through, place_again, placed_items}
 use Rattle.edit_sort.proofs.OneOrderFacts.{IsNotAfter, starts_in_order, up_from}
 use Rattle.edit_sort.proofs.ParentFacts.{known_items, IsKnown}
 use Rattle.edit_sort.proofs.PlainFacts.{or_right}
@@ -139,7 +140,7 @@ runs_above all text places index at run low (e ∷ es) below =
     let more : low ≤ run_after run (gap_before text at e) = omega (arith, run_more (has_byte 64 (gap_before text at e)) run) in
     (more, runs_above all text places (index + 1) (e.end + 1) (run_after run (gap_before text at e)) low es more)
 
-runs_up : (all : List EntryReading) (text places : List ℕ) (index at run : ℕ) (es : List EntryReading)
+pub runs_up : (all : List EntryReading) (text places : List ℕ) (index at run : ℕ) (es : List EntryReading)
     → AreUp (λ m n. m ≤ n) (map (λ i. i.run) (items_from all text places index at run es))
 runs_up all text places index at run [] = tt
 runs_up all text places index at run (e ∷ es) =
@@ -185,28 +186,22 @@ runs_in_order d places order in_order =
 
 -- ---- places
 
-got_dropped : (xs : List ℕ) (n y : ℕ) (ys : List ℕ) → drop n xs ≡ y ∷ ys → ((d : ℕ) → get_or xs n d ≡ y) × (drop (n + 1) xs ≡ ys)
-got_dropped [] zero y ys is = absurd (cc)
-got_dropped [] (suc n) y ys is = absurd (cc)
-got_dropped (x ∷ xs) zero y ys is = (λ d. let same : x ≡ y = cc in same, let rest : xs ≡ ys = cc in rest)
-got_dropped (x ∷ xs) (suc n) y ys is =
-    let later = got_dropped xs n y ys is in
-    let next : suc (n + 1) ≡ suc n + 1 = omega arith in
-    (later.0, ap (λ m. drop m (x ∷ xs)) (sym next) ∙ later.1)
-
-same_places : (all : List EntryReading) (text places : List ℕ) (index at run : ℕ) (es : List EntryReading) (left : List ℕ)
-    → drop index places ≡ left → length es ≡ length left
-    → map (λ i. i.place) (items_from all text places index at run es) ≡ left
-same_places all text places index at run [] [] is size = refl
-same_places all text places index at run [] (p ∷ ps) is size = absurd (omega (arith, size))
-same_places all text places index at run (e ∷ es) [] is size = absurd (omega (arith, size))
-same_places all text places index at run (e ∷ es) (p ∷ ps) is size =
-    let here = got_dropped places index p ps is in
-    let rest = items_from all text places (index + 1) (e.end + 1) (run_after run (gap_before text at e)) es in
-    ap (λ n. n ∷ map (λ i. i.place) rest) (here.0 (2 ^ 64 - 1))
-    ∙ ap (λ l. p ∷ l)
-    (same_places all text places (index + 1) (e.end + 1) (run_after run (gap_before text at e)) es ps here.1
-    (omega (arith, size)))
+same_places : (all all' : List EntryReading) (text places : List ℕ) (order : List Item) (index at run : ℕ) (es : List EntryReading)
+    (left : List Item) → keys_of all' ≡ map (λ i. i.entry.key.text) order → AllByRecursion (IsPlaced all places) order
+    → AllByRecursion (Contains order) left → keys_of es ≡ map (λ i. i.entry.key.text) left
+    → map (λ i. i.place) (items_from all' text (map (λ i. i.place) order) index at run es) ≡ map (λ i. i.place) left
+same_places all all' text places order index at run [] [] keys placed there same = refl
+same_places all all' text places order index at run [] (i ∷ left) keys placed there same = absurd (cc)
+same_places all all' text places order index at run (e ∷ es) [] keys placed there same = absurd (cc)
+same_places all all' text places order index at run (e ∷ es) (i ∷ left) keys placed there same =
+    let texts = map (λ (j : Item). j.entry.key.text) left in
+    let here : e.key.text ≡ i.entry.key.text = head_same e.key.text i.entry.key.text (keys_of es) texts same in
+    let places' = map (λ (j : Item). j.place) order in
+    let rest = items_from all' text places' (index + 1) (e.end + 1) (run_after run (gap_before text at e)) es in
+    ap (λ n. n ∷ map (λ j. j.place) rest) (place_again all all' places order e i keys placed there.0 here)
+    ∙ ap (λ l. i.place ∷ l)
+    (same_places all all' text places order (index + 1) (e.end + 1) (run_after run (gap_before text at e)) es left keys placed
+    there.1 (rest_same e.key.text i.entry.key.text (keys_of es) texts same))
 
 -- ---- ranks
 
@@ -326,6 +321,10 @@ sorted_in_order d places order again read in_order read' =
     let size : length again.entries ≡ length all =
     as_long ∙ length_permutation (listed d places) order (listed_order d places order in_order).permutation
     ∙ length-items all d.text places 0 0 0 all in
+    let keys : keys_of again.entries ≡ map (λ (i : Item). i.entry.key.text) order =
+    sym (keys_through (moved_entry (λ n. 0)) again.entries (λ e. refl)) ∙ ap keys_of alike
+    ∙ keys_through (moved_entry (λ n. 0)) (map (λ (i : Item). i.entry) order) (λ e. refl)
+    ∙ keys_of_items order in
     let ranks =
     ap (map (λ (i : Item). i.rank)) (items_are d' places')
     ∙ same_ranks all again.entries text places' 0 0 0 again.entries order
@@ -333,7 +332,8 @@ sorted_in_order d places order again read in_order read' =
     (known_items d places order in_order) in
     let named =
     ap (map (λ (i : Item). i.place)) (items_are d' places')
-    ∙ same_places again.entries text places' 0 0 0 again.entries places' refl (as_long ∙ sym (length-map order (λ i. i.place))) in
+    ∙ same_places all again.entries text places order 0 0 0 again.entries order keys (placed_items d places order in_order)
+    (recursion_from_All (Contains order) order (All-contains_itself order)) keys in
     sorted_as (items d' places') order runs ranks named (starts_in_order d' places' read') in_order.sorted
 
 pub twice_is_once : (d : Document) (places : List ℕ) (order : List Item) (again : FileReading) (new : List ℕ)

@@ -1,6 +1,6 @@
 -- Machinery: words of private contracts.
 -- Keys as indices, references between indices, and the longest chains in a graph.
-use Rattle.std.specs.Prelude.{◌≡◌, ◌==◌, ◌&&◌, ℕ, zero, suc, ◌+◌, Bool, true, false, List, [], ◌∷◌, Some, cond, is_some, length, map, max, min, option_map, slice_get, unwrap_or}
+use Rattle.std.specs.Prelude.{◌≡◌, ◌==◌, ◌<◌, ◌&&◌, ℕ, zero, suc, ◌+◌, Bool, true, false, List, [], ◌∷◌, Some, cond, is_some, length, map, max, min, option_map, slice_get, unwrap_or}
 use Rattle.std.specs.FinMap.{get}
 use Rattle.std.specs.List.{All, list_any, range_with_len}
 use Rattle.std.specs.Option.{option_map_or}
@@ -26,12 +26,18 @@ AreIndicesOf all names = (key : List ℕ) (k : ℕ) → get names key ≡ Some k
 abbrev pub HaveIndices : ByText ℕ → List EntryReading → Type 0
 HaveIndices names entries = All (λ e. is_some (get names (lower_key e)) ≡ true) entries
 
--- the keys of entries, in lowercase, point to the index of an entry with that key
+-- no entry before the index that a key points to has that key
+abbrev pub AreFirstIndices : List EntryReading → ByText ℕ → Type 0
+AreFirstIndices all names =
+    (key : List ℕ) (k j : ℕ) → get names key ≡ Some k → j < k → option_map lower_key (slice_get all j) ≡ Some key → ⊥
+
+-- the keys of entries, in lowercase, point to the index of the first entry with that key
 pub record AreKeyIndices (entries : List EntryReading) (names : ByText ℕ) : Type 0 where
   pub of_key : AreIndicesOf entries names
+  pub first : AreFirstIndices entries names
   pub each : HaveIndices names entries
 
--- the index that the key of an entry points to; it represents all entries with that key
+-- the index that the key of an entry points to: the first entry with that key represents all of them
 abbrev pub owner : ByText ℕ → EntryReading → ℕ
 owner names e = unwrap_or (get names (lower_key e)) 0
 

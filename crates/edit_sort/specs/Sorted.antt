@@ -3,7 +3,7 @@
 -- An at sign between two entries, such as that of an `@string`, begins a new run of entries. No entry leaves its run.
 use Rattle.std.specs.Prelude.{◌≡◌, ◌==◌, ◌&&◌, ◌||◌, ℕ, zero, suc, ◌+◌, ◌-◌, ◌^◌, Bool, true, false, List, [], ◌∷◌, ◌++◌, Option, Some, None, codes, cond, count_by, drop, length, map, reverse, slice_index, slice_index_or, take}
 use Rattle.std.specs.Char.{is_ascii_whitespace}
-use Rattle.std.specs.List.{Contains, before_first, enumerate_from, flat_map, list_all, list_any, prefix_len, zip}
+use Rattle.std.specs.List.{Contains, before_first, enumerate_from, flat_map, list_all, list_any, position_or_len, prefix_len, zip}
 use Rattle.std.specs.List.Sorted.{IsPermutation, IsSorted}
 use Rattle.std.specs.Option.{option_map_or}
 use Rattle.std.specs.Ordering.{nat_cmp, on, then_cmp}
@@ -153,16 +153,28 @@ entry_bytes text e = between (place text e.start) (place text (e.end + 1))
 abbrev pub run_at : List (List ℕ) → ℕ → ℕ
 run_at gaps index = count_by (has_byte char.at) (take (index + 1) gaps)
 
--- the place of the entry at an index; the greatest number if `places` is too short
+-- whether another entry has the key of an entry, in any ASCII case
+abbrev pub has_key_of : EntryReading → EntryReading → Bool
+has_key_of e other = str_eq_ignore_ascii_case e.key.text other.key.text
+
+-- the index of the first entry with the key of an entry. BibTeX reads only the first entry with a key
+abbrev pub first_with_key_of : List EntryReading → EntryReading → ℕ
+first_with_key_of entries e = position_or_len (has_key_of e) entries
+
+-- the place at an index; the greatest number if `places` is too short
 abbrev pub place_at : List ℕ → ℕ → ℕ
 place_at places index = slice_index_or places index (2 ^ 64 - 1)
+
+-- the place of an entry: that of the first entry with its key
+abbrev pub entry_place : List EntryReading → List ℕ → EntryReading → ℕ
+entry_place entries places e = place_at places (first_with_key_of entries e)
 
 -- the entry at an index, with its comment and its sort keys
 abbrev pub item_at : List EntryReading → List (List ℕ) → List ℕ → ℕ → List ℕ → EntryReading → Item
 item_at entries gaps places index gap e = record {
   run = run_at gaps index;
   rank = rank entries e;
-  place = place_at places index;
+  place = entry_place entries places e;
   comment = comment_in (index == 0) gap;
   entry = e;
 }

@@ -4,7 +4,7 @@ use Rattle.std.specs.Prelude.{◌==◌, ℕ, ◌+◌, Bool, List, [], ◌∷◌,
 use Rattle.bib_text.specs.Characters as char
 use Rattle.bib_syntax.specs.Reading.{EntryReading}
 use Rattle.bib_syntax.specs.Recovery.{has_byte}
-use Rattle.edit_sort.specs.Sorted.{Item, comment_in, entry_bytes, gap_before, place_at, rank, space_in}
+use Rattle.edit_sort.specs.Sorted.{Item, comment_in, entry_bytes, entry_place, gap_before, rank, space_in}
 
 -- the gaps before entries, the first of which begins at an offset
 abbrev pub gaps_from : List ℕ → ℕ → List EntryReading → List (List ℕ)
@@ -32,7 +32,7 @@ items_from all text places index at run (e ∷ es) =
     record {
       run = run_after run gap;
       rank = rank all e;
-      place = place_at places index;
+      place = entry_place all places e;
       comment = comment_in (index == 0) gap;
       entry = e;
     }

@@ -1,7 +1,7 @@
 //! The keys of entries, and the references between entries by `crossref`.
 
-ghost use Rattle.std.specs.Prelude.{◌≡◌, ◌<◌, ◌&&◌, ◌||◌, ℕ, Bool, [], IfOk, OnOk, length, map};
-ghost use Rattle.std.specs.FinMap.{get};
+ghost use Rattle.std.specs.Prelude.{◌≡◌, ◌<◌, ◌&&◌, ◌||◌, ℕ, Bool, [], IfOk, OnOk, if◌then◌else◌, is_some, length, map};
+ghost use Rattle.std.specs.FinMap.{get, insert};
 ghost use Rattle.std.specs.List.{list_any};
 ghost use Rattle.std.specs.Option.{option_map};
 ghost use Rattle.std.specs.Str.{str_to_ascii_lowercase};
@@ -50,7 +50,17 @@ fn lowercase(alloc: Global, key: &str) -> Result<Text, AllocError>
     Ok(Text::from_string(lower))
 }
 
-// Returns the keys of entries in lowercase. Each points to the index of an entry with that key.
+// Makes a key point to an index, unless it already points to one.
+fn claim_first(names: &mut Claims, key: Text, index: usize) -> Result<(), AllocError>
+    ensures { OnOk result (names.new ≡ (if is_some (get names.old key) then names.old else insert names.old key index)) }
+{
+    match names.get(key.as_str()) {
+        Some(_) => Ok(()),
+        None => names.claim(key, index),
+    }
+}
+
+// Returns the keys of entries in lowercase. Each points to the index of the first entry with that key.
 pub(crate) fn key_indices(
     alloc: Global,
     entries: &[Spanned<RawEntry<'_>>],
@@ -60,7 +70,7 @@ pub(crate) fn key_indices(
     let mut names = Claims::new(alloc);
     'entries: for (index, entry) in entries.iter().enumerate() {
         let key = lowercase(alloc, entry.v.key.v)?;
-        names.claim(key, index)?;
+        claim_first(&mut names, key, index)?;
     }
     Ok(names)
 }
@@ -73,7 +83,7 @@ fn index_of(alloc: Global, names: &Claims, key: &str) -> Result<Option<usize>, A
     Ok(names.get(lower.as_str()))
 }
 
-// Returns the owner of each entry: the index that its key points to.
+// Returns the owner of each entry: the index that its key points to, which is that of the first entry with its key.
 pub(crate) fn owners_of(
     alloc: Global,
     names: &Claims,

@@ -41,15 +41,18 @@ fn place_at(places: &[usize], index: usize) -> usize
     }
 }
 
-// Returns the entries of a text, each with the comment before it and its sort keys.
+// Returns the entries of a text, each with the comment before it and its sort keys. The place of an entry is at the index of the first
+// entry with its key.
 pub(crate) fn gather<'a, 's>(
     alloc: Global,
     text: &'s str,
     entries: &'a [Spanned<RawEntry<'s>>],
     places: &[usize],
+    owners: &[usize],
     ranks: &[usize],
 ) -> Result<Gathered<'a, 's>, AllocError>
     requires cut { AreItemsCut text.now 0 0 (map entry_reading_of entries.now) }
+    requires owners { owners.now ≡ map (sorted.first_with_key_of (map entry_reading_of entries.now)) (map entry_reading_of entries.now) }
     requires ranks { ranks.now ≡ map (sorted.rank (map entry_reading_of entries.now)) (map entry_reading_of entries.now) }
     ensures spaces { IfOk result (λ g. map (λ s. s.now) g.spaces.items ≡ spaces_from text.now 0 0 (map entry_reading_of entries.now)) }
     ensures items { IfOk result (λ g. map item_reading_of g.items.items ≡
@@ -68,7 +71,7 @@ pub(crate) fn gather<'a, 's>(
         items.push(Item {
             run,
             rank: ranks[index],
-            place: place_at(places, index),
+            place: place_at(places, owners[index]),
             comment,
             entry,
         })?;

@@ -7,7 +7,7 @@ ghost use Rattle.bib_syntax.specs.Reading.{FileReading};
 ghost use Rattle.edit_entries.specs.Documents.{Document, IsDocument};
 ghost use Rattle.edit_format.specs.Formatted.{text_in_style};
 ghost use Rattle.edit_format.specs.declared.style.Style.{Style};
-ghost use Rattle.edit_sort.specs.Sorted.{AreEntriesInOrder, IsAfterCycle, IsSortedText, Item, item_cmp, items, refers_to, text_in_order};
+ghost use Rattle.edit_sort.specs.Sorted.{AreEntriesInOrder, IsAfterCycle, IsSortedText, Item, has_key_of, item_cmp, items, refers_to, text_in_order};
 
 /// The items of a document have only one sorted order.
 pub fn one_order()
@@ -48,4 +48,13 @@ pub fn parents_follow()
         AreEntriesInOrder (items d places) order →
         slice_get order i ≡ Some parent → slice_get order j ≡ Some child → child.run ≡ parent.run →
         refers_to parent.entry.key.text child.entry ≡ true → (IsAfterCycle d.says.entries parent.entry → ⊥) → j < i }
+{}
+
+/// Sorting keeps the order of entries with one key, in any ASCII case. So the first entry with a key, which is the only one that BibTeX
+/// reads, stays the first one.
+pub fn one_key_keeps_order()
+    ensures { (d : Document) (places : List ℕ) (order : List Item) (i j : ℕ) (first second : Item) → IsDocument d →
+        AreEntriesInOrder (items d places) order →
+        slice_get order i ≡ Some first → slice_get order j ≡ Some second →
+        has_key_of first.entry second.entry ≡ true → first.entry.start < second.entry.start → i < j }
 {}

@@ -2,6 +2,7 @@
 //!
 //! The gap between two entries is cut into a space, which stays, and a comment, which moves. An at sign in a gap begins a new run, and no
 //! entry leaves its run. Entries are sorted once, by run, rank, place and position, and written after the spaces in the order of the file.
+//! Entries with one key, in any ASCII case, keep their order, because each has the rank and the place of the first one.
 //!
 //! The rank of an entry is the length of the longest chain of `crossref`s that leads to it (`ranks`). Keys become indices, and all entries
 //! with one key, in any ASCII case, share one index. The references of indices on cycles are removed, so that the others have a topological

@@ -6,10 +6,11 @@ ghost use Rattle.bib_collections.specs.Graph.{HasNoCycle, IsInRange, IsTopologic
 ghost use Rattle.bib_collections.specs.Rows.{rows};
 ghost use Rattle.bib_syntax.specs.Views.{entry_reading_of};
 ghost use Rattle.edit_sort.specs.Ranks as ranks;
-ghost use Rattle.edit_sort.specs.Ranks.{AreCyclesCut, length_by, longest_chains};
+ghost use Rattle.edit_sort.specs.Ranks.{AreCyclesCut, AreKeyIndices, length_by, longest_chains, owner};
 ghost use Rattle.edit_sort.specs.Sorted.{rank};
 
-use crate::crossrefs::{children_of, key_indices, owners_of};
+use crate::crossrefs::children_of;
+use bib_collections::claims::Claims;
 use bib_collections::worklist::{on_cycles, topological_order};
 use bib_syntax::raw::RawEntry;
 use bib_text::spanned::Spanned;
@@ -130,13 +131,15 @@ fn lengths_at(alloc: Global, lengths: &[usize], indices: &[usize]) -> Result<Vec
 // Returns the rank of each entry.
 pub(crate) fn ranks_of(
     alloc: Global,
+    names: &Claims,
+    owners: &[usize],
     entries: &[Spanned<RawEntry<'_>>],
 ) -> Result<Vec<usize>, AllocError>
+    requires names { AreKeyIndices (map entry_reading_of entries.now) names.now }
+    requires owners { owners.now ≡ map (owner names.now) (map entry_reading_of entries.now) }
     ensures { IfOk result (λ found. found.items ≡ map (rank (map entry_reading_of entries.now)) (map entry_reading_of entries.now)) }
 {
-    let names = key_indices(alloc, entries)?;
-    let owners = owners_of(alloc, &names, entries)?;
-    let mut children = children_of(alloc, &names, &owners, entries)?;
+    let mut children = children_of(alloc, names, owners, entries)?;
     let lengths = chain_lengths(alloc, &mut children)?;
-    lengths_at(alloc, &lengths, &owners)
+    lengths_at(alloc, &lengths, owners)
 }

@@ -9,6 +9,7 @@ ghost use Rattle.edit_sort.specs.Ranks.{item_reading_of};
 ghost use Rattle.edit_sort.specs.Sorted.{AreEntriesInOrder, IsReadSorted, IsSortedText, item_cmp};
 ghost use Rattle.edit_sort.specs.Steps.{items_laid_out};
 
+use crate::crossrefs::{key_indices, owners_of};
 use crate::items::{Item, gather};
 use crate::ranks::ranks_of;
 use edit_entries::document::RawDocument;
@@ -60,6 +61,8 @@ fn laid_out(
 
 /// Returns the text of a document with its entries sorted by `places`, which has a number for each entry, at the index of the entry in the
 /// file. An entry with a smaller number comes first. Entries with equal numbers keep their order, and entries without a number come last.
+/// Entries with one key, in any ASCII case, keep their order: each of them counts with the number of the first one. BibTeX reads only the
+/// first entry with a key.
 ///
 /// Each entry keeps all its bytes. Some rules come before the numbers:
 ///
@@ -84,8 +87,10 @@ pub fn sort_entries(
 {
     let text = document.text();
     let entries = &document.raw().entries;
-    let ranks = ranks_of(alloc, entries)?;
-    let gathered = gather(alloc, text, entries, places, &ranks)?;
+    let names = key_indices(alloc, entries)?;
+    let owners = owners_of(alloc, &names, entries)?;
+    let ranks = ranks_of(alloc, &names, &owners, entries)?;
+    let gathered = gather(alloc, text, entries, places, &owners, &ranks)?;
     let order = ordered(gathered.items)?;
     laid_out(alloc, text, &gathered.spaces, &order, gathered.end)
 }

@@ -1,6 +1,6 @@
 -- Abbreviations as new values, and documents whose repeated texts are replaced by abbreviations.
 use Rattle.std.proofs.Common.{◌≡◌, inr, ℕ, zero, suc, ◌+◌, ◌-◌, ◌<◌, ◌≤◌, Bool, true, false, cond, not, List, [], ◌∷◌, ◌++◌, length, take, drop, map, get_or, refl, sym, ap, ◌∙◌, subst, arith, append-nil, Option, Some, None, Result, Ok, Err}
-use Rattle.std.specs.Prelude.{◌&&◌, ◌==◌, IfOk, IfSome, bytes_eq, count_by, filter, max, slice_get}
+use Rattle.std.specs.Prelude.{◌&&◌, ◌==◌, ◌||◌, IfOk, IfSome, bytes_eq, count_by, filter, is_some, max, slice_get}
 use Rattle.std.specs.List.{AllByRecursion}
 use Rattle.std.specs.Option.{option_map, option_map_or}
 use Rattle.std.specs.Str.{IsUtf8}
@@ -31,13 +31,13 @@ use Rattle.edit_entries.proofs.PlacelessFacts.{file_placeless}
 use Rattle.edit_entries.proofs.TrimmedFacts.{IsFieldPlaced, edits_earlier}
 use Rattle.edit_entries.proofs.SplitFacts.{FileBefore, ahead_file_before, block_of, joined_file, split_file}
 use Rattle.edit_entries.specs.LineEnds.{line_end_of}
-use Rattle.edit_strings.specs.Collected.{AreCollectedTexts, AreMadeAbbreviations, AreNames, AreThoseThat, RepeatsInBraces, collection, definition_lines, distinct, first_entry_start, has_digit_first, is_before, is_month, is_reusable, known_name, line_readings, name_value, named_text, named_texts, single_text, text_index, text_value, with_definitions, with_lines}
+use Rattle.edit_strings.specs.Collected.{AreCollectedTexts, AreMadeAbbreviations, AreNames, AreThoseThat, CanBeCollected, collection, definition_lines, distinct, first_entry_start, has_digit_first, is_before, is_longer_than_name, is_month, is_reusable, known_name, line_readings, name_value, named_text, named_texts, single_text, text_index, text_value, with_definitions, with_lines}
 use Rattle.edit_strings.specs.Collecting.{collection_by}
 use Rattle.edit_strings.specs.Exchanged.{Exchange, exchanges}
 use Rattle.edit_strings.specs.Expanded.{Index, elements}
 use Rattle.edit_strings.specs.Tables.{entry_edits, AreAllFieldsCut, IsBelow, IsFieldCut}
 use Rattle.edit_strings.proofs.CutFacts.{definitions_can, edits_front, found_has, less_same, no_digit}
-use Rattle.edit_strings.proofs.DistinctFacts.{those_meet}
+use Rattle.edit_strings.proofs.DistinctFacts.{those_alike, those_meet}
 use Rattle.edit_strings.proofs.ElementFacts.{IsElement, can_be_read, IsValue, file_stands, is_cut}
 use Rattle.edit_strings.proofs.ExchangedFacts.{CanBeExchanged, edits_are_changes, exchanged_read}
 use Rattle.edit_strings.proofs.InsertFacts.{AreBefore, AreFrom, all_before, all_from, all_kept, back_read, from_earlier, front_there, rest_after, split_before, split_from, tail_read}
@@ -402,14 +402,14 @@ module _ (d : Document) (read : IsDocument d) (utf8 : IsUtf8 d.text) (fields tex
   by_text value None same = absurd (cc)
   by_text value (Some text) same = by_index value (text_index texts text) (text_below texts text) same
 
-  pub collected_read : (least : ℕ) → AreCollectedTexts fields least d.says.entries texts
+  pub collected_read : (least : ℕ) → AreCollectedTexts fields least d.says texts
       → IsReadPlaceless
       (with_definitions (first_entry_start d.says.entries) (line_readings d.says names texts)
       (file_changed (exchanges (collection fields texts names)) d.says))
       (with_lines d (definition_lines d.says (line_end_of d.text) names texts) (text_changed (exchanges (collection fields texts names)) d))
   collected_read least chosen =
       let exchange : Exchange = collection fields texts names in
-      let meets : List ℕ → Type 0 = RepeatsInBraces least (named_texts fields d.says.entries) in
+      let meets : List ℕ → Type 0 = CanBeCollected (known_name d.says) least (named_texts fields d.says.entries) in
       let changed = exchanged_read d (λ e. exchange) read utf8
       (fields_weaker (IsPlaced d.text) (IsPlaced d.text) (CanBeExchanged exchange)
       (λ f placed again value. by_text value (named_text fields f)) d.says.entries (all_placed d read) (all_placed d read)) in
@@ -419,10 +419,27 @@ module _ (d : Document) (read : IsDocument d) (utf8 : IsUtf8 d.text) (fields tex
       (λ none. no_elements names (as_many ∙ ap length none))
       (λ none. none_chosen meets chosen (no_names_texts fields d.says.entries none))
 
+-- the same texts are collected if the same names are known
+pub collected_alike : (known known' : List ℕ → Option (List ℕ)) (least : ℕ) (texts found : List (List ℕ))
+    → ((text : List ℕ) → known text ≡ known' text) → AreThoseThat (CanBeCollected known least texts) (distinct texts) found
+    → AreThoseThat (CanBeCollected known' least texts) (distinct texts) found
+collected_alike known known' least texts found same chosen =
+    those_alike (λ text meets. known_there known known' (same text) meets) (λ text meets. known_there known' known (sym (same text)) meets)
+    chosen
+  where
+    known_there : (by by' : List ℕ → Option (List ℕ)) {text : List ℕ} → by text ≡ by' text → CanBeCollected by least texts text
+        → CanBeCollected by' least texts text
+    known_there by by' {text} is meets = record {
+      often = meets.often;
+      shortened = ap (λ o. is_some o || is_longer_than_name text) (sym is) ∙ meets.shortened;
+      can = meets.can;
+      balanced = meets.balanced;
+    }
+
 -- the result of `collect` meets its contract
 pub collected_answer : {S E : Type 0} (bytes : S → List ℕ) (r : Result S E) (d : Document)
     (fields texts names : List (List ℕ)) (least : ℕ) → IsDocument d → IsUtf8 d.text → AreNames d.says texts names
-    → AreCollectedTexts fields (max least 2) d.says.entries texts
+    → AreCollectedTexts fields (max least 2) d.says texts
     → IfOk r
     (λ new.
     bytes new

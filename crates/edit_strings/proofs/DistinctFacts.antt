@@ -84,3 +84,11 @@ module _ (Meets : List ℕ → Type 0) where
   old_stays texts found x met so_far =
       subst (λ l. AreThoseThat Meets l found)
       (sym (distinct_push texts x ∙ ap (λ b. distinct texts ++ unless_listed b x) met ∙ append-nil (distinct texts))) so_far
+
+-- the same texts meet two conditions that agree on each text
+pub those_alike : {P Q : List ℕ → Type 0} {texts found : List (List ℕ)} → ((text : List ℕ) → P text → Q text)
+    → ((text : List ℕ) → Q text → P text) → AreThoseThat P texts found → AreThoseThat Q texts found
+those_alike there back those.none = those.none
+those_alike there back (those.kept text meets others) = those.kept text (there text meets) (those_alike there back others)
+those_alike there back (those.left text fails others) =
+    those.left text (λ meets. fails (back text meets)) (those_alike there back others)

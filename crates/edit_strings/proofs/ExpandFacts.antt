@@ -1,10 +1,8 @@
 -- A document with its abbreviations expanded.
-use Rattle.std.proofs.Common.{◌≡◌, ℕ, ◌≤◌, Bool, true, false, cond, List, [], ◌∷◌, length, refl, sym, ap, ◌∙◌, subst, Some, None, map}
+use Rattle.std.proofs.Common.{◌≡◌, ℕ, Bool, true, false, cond, List, length, refl, sym, ap, ◌∙◌, subst, Some, None, map}
 use Rattle.std.specs.List.{AllByRecursion}
-use Rattle.std.specs.Prelude.{nat_lt}
 use Rattle.std.specs.Str.{IsUtf8}
 use Rattle.std.proofs.lemmas.List.{length-map}
-use Rattle.std.proofs.lemmas.List.Sums.{count_by-le-length}
 use Rattle.bib_syntax.specs.Reading.{Piece, FieldReading, EntryReading}
 use Rattle.bib_syntax.specs.Views.{field_of}
 use Rattle.bib_syntax.specs.declared.raw.Pair.{Pair}
@@ -21,11 +19,8 @@ use Rattle.edit_strings.specs.Expanded.{IsExpanded, WritesOut, count_before, ele
 use Rattle.edit_strings.specs.Tables.{AreExpansionsCut, AreRows, IndexedPiece, IsExpansionCut, each_edits, entry_expansion, field_expanded}
 use Rattle.edit_strings.proofs.ElementFacts.{AreValues, IsElement, IsSome, IsValue, can_be_read, file_stands, is_cut}
 use Rattle.edit_strings.proofs.ExchangedFacts.{CanBeExchanged, edits_are_changes, exchange_in_order, exchanged_read}
-use Rattle.edit_strings.proofs.WrittenFacts.{expanded_writes, written_all, written_some}
-
-all_true : {A : Type 0} (P : A → Type 0) → ((x : A) → P x) → (xs : List A) → AllByRecursion P xs
-all_true P each [] = tt
-all_true P each (x ∷ xs) = (each x, all_true P each xs)
+use Rattle.edit_strings.proofs.LeftFacts.{all_written, count_within, writes_by}
+use Rattle.edit_strings.proofs.WrittenFacts.{written_all, written_some}
 
 -- the rows of the code are those of the definitions
 pub known_rows : (pairs : List Pair) (definitions : List FieldReading) (rows : List (List IndexedPiece)) → map field_of pairs ≡ definitions
@@ -63,11 +58,8 @@ module _ (d : Document) (read : IsDocument d) (rows : List (List IndexedPiece))
       all_weaker (IsValue d.text) (λ f. AllByRecursion (IsElement d.text) (elements f)) (λ f value. value.all) defined
       values.definitions
 
-  count_within : (e : EntryReading) → count_before defined e ≤ length defined
-  count_within e = count_by-le-length (λ f. nat_lt f.name.start e.start) defined
-
   writes : (e : EntryReading) (f : FieldReading) → WritesOut defined (count_before defined e) (elements f) (written_as e f)
-  writes e f = expanded_writes defined rows known (count_before defined e) (count_within e) (elements f)
+  writes e f = writes_by d.says rows known e f
 
   written_elements : (e : EntryReading) (f : FieldReading) → IsValue d.text f → AllByRecursion (IsElement d.text) (written_as e f)
   written_elements e f value = written_all (IsElement d.text) defined definition_elements value.all (writes e f)
@@ -96,7 +88,7 @@ module _ (d : Document) (read : IsDocument d) (rows : List (List IndexedPiece))
       out : CanBeRead (record { bytes = laid_out d.text (written_as e f); pieces = written_as e f })
       out =
           can_be_read d.text (written_as e f)
-          (written_some defined (count_within e)
+          (written_some defined (count_within defined e)
           (all_weaker (IsValue d.text) (λ g. IsSome (elements g)) (λ g v. v.some) defined values.definitions)
           value.some (writes e f))
           (written_elements e f value)
@@ -120,10 +112,7 @@ module _ (d : Document) (read : IsDocument d) (rows : List (List IndexedPiece))
     pub expanded : (text : List ℕ) → text ≡ edited_all (each_edits exchange d.text d.says.entries) d.text → IsExpanded d text
     expanded text is = record {
       written = written_as;
-      each =
-          all_true (λ e. AllByRecursion (λ f. WritesOut defined (count_before defined e) (elements f) (written_as e f)) e.fields)
-          (λ e. all_true (λ f. WritesOut defined (count_before defined e) (elements f) (written_as e f)) (writes e) e.fields)
-          d.says.entries;
+      each = all_written d.says rows known;
       changed =
           let whole : text ≡ text_changed (λ e. exchanges (exchange e) e) d =
           is ∙ ap (λ es. edited_all es d.text) (edits_are_changes exchange d.text d.says.entries) in

@@ -7,6 +7,7 @@ pub mod ExpandFacts
 pub mod IndexFacts
 pub mod InsertFacts
 pub mod KnownFacts
+pub mod LeftFacts
 pub mod LetterFacts
 pub mod LineFacts
 pub mod ListFacts

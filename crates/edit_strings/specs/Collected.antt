@@ -1,6 +1,6 @@
 -- Meaning: words of public contracts.
 -- Texts of fields that repeat, replaced by abbreviations. The name of an abbreviation is one that the file defines already, or a new one.
-use Rattle.std.specs.Prelude.{◌≡◌, ◌==◌, ◌&&◌, ◌||◌, ℕ, ◌≤◌, ◌<◌, Bool, true, false, not, List, [], ◌∷◌, ◌++◌, Option, Some, None, bytes_eq, chars, codes, cond, count_by, encode_utf8_all, filter, if◌then◌else◌, is_some, map, max, nat_lt, slice_index_or, take}
+use Rattle.std.specs.Prelude.{◌≡◌, ◌==◌, ◌&&◌, ◌||◌, ℕ, ◌≤◌, ◌<◌, Bool, true, false, not, List, [], ◌∷◌, ◌++◌, Option, Some, None, bytes_eq, chars, codes, cond, count_by, encode_utf8_all, filter, if◌then◌else◌, is_some, length, map, max, nat_lt, slice_index_or, take}
 use Rattle.std.specs.Char.{is_ascii_alphabetic, is_ascii_digit, is_whitespace, to_ascii_lowercase}
 use Rattle.std.specs.Fmt.{decimal}
 use Rattle.std.specs.List.{find, flat_map, list_any, slice_split}
@@ -52,31 +52,6 @@ named_texts names entries = flat_map (λ e. field_texts names e.fields) entries
 -- how often a text occurs in a list of texts
 abbrev pub times_of : List ℕ → List (List ℕ) → ℕ
 times_of text texts = count_by (λ t. bytes_eq t text) texts
-
--- a text occurs at least `least` times in a list of texts, and can be written between braces, also for BibTeX, which counts a brace after
--- a backslash
-pub record RepeatsInBraces (least : ℕ) (texts : List (List ℕ)) (text : List ℕ) : Type 0 where
-  pub often : least ≤ times_of text texts
-  pub can : CanStandInBraces text
-  pub balanced : IsBalanced text
-
--- these texts, each once, in the order of their first occurrences
-abbrev pub distinct : List (List ℕ) → List (List ℕ)
-distinct [] = []
-distinct (text ∷ texts) = text ∷ filter (λ other. not (bytes_eq other text)) (distinct texts)
-
--- the second list has those texts of the first that meet a condition, in their order
-pub data AreThoseThat (Meets : List ℕ → Type 0) : List (List ℕ) → List (List ℕ) → Type 0 where
-  none : AreThoseThat Meets [] []
-  kept : {texts found : List (List ℕ)} (text : List ℕ) → Meets text → AreThoseThat Meets texts found
-      → AreThoseThat Meets (text ∷ texts) (text ∷ found)
-  left : {texts found : List (List ℕ)} (text : List ℕ) → (Meets text → ⊥) → AreThoseThat Meets texts found
-      → AreThoseThat Meets (text ∷ texts) found
-
--- the texts to collect from fields with these names: the distinct texts that repeat, in the order of their first occurrences
-abbrev pub AreCollectedTexts : List (List ℕ) → ℕ → List EntryReading → List (List ℕ) → Type 0
-AreCollectedTexts fields least entries texts =
-    AreThoseThat (RepeatsInBraces least (named_texts fields entries)) (distinct (named_texts fields entries)) texts
 
 -- ---- names
 
@@ -197,6 +172,40 @@ pub data AreNames (says : FileReading) : List (List ℕ) → List (List ℕ) →
   new : {texts names : List (List ℕ)} (text name : List ℕ) → AreNames says texts names → known_name says text ≡ None
       → IsFirstNewName says names text name → AreNames says (texts ++ text ∷ []) (names ++ name ∷ [])
 
+-- ---- the texts to collect
+
+-- whether a text has more characters than its new name without a number
+abbrev pub is_longer_than_name : List ℕ → Bool
+is_longer_than_name text = nat_lt (length (letters_or_s (name_letters text))) (length (chars text))
+
+-- a text can be collected: it occurs at least `least` times in a list of texts, and has a known name or is longer than its new name. It can
+-- be written between braces, also for BibTeX, which counts a brace after a backslash.
+pub record CanBeCollected (known : List ℕ → Option (List ℕ)) (least : ℕ) (texts : List (List ℕ)) (text : List ℕ) : Type 0 where
+  pub often : least ≤ times_of text texts
+  pub shortened : (is_some (known text) || is_longer_than_name text) ≡ true
+  pub can : CanStandInBraces text
+  pub balanced : IsBalanced text
+
+-- these texts, each once, in the order of their first occurrences
+abbrev pub distinct : List (List ℕ) → List (List ℕ)
+distinct [] = []
+distinct (text ∷ texts) = text ∷ filter (λ other. not (bytes_eq other text)) (distinct texts)
+
+-- the second list has those texts of the first that meet a condition, in their order
+pub data AreThoseThat (Meets : List ℕ → Type 0) : List (List ℕ) → List (List ℕ) → Type 0 where
+  none : AreThoseThat Meets [] []
+  kept : {texts found : List (List ℕ)} (text : List ℕ) → Meets text → AreThoseThat Meets texts found
+      → AreThoseThat Meets (text ∷ texts) (text ∷ found)
+  left : {texts found : List (List ℕ)} (text : List ℕ) → (Meets text → ⊥) → AreThoseThat Meets texts found
+      → AreThoseThat Meets (text ∷ texts) found
+
+-- the texts to collect from fields with these names: the distinct texts that can be collected, in the order of their first occurrences. A
+-- text for which a definition can be reused has the name of this definition.
+abbrev pub AreCollectedTexts : List (List ℕ) → ℕ → FileReading → List (List ℕ) → Type 0
+AreCollectedTexts fields least says texts =
+    let all = named_texts fields says.entries in
+    AreThoseThat (CanBeCollected (known_name says) least all) (distinct all) texts
+
 -- ---- the new values
 
 -- the last index of a text in a list of texts, if it is one of them
@@ -259,7 +268,7 @@ with_definitions at definitions says = record says {
 pub record AreMadeAbbreviations (d : Document) (fields : List (List ℕ)) (least : ℕ) (text : List ℕ) : Type 0 where
   pub texts : List (List ℕ)
   pub names : List (List ℕ)
-  pub chosen : AreCollectedTexts fields (max least 2) d.says.entries texts
+  pub chosen : AreCollectedTexts fields (max least 2) d.says texts
   pub named : AreNames d.says texts names
   pub is : text
       ≡ with_lines d (definition_lines d.says (line_end_of d.text) names texts) (text_changed (exchanges (collection fields texts names)) d)

@@ -10,7 +10,7 @@ use Rattle.std.specs.Ordering.{nat_cmp}
 use Rattle.std.specs.Str.{str_to_ascii_lowercase}
 use Rattle.bib_text.specs.declared.spanned.Spanned.{Spanned}
 use Rattle.bib_syntax.specs.Reading.{Piece, EntryReading, FieldReading}
-use Rattle.bib_syntax.specs.Views.{piece_of}
+use Rattle.bib_syntax.specs.Views.{entry_reading_of, field_of, piece_of}
 use Rattle.bib_syntax.specs.declared.raw.RawChunk.{RawChunk}
 use Rattle.edit_entries.specs.Changes.{NewValue, value_stretch_edit}
 use Rattle.edit_entries.specs.Edits as edits
@@ -18,6 +18,8 @@ use Rattle.edit_entries.specs.Placed.{IsPlaced}
 use Rattle.edit_entries.specs.Cuts.{IsPieceCut}
 use Rattle.edit_strings.specs.Exchanged.{Exchange}
 use Rattle.edit_strings.specs.Expanded.{Index, count_before, elements, elements_at, expansion, index_before, piece_index}
+use Rattle.edit_strings.specs.Left.{Left}
+use Rattle.edit_strings.specs.declared.left_references.LeftReference.{LeftReference}
 use Rattle.edit_strings.specs.declared.written.Indexed.{Indexed}
 
 -- the edit of a field if its value is replaced, as a list
@@ -137,6 +139,18 @@ expansion_by text rows index = expansion text index (field_expanded rows index)
 -- the replacement of the values of an entry, given the rows of the definitions
 abbrev pub entry_expansion : List ℕ → List FieldReading → List (List IndexedPiece) → EntryReading → Exchange
 entry_expansion text definitions rows e = expansion_by text rows (index_before definitions (count_before definitions e))
+
+-- the expansion of each field of entries, given the rows of the definitions
+abbrev pub written_by : List FieldReading → List (List IndexedPiece) → EntryReading → FieldReading → List Piece
+written_by definitions rows e = field_expanded rows (index_before definitions (count_before definitions e))
+
+-- a reference of the code that stays
+abbrev pub left_of : LeftReference → Left
+left_of l = record { entry = entry_reading_of l.entry.now; field = field_of l.field.now; name = l.name }
+
+-- the references of the code that stay
+abbrev pub lent_left : List LeftReference → List Left
+lent_left left = map left_of left
 
 -- a field's value lies in a text, and the literals of its expansion begin at boundaries of characters
 pub record IsExpansionCut (text : List ℕ) (rows : List (List IndexedPiece)) (index : Index) (f : FieldReading) : Type 0 where

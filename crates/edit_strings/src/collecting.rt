@@ -175,13 +175,14 @@ fn definitions(
 fn collection_of<'s>(
     alloc: Global,
     raw: &RawBibliography<'s>,
+    known: BTreeMap<&'s str, &'s str>,
     texts: &[&'s str],
 ) -> Result<Collection<'s>, AllocError>
+    requires { (text : List ℕ) → known_in known text ≡ known_name (file_of raw.now) text }
     ensures index { IfOk result (λ made. index_in made.indices ≡ text_index (lent_texts texts.now)) }
     ensures known { IfOk result (λ made. (text : List ℕ) → known_in made.known text ≡ known_name (file_of raw.now) text) }
     ensures named { IfOk result (λ made. AreNames (file_of raw.now) (lent_texts texts.now) (string_texts made.names.items)) }
 {
-    let known = known_names(alloc, raw)?;
     let mut taken = Taken::of_file(alloc, raw)?;
     let names = names(alloc, &mut taken, &known, texts)?;
     let indices = indices(alloc, texts)?;
@@ -231,7 +232,8 @@ fn with_collection(
 /// Returns the text of `document` with repeated values replaced by abbreviations. A text is collected if it is the value of at
 /// least `at_least` fields of entries, as one literal. It must be possible to write it between braces, also for BibTeX, which
 /// counts a brace after a backslash. An `at_least` of 0 or 1 counts as 2. Only fields with one of the names `fields` count, in
-/// any ASCII case.
+/// any ASCII case. A text is only collected if a definition can be reused for it, or if it has more characters than its new name
+/// without a number.
 ///
 /// A text gets the name of the first definition that can be reused for it, as the name is written there. Such a definition is
 /// before the first entry, and its value is the text as one literal. Its name has no other definition in any ASCII case and no
@@ -253,7 +255,8 @@ pub fn collect(
     let raw = document.raw();
     let all = named_texts(alloc, fields, &raw.entries)?;
     let counts = counts(alloc, &all)?;
-    let texts = collected_texts(alloc, &counts, at_least.max(2), &all)?;
-    let collection = collection_of(alloc, raw, &texts)?;
+    let known = known_names(alloc, raw)?;
+    let texts = collected_texts(alloc, &known, &counts, at_least.max(2), &all)?;
+    let collection = collection_of(alloc, raw, known, &texts)?;
     with_collection(alloc, document.text(), raw, fields, &texts, &collection)
 }

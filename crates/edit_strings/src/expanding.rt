@@ -11,7 +11,7 @@ ghost use Rattle.edit_entries.specs.EditList.{edit_of};
 use crate::definitions::{Indices, add_definition, definition_indices, has_defined};
 use crate::elements::laid_out;
 use crate::errors::ExpandError;
-use crate::written::{Indexed, expanded, rows, with_indices};
+use crate::written::{Indexed, check_early_uses, expanded, rows, with_indices};
 use bib_syntax::raw::{Pair, RawEntry};
 use bib_text::spanned::Spanned;
 use edit_entries::document::RawDocument;
@@ -30,7 +30,7 @@ struct Names<'a, 's> {
 
 // Sets the indices of the definitions from the index `from` on that begin before the byte offset `start`. Returns the index of the
 // first definition that doesn't, or the number of definitions.
-fn add_before(
+pub(crate) fn add_before(
     alloc: Global,
     indices: &mut Indices,
     definitions: &[Pair<'_>],
@@ -153,10 +153,11 @@ pub fn expand(alloc: Global, document: &RawDocument<'_>) -> Result<String, Expan
 {
     let raw = document.raw();
     let all = definition_indices(alloc, &raw.abbreviations)?;
+    check_early_uses(alloc, &all, &raw.abbreviations)?;
     let names = Names {
         text: document.text(),
         definitions: &raw.abbreviations,
-        rows: rows(alloc, &all, &raw.abbreviations)?,
+        rows: rows(alloc, &raw.abbreviations)?,
     };
     let edits = expansions(alloc, &names, &raw.entries)?;
     Ok(edited_all(alloc, document.text(), &edits)?)

@@ -21,6 +21,7 @@ pub mod elements;
 pub mod errors;
 pub mod expanding;
 mod known;
+pub mod left_references;
 mod naming;
 mod taken;
 mod texts;

@@ -3,7 +3,7 @@
 //! `numbers` maps the start of a name to a number below which every number gives a name that is used. So the search for the next
 //! name with this start begins where the last one ended.
 
-ghost use Rattle.std.specs.Prelude.{◌≡◌, ◌≤◌, ◌||◌, ◌++◌, ℕ, List, true, IfOk, OnOk};
+ghost use Rattle.std.specs.Prelude.{◌≡◌, ◌≤◌, ◌||◌, ◌++◌, ℕ, List, true, IfOk, OnOk, length};
 ghost use Rattle.std.specs.Char.{is_whitespace};
 ghost use Rattle.std.specs.List.{list_any};
 ghost use Rattle.std.specs.Str.{chars};
@@ -94,6 +94,21 @@ fn base(alloc: Global, text: &str) -> Result<String, AllocError>
     } else {
         Ok(letters)
     }
+}
+
+// Returns the number of characters of `text`.
+fn character_count(text: &str) -> usize
+    ensures { result ≡ length (chars text.now) }
+{
+    text.chars().count()
+}
+
+// Returns whether `text` has more characters than its new name without a number.
+pub(crate) fn is_longer_than_name(alloc: Global, text: &str) -> Result<bool, AllocError>
+    ensures { IfOk result (λ is. is ≡ spec.is_longer_than_name text.now) }
+{
+    let base = base(alloc, text)?;
+    Ok(base.len() < character_count(text))
 }
 
 // Returns `base` followed by `number`, or only `base` if the number is 1.

@@ -42,25 +42,38 @@ pub(crate) fn with_indices<'a, 's>(
     Ok(found)
 }
 
-// Returns the pieces of each definition, from the last piece to the first. A name that is defined earlier in the file has the
-// index of its last definition there. In `all`, each name has the index of its last definition. Returns `EarlyUse` for the
-// first definition that uses its own name, or a name before the name's first definition.
-pub(crate) fn rows<'a, 's>(
+// Fails with `EarlyUse` for the first definition that uses its own name, or a name before the name's first definition. In `all`, each
+// name has the index of its last definition.
+pub(crate) fn check_early_uses(
     alloc: Global,
     all: &Indices,
-    definitions: &'a [Pair<'s>],
-) -> Result<Vec<Vec<Indexed<'a, 's>>>, ExpandError>
+    definitions: &[Pair<'_>],
+) -> Result<(), ExpandError>
     requires all { AreIndices all.now (map field_of definitions.now) (length definitions.now) }
-    ensures rows { IfOk result (λ rows. AreRows (map field_of definitions.now) (length definitions.now) (rows_of rows.items)) }
     ensures none { OnOk result (HasNoEarlyUse (map field_of definitions.now)) }
     ensures refused { IfErr result (IsExpandError (map field_of definitions.now)) }
 {
     let mut indices = BTreeMap::new(alloc);
-    let mut rows = Vec::with_capacity(alloc, definitions.len())?;
     'definitions: for (index, definition) in definitions.iter().enumerate() {
         if has_early_use(alloc, all, &indices, definition)? {
             return Err(ExpandError::EarlyUse(index));
         }
+        add_definition(alloc, &mut indices, definition, index)?;
+    }
+    Ok(())
+}
+
+// Returns the pieces of each definition, from the last piece to the first. A name that is defined earlier in the file has the
+// index of its last definition there.
+pub(crate) fn rows<'a, 's>(
+    alloc: Global,
+    definitions: &'a [Pair<'s>],
+) -> Result<Vec<Vec<Indexed<'a, 's>>>, AllocError>
+    ensures { IfOk result (λ rows. AreRows (map field_of definitions.now) (length definitions.now) (rows_of rows.items)) }
+{
+    let mut indices = BTreeMap::new(alloc);
+    let mut rows = Vec::with_capacity(alloc, definitions.len())?;
+    'definitions: for (index, definition) in definitions.iter().enumerate() {
         rows.push(with_indices(alloc, &indices, &definition.value.v)?)?;
         add_definition(alloc, &mut indices, definition, index)?;
     }

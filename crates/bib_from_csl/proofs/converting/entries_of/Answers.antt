@@ -1,5 +1,5 @@
-use Rattle.std.proofs.Common.{◌≡◌, ◌∙◌, ap, ap₂, subst, sym}
-use Rattle.biblatex.specs.Headline.{IsAcceptedText, IsBibliographyOf, IsErrorOf}
+use Rattle.std.proofs.Common.{◌∙◌, ap, ap₂, subst, sym}
+use Rattle.biblatex.specs.Headline.{IsBibliographyOf}
 use Rattle.bib_from_csl.specs.FromItems.{items_source}
 use Rattle.bib_from_csl.specs.Losses.{all_losses}
 use Rattle.bib_from_csl.proofs.ConvertingFacts.{made, unread_items, unread_refused}

@@ -1,5 +1,5 @@
-use Rattle.bib_from_csl.proofs.DateFacts.{closed_dates_read}
+use Rattle.bib_from_csl.proofs.DateFacts.{kept_dates_read}
 use Rattle.bib_from_csl.proofs.laws.dates_are_read_again.Goals as goal
 
 pub returns : goal.returns
-returns c = closed_dates_read
+returns c = kept_dates_read

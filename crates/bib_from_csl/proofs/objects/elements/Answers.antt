@@ -1,4 +1,4 @@
-use Rattle.std.proofs.Common.{◌≡◌, ◌∙◌, map, ap, sym, Some}
+use Rattle.std.proofs.Common.{◌∙◌, map, ap, sym, Some}
 use Rattle.json.specs.Value.{value_view}
 use Rattle.bib_from_csl.specs.Objects.{array_elements}
 use Rattle.bib_from_csl.proofs.ObjectFacts.{elements_of_array}

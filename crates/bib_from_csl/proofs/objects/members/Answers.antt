@@ -1,4 +1,4 @@
-use Rattle.std.proofs.Common.{◌≡◌, ◌∙◌, map, ap, sym, Some}
+use Rattle.std.proofs.Common.{◌∙◌, map, ap, sym, Some}
 use Rattle.json.specs.Value.{value_view}
 use Rattle.bib_from_csl.specs.Objects.{object_members}
 use Rattle.bib_from_csl.proofs.ObjectFacts.{members_of_object}

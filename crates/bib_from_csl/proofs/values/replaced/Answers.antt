@@ -1,7 +1,7 @@
 use Rattle.std.proofs.Common.{◌∙◌, sym}
 use Rattle.std.proofs.lemmas.List.{append-nil}
 use Rattle.bib_text.proofs.TextFacts.{less_after}
-use Rattle.bib_from_csl.specs.Values.{replaced, replacing}
+use Rattle.bib_from_csl.specs.Values.{replacing}
 use Rattle.bib_from_csl.proofs.ScanFacts.{scanned_step, scanned_end}
 use Rattle.bib_from_csl.proofs.values.replaced.Goals as goal
 

@@ -6,7 +6,7 @@ use Rattle.bib_syntax.specs.Recovery.{has_byte}
 use Rattle.bib_syntax.specs.Views.{entry_reading_of}
 use Rattle.edit_sort.specs.Cuts.{AreItemsCut}
 use Rattle.edit_sort.specs.Ranks.{item_reading_of}
-use Rattle.edit_sort.specs.Sorted.{Item, comment_in, gap_before, place_at, rank, space_in}
+use Rattle.edit_sort.specs.Sorted.{Item, comment_in, entry_place, first_with_key_of, gap_before, place_at, rank, space_in}
 use Rattle.edit_sort.specs.Steps.{items_from, place_after, run_after, spaces_from}
 use Rattle.edit_sort.proofs.GatherFacts.{gathered_more, next_entry, run_small, space_is}
 use Rattle.edit_sort.proofs.items.gather.Goals as goal
@@ -38,6 +38,13 @@ entries-preserved c =
     ∙ ap (rank all)
     (get_or-map entry_reading_of c.args.entries.now index c.index-entries-index.result e within
     ∙ ap entry_reading_of (sym c.index-entries-index.is)) in
+    let owned : get_or c.args.owners.now index 0 ≡ first_with_key_of all e =
+    ap (λ l. get_or l index 0) c.requires.owners
+    ∙ get_or-map (first_with_key_of all) all index e 0 (omega (arith, length-map c.args.entries.now entry_reading_of))
+    ∙ ap (first_with_key_of all)
+    (get_or-map entry_reading_of c.args.entries.now index c.index-entries-index.result e within
+    ∙ ap entry_reading_of (sym c.index-entries-index.is)) in
+    let placed : c.place_at.result ≡ entry_place all places e = c.place_at.ensures ∙ ap (place_at places) owned in
     let build =
     λ (run rank by : ℕ) (comment : List ℕ).
     let i : Item = record { run = run; rank = rank; place = by; comment = comment; entry = e } in i in
@@ -49,18 +56,18 @@ entries-preserved c =
           (ap (λ es. map (λ s. s.now) c.entries.spaces.items ++ spaces_from text index at es) (sym next) ∙ c.entries.invariant.spaces);
       items =
           gathered_more item_reading_of c.entries.items.items c.push-in-entries.new.self.items _
-          (build (run_after c.entries.run gap) (rank all e) (place_at places index) (comment_in (index == 0) gap))
+          (build (run_after c.entries.run gap) (rank all e) (entry_place all places e) (comment_in (index == 0) gap))
           (items_from all text places (index + 1) (e.end + 1) c.run_after-run.result rest)
           (items_from all text places 0 0 0 all) c.in_ok-push-2.ensures.items
           (ap (λ n. build n (get_or c.args.ranks.now index 0) c.place_at.result c.comment_in-comment.result.now) run_is
           ∙ ap (λ n. build (run_after c.entries.run gap) n c.place_at.result c.comment_in-comment.result.now) ranked
           ∙ ap (λ n. build (run_after c.entries.run gap) (rank all e) n c.comment_in-comment.result.now)
-          c.place_at.ensures
-          ∙ ap (build (run_after c.entries.run gap) (rank all e) (place_at places index)) comment_is)
+          placed
+          ∙ ap (build (run_after c.entries.run gap) (rank all e) (entry_place all places e)) comment_is)
           (ap
           (λ n.
           map item_reading_of c.entries.items.items
-          ++ build (run_after c.entries.run gap) (rank all e) (place_at places index)
+          ++ build (run_after c.entries.run gap) (rank all e) (entry_place all places e)
           (comment_in (index == 0) gap) ∷ items_from all text places (index + 1) (e.end + 1) n rest)
           run_is
           ∙ ap (λ es. map item_reading_of c.entries.items.items ++ items_from all text places index at c.entries.run es)

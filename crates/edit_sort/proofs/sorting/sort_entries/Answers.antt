@@ -8,10 +8,11 @@ use Rattle.bib_syntax.specs.Reading.{EntryReading}
 use Rattle.bib_syntax.specs.Views.{entry_reading_of}
 use Rattle.edit_entries.specs.Documents.{Document, IsDocument}
 use Rattle.edit_sort.specs.Cuts.{AreItemsCut, IsEntryOfItemCut}
-use Rattle.edit_sort.specs.Ranks.{item_reading_of}
+use Rattle.edit_sort.specs.Ranks.{AreKeyIndices, item_reading_of, owner}
 use Rattle.edit_sort.specs.Sorted.{AreEntriesInOrder, IsReadSorted, IsSortedText, Item, items, rank, text_in_order}
 use Rattle.edit_sort.specs.Steps.{items_from, items_laid_out, place_after, spaces_from}
 use Rattle.edit_sort.proofs.FileFacts.{as_many, document_parts, end_cut, order_cut, text_read}
+use Rattle.edit_sort.proofs.FirstFacts.{owners_are_first}
 use Rattle.edit_sort.proofs.StepFacts.{items_are, text_is}
 use Rattle.edit_sort.proofs.sorting.sort_entries.Goals as goal
 
@@ -63,50 +64,61 @@ read_is bytes (Ok s) d places order new read in_order is all =
 pub gather-requires-clause-cut : goal.gather-requires-clause-cut
 gather-requires-clause-cut c =
     let d = c.args.document.now in
-    let listed : map entry_reading_of c.deref-2.result.now ≡ d.says.entries =
-    ap (map entry_reading_of) c.deref-2.ensures.value ∙ ap (λ f. f.entries) c.raw.ensures.says in
-    subst (λ t. AreItemsCut t 0 0 (map entry_reading_of c.deref-2.result.now)) (sym c.text-text.ensures)
+    let listed : map entry_reading_of c.deref-5.result.now ≡ d.says.entries =
+    ap (map entry_reading_of) c.deref-5.ensures.value ∙ ap (λ f. f.entries) c.raw.ensures.says in
+    subst (λ t. AreItemsCut t 0 0 (map entry_reading_of c.deref-5.result.now)) (sym c.text-text.ensures)
     (subst (λ es. AreItemsCut d.text 0 0 es) (sym listed) (document_parts d c.raw.ensures.read).cut)
 
 pub gather-requires-clause-ranks : goal.gather-requires-clause-ranks
 gather-requires-clause-ranks c =
-    let same = c.deref.ensures.value ∙ sym c.deref-2.ensures.value in
-    c.deref-3.ensures.value
+    let same = c.deref-4.ensures.value ∙ sym c.deref-5.ensures.value in
+    c.deref-7.ensures.value
     ∙ subst (λ es. c.in_ok-ranks.ranks.items ≡ map (rank (map entry_reading_of es)) (map entry_reading_of es)) same c.in_ok-ranks.ensures
+
+pub gather-requires-clause-owners : goal.gather-requires-clause-owners
+gather-requires-clause-owners c =
+    let names = c.in_ok-names.names in
+    let all = map entry_reading_of c.deref-5.result.now in
+    let keys : AreKeyIndices all names =
+    subst (λ es. AreKeyIndices (map entry_reading_of es) names) (c.deref.ensures.value ∙ sym c.deref-5.ensures.value)
+    c.in_ok-names.ensures in
+    c.deref-6.ensures.value ∙ c.in_ok-owners.ensures
+    ∙ ap (λ es. map (owner names) (map entry_reading_of es)) (c.deref-2.ensures.value ∙ sym c.deref-5.ensures.value)
+    ∙ owners_are_first all names keys
 
 pub laid_out-requires-clause-as_many : goal.laid_out-requires-clause-as_many
 laid_out-requires-clause-as_many c =
     let d = c.args.document.now in
     let places = c.args.places.now in
-    let entries = map entry_reading_of c.deref-2.result.now in
-    let listed : entries ≡ d.says.entries = ap (map entry_reading_of) c.deref-2.ensures.value ∙ ap (λ f. f.entries) c.raw.ensures.says in
+    let entries = map entry_reading_of c.deref-5.result.now in
+    let listed : entries ≡ d.says.entries = ap (map entry_reading_of) c.deref-5.ensures.value ∙ ap (λ f. f.entries) c.raw.ensures.says in
     let in_order = order_is d places c.text-text.result.now entries
     (map item_reading_of c.in_ok-gathered.gathered.items.items) (map item_reading_of c.in_ok-order.order.items)
-    (map item_reading_of c.deref-5.result.now) c.text-text.ensures listed
-    c.in_ok-gathered.ensures.items (ap (map item_reading_of) c.deref-5.ensures.value) c.in_ok-order.ensures in
-    as_many_are (λ s. s.now) item_reading_of c.deref-4.result.now c.deref-5.result.now d places
-    (ap (map (λ s. s.now)) c.deref-4.ensures.value ∙ c.in_ok-gathered.ensures.spaces
+    (map item_reading_of c.deref-9.result.now) c.text-text.ensures listed
+    c.in_ok-gathered.ensures.items (ap (map item_reading_of) c.deref-9.ensures.value) c.in_ok-order.ensures in
+    as_many_are (λ s. s.now) item_reading_of c.deref-8.result.now c.deref-9.result.now d places
+    (ap (map (λ s. s.now)) c.deref-8.ensures.value ∙ c.in_ok-gathered.ensures.spaces
     ∙ spaces_are d c.text-text.result.now entries c.text-text.ensures listed) in_order
 
 pub laid_out-requires-clause-cut : goal.laid_out-requires-clause-cut
 laid_out-requires-clause-cut c =
     let d = c.args.document.now in
     let places = c.args.places.now in
-    let entries = map entry_reading_of c.deref-2.result.now in
-    let listed : entries ≡ d.says.entries = ap (map entry_reading_of) c.deref-2.ensures.value ∙ ap (λ f. f.entries) c.raw.ensures.says in
+    let entries = map entry_reading_of c.deref-5.result.now in
+    let listed : entries ≡ d.says.entries = ap (map entry_reading_of) c.deref-5.ensures.value ∙ ap (λ f. f.entries) c.raw.ensures.says in
     let in_order = order_is d places c.text-text.result.now entries
     (map item_reading_of c.in_ok-gathered.gathered.items.items) (map item_reading_of c.in_ok-order.order.items)
-    (map item_reading_of c.deref-5.result.now) c.text-text.ensures listed
-    c.in_ok-gathered.ensures.items (ap (map item_reading_of) c.deref-5.ensures.value) c.in_ok-order.ensures in
-    subst (λ t. AllByRecursion (IsEntryOfItemCut t) (map item_reading_of c.deref-5.result.now))
+    (map item_reading_of c.deref-9.result.now) c.text-text.ensures listed
+    c.in_ok-gathered.ensures.items (ap (map item_reading_of) c.deref-9.ensures.value) c.in_ok-order.ensures in
+    subst (λ t. AllByRecursion (IsEntryOfItemCut t) (map item_reading_of c.deref-9.result.now))
     (sym c.text-text.ensures)
-    (order_cut d places (map item_reading_of c.deref-5.result.now) c.raw.ensures.read in_order)
+    (order_cut d places (map item_reading_of c.deref-9.result.now) c.raw.ensures.read in_order)
 
 pub laid_out-requires-clause-end : goal.laid_out-requires-clause-end
 laid_out-requires-clause-end c =
     let d = c.args.document.now in
-    let listed : map entry_reading_of c.deref-2.result.now ≡ d.says.entries =
-    ap (map entry_reading_of) c.deref-2.ensures.value ∙ ap (λ f. f.entries) c.raw.ensures.says in
+    let listed : map entry_reading_of c.deref-5.result.now ≡ d.says.entries =
+    ap (map entry_reading_of) c.deref-5.ensures.value ∙ ap (λ f. f.entries) c.raw.ensures.says in
     subst (λ t. IsCharBoundary t c.in_ok-gathered.gathered.end) (sym c.text-text.ensures)
     (subst (λ n. IsCharBoundary d.text n) (sym (c.in_ok-gathered.ensures.end ∙ ap (place_after 0) listed)) (end_cut d c.raw.ensures.read))
 
@@ -114,38 +126,38 @@ pub returns-clause-text : goal.returns-clause-text
 returns-clause-text c =
     let d = c.args.document.now in
     let places = c.args.places.now in
-    let entries = map entry_reading_of c.deref-2.result.now in
-    let order = map item_reading_of c.deref-5.result.now in
-    let listed : entries ≡ d.says.entries = ap (map entry_reading_of) c.deref-2.ensures.value ∙ ap (λ f. f.entries) c.raw.ensures.says in
+    let entries = map entry_reading_of c.deref-5.result.now in
+    let order = map item_reading_of c.deref-9.result.now in
+    let listed : entries ≡ d.says.entries = ap (map entry_reading_of) c.deref-5.ensures.value ∙ ap (λ f. f.entries) c.raw.ensures.says in
     let in_order = order_is d places c.text-text.result.now entries
     (map item_reading_of c.in_ok-gathered.gathered.items.items) (map item_reading_of c.in_ok-order.order.items)
     order c.text-text.ensures listed
-    c.in_ok-gathered.ensures.items (ap (map item_reading_of) c.deref-5.ensures.value) c.in_ok-order.ensures in
+    c.in_ok-gathered.ensures.items (ap (map item_reading_of) c.deref-9.ensures.value) c.in_ok-order.ensures in
     let spaces =
-    ap (map (λ s. s.now)) c.deref-4.ensures.value ∙ c.in_ok-gathered.ensures.spaces
+    ap (map (λ s. s.now)) c.deref-8.ensures.value ∙ c.in_ok-gathered.ensures.spaces
     ∙ spaces_are d c.text-text.result.now entries c.text-text.ensures listed in
     sorted_is string_bytes c.laid_out.result d places order
-    (items_laid_out c.text-text.result.now (map (λ s. s.now) c.deref-4.result.now) order
+    (items_laid_out c.text-text.result.now (map (λ s. s.now) c.deref-8.result.now) order
     (drop c.in_ok-gathered.gathered.end c.text-text.result.now)) in_order
-    (written_is d c.text-text.result.now (map (λ s. s.now) c.deref-4.result.now) order c.in_ok-gathered.gathered.end
+    (written_is d c.text-text.result.now (map (λ s. s.now) c.deref-8.result.now) order c.in_ok-gathered.gathered.end
     c.text-text.ensures spaces (c.in_ok-gathered.ensures.end ∙ ap (place_after 0) listed)) c.laid_out.ensures
 
 pub returns-clause-read : goal.returns-clause-read
 returns-clause-read c =
     let d = c.args.document.now in
     let places = c.args.places.now in
-    let entries = map entry_reading_of c.deref-2.result.now in
-    let order = map item_reading_of c.deref-5.result.now in
-    let listed : entries ≡ d.says.entries = ap (map entry_reading_of) c.deref-2.ensures.value ∙ ap (λ f. f.entries) c.raw.ensures.says in
+    let entries = map entry_reading_of c.deref-5.result.now in
+    let order = map item_reading_of c.deref-9.result.now in
+    let listed : entries ≡ d.says.entries = ap (map entry_reading_of) c.deref-5.ensures.value ∙ ap (λ f. f.entries) c.raw.ensures.says in
     let in_order = order_is d places c.text-text.result.now entries
     (map item_reading_of c.in_ok-gathered.gathered.items.items) (map item_reading_of c.in_ok-order.order.items)
     order c.text-text.ensures listed
-    c.in_ok-gathered.ensures.items (ap (map item_reading_of) c.deref-5.ensures.value) c.in_ok-order.ensures in
+    c.in_ok-gathered.ensures.items (ap (map item_reading_of) c.deref-9.ensures.value) c.in_ok-order.ensures in
     let spaces =
-    ap (map (λ s. s.now)) c.deref-4.ensures.value ∙ c.in_ok-gathered.ensures.spaces
+    ap (map (λ s. s.now)) c.deref-8.ensures.value ∙ c.in_ok-gathered.ensures.spaces
     ∙ spaces_are d c.text-text.result.now entries c.text-text.ensures listed in
     read_is string_bytes c.laid_out.result d places order
-    (items_laid_out c.text-text.result.now (map (λ s. s.now) c.deref-4.result.now) order
+    (items_laid_out c.text-text.result.now (map (λ s. s.now) c.deref-8.result.now) order
     (drop c.in_ok-gathered.gathered.end c.text-text.result.now)) c.raw.ensures.read in_order
-    (written_is d c.text-text.result.now (map (λ s. s.now) c.deref-4.result.now) order c.in_ok-gathered.gathered.end
+    (written_is d c.text-text.result.now (map (λ s. s.now) c.deref-8.result.now) order c.in_ok-gathered.gathered.end
     c.text-text.ensures spaces (c.in_ok-gathered.ensures.end ∙ ap (place_after 0) listed)) c.laid_out.ensures

@@ -5,8 +5,8 @@ use Rattle.std.proofs.lemmas.List.{get_or_default, map-append}
 use Rattle.std.proofs.lemmas.Map.Text.{is_eq-slice_cmp}
 use Rattle.bib_queries.specs.Needed.{is_listed}
 use Rattle.bib_queries.specs.Sets.{is_in_set}
-use Rattle.edit_strings.specs.Collected.{AreThoseThat, RepeatsInBraces, distinct}
-use Rattle.edit_strings.specs.Collecting.{lent_texts}
+use Rattle.edit_strings.specs.Collected.{AreThoseThat, CanBeCollected, distinct}
+use Rattle.edit_strings.specs.Collecting.{known_in, lent_texts}
 use Rattle.edit_strings.proofs.DistinctFacts.{new_kept, new_left, old_stays}
 use Rattle.edit_strings.proofs.TextFacts.{listed_push, match_false, match_true, not_false, not_true, one_more, or_cond}
 use Rattle.edit_strings.proofs.collected.collected_texts.Goals as goal
@@ -15,14 +15,14 @@ use Rattle.edit_strings.proofs.collected.collected_texts.Goals.{then-branch+in_o
 pub texts-init : goal.texts-init
 texts-init c = record {
   found =
-      subst (λ l. AreThoseThat (RepeatsInBraces c.args.least (lent_texts c.args.texts.now)) [] (lent_texts l))
+      subst (λ l. AreThoseThat (CanBeCollected (known_in c.args.known.now) c.args.least (lent_texts c.args.texts.now)) [] (lent_texts l))
       (sym c.new-found.ensures.items) AreThoseThat.none;
   met = λ text. ap (λ ks. is_in_set (record { keys = ks }) text) c.new-met.ensures.empty;
 }
 
 pub texts-preserved : goal.texts-preserved
 texts-preserved c =
-    let P = RepeatsInBraces c.args.least (lent_texts c.args.texts.now) in
+    let P = CanBeCollected (known_in c.args.known.now) c.args.least (lent_texts c.args.texts.now) in
     let nobody : Bor (List ℕ) = record { ref_ptr = (0, 0); now = [] } in
     let i = c.texts.text-index in
     let x : Bor (List ℕ) = get_or c.args.texts.now i nobody in

@@ -8,10 +8,10 @@ use Rattle.bib_syntax.specs.Views.{entry_reading_of, file_of}
 use Rattle.edit_entries.specs.Changes.{text_changed}
 use Rattle.edit_entries.specs.Documents.{Document}
 use Rattle.edit_entries.specs.LineEnds.{line_end_of}
-use Rattle.edit_strings.specs.Collected.{AreCollectedTexts, AreNames, AreThoseThat, RepeatsInBraces, collection, definition_lines, distinct, named_texts, with_lines}
-use Rattle.edit_strings.specs.Collecting.{lent_texts, string_texts}
+use Rattle.edit_strings.specs.Collected.{AreCollectedTexts, AreNames, AreThoseThat, CanBeCollected, collection, definition_lines, distinct, known_name, named_texts, with_lines}
+use Rattle.edit_strings.specs.Collecting.{known_in, lent_texts, string_texts}
 use Rattle.edit_strings.specs.Exchanged.{exchanges}
-use Rattle.edit_strings.proofs.CollectFacts.{collected_answer, made_known}
+use Rattle.edit_strings.proofs.CollectFacts.{collected_alike, collected_answer, made_known}
 use Rattle.edit_strings.proofs.NamesFacts.{length-names}
 use Rattle.edit_strings.proofs.collecting.collect.Goals as goal
 
@@ -39,11 +39,17 @@ returns c =
     ap lent_texts c.deref-3.ensures.value ∙ c.in_ok-all.ensures
     ∙ ap (named_texts fields)
     (ap (map entry_reading_of) c.deref.ensures.value ∙ ap (λ f. f.entries) says) in
-    let chosen : AreCollectedTexts fields (max c.args.at_least 2) d.says.entries texts =
-    subst (λ ts. AreThoseThat (RepeatsInBraces (max c.args.at_least 2) ts) (distinct ts) texts) all
+    let known : (text : List ℕ) → known_in c.in_ok-known.known text ≡ known_name d.says text =
+    λ text. c.in_ok-known.ensures text ∙ ap (λ s. known_name s text) says in
+    let chosen : AreCollectedTexts fields (max c.args.at_least 2) d.says texts =
+    collected_alike (known_in c.in_ok-known.known) (known_name d.says) (max c.args.at_least 2) (named_texts fields d.says.entries)
+    texts known
+    (subst (λ ts. AreThoseThat (CanBeCollected (known_in c.in_ok-known.known) (max c.args.at_least 2) ts) (distinct ts) texts) all
     (subst
-    (λ n. AreThoseThat (RepeatsInBraces n (lent_texts c.deref-3.result.now)) (distinct (lent_texts c.deref-3.result.now)) texts)
-    c.max.ensures c.in_ok-texts.ensures) in
+    (λ n.
+    AreThoseThat (CanBeCollected (known_in c.in_ok-known.known) n (lent_texts c.deref-3.result.now))
+    (distinct (lent_texts c.deref-3.result.now)) texts)
+    c.max.ensures c.in_ok-texts.ensures)) in
     let named : AreNames d.says texts names =
     subst (λ s. AreNames s texts names) says
     (subst (λ l. AreNames (file_of c.raw-raw.result.now) (lent_texts l) names) c.deref-4.ensures.value c.in_ok-collection.ensures.named) in

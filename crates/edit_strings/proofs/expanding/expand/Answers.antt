@@ -12,65 +12,65 @@ use Rattle.edit_strings.proofs.expanding.expand.Goals as goal
 
 pub expansions-requires-clause-definitions : goal.expansions-requires-clause-definitions
 expansions-requires-clause-definitions c =
-    let defined : map field_of c.deref-2.result.now ≡ c.args.document.now.says.abbreviations =
-    ap (map field_of) c.deref-2.ensures.value ∙ ap (λ f. f.abbreviations) c.raw-raw.ensures.says in
+    let defined : map field_of c.deref-3.result.now ≡ c.args.document.now.says.abbreviations =
+    ap (map field_of) c.deref-3.ensures.value ∙ ap (λ f. f.abbreviations) c.raw-raw.ensures.says in
     let between = file_between c.raw-raw.ensures.read in
     (between.0, subst (BeginBetween 0 between.0) (sym defined) between.1)
 
 pub expansions-requires-clause-entries : goal.expansions-requires-clause-entries
 expansions-requires-clause-entries c =
-    let entries : map entry_reading_of c.deref-4.result.now ≡ c.args.document.now.says.entries =
-    ap (map entry_reading_of) c.deref-4.ensures.value ∙ ap (λ f. f.entries) c.raw-raw.ensures.says in
+    let entries : map entry_reading_of c.deref-5.result.now ≡ c.args.document.now.says.entries =
+    ap (map entry_reading_of) c.deref-5.ensures.value ∙ ap (λ f. f.entries) c.raw-raw.ensures.says in
     subst (AreFrom 0) (sym entries) (document_from c.args.document.now c.raw-raw.ensures.read)
 
 pub expansions-requires-clause-cut : goal.expansions-requires-clause-cut
 expansions-requires-clause-cut c =
     let d : Document = c.args.document.now in
-    let listed : map field_of c.deref-3.result.now ≡ d.says.abbreviations =
+    let listed : map field_of c.deref-4.result.now ≡ d.says.abbreviations =
+    ap (map field_of) c.deref-4.ensures.value ∙ ap (λ f. f.abbreviations) c.raw-raw.ensures.says in
+    let defined : map field_of c.deref-3.result.now ≡ d.says.abbreviations =
     ap (map field_of) c.deref-3.ensures.value ∙ ap (λ f. f.abbreviations) c.raw-raw.ensures.says in
-    let defined : map field_of c.deref-2.result.now ≡ d.says.abbreviations =
-    ap (map field_of) c.deref-2.ensures.value ∙ ap (λ f. f.abbreviations) c.raw-raw.ensures.says in
-    let entries : map entry_reading_of c.deref-4.result.now ≡ d.says.entries =
-    ap (map entry_reading_of) c.deref-4.ensures.value ∙ ap (λ f. f.entries) c.raw-raw.ensures.says in
+    let entries : map entry_reading_of c.deref-5.result.now ≡ d.says.entries =
+    ap (map entry_reading_of) c.deref-5.ensures.value ∙ ap (λ f. f.entries) c.raw-raw.ensures.says in
     let rows = rows_of c.in_ok-rows.field-0.items in
-    let known = known_rows c.deref-3.result.now d.says.abbreviations rows listed c.in_ok-rows.ensures.rows in
-    subst (λ t. AreExpansionsCut t (map field_of c.deref-2.result.now) rows (map entry_reading_of c.deref-4.result.now))
+    let known = known_rows c.deref-4.result.now d.says.abbreviations rows listed c.in_ok-rows.ensures in
+    subst (λ t. AreExpansionsCut t (map field_of c.deref-3.result.now) rows (map entry_reading_of c.deref-5.result.now))
     (sym c.text.ensures)
-    (subst (λ fs. AreExpansionsCut d.text fs rows (map entry_reading_of c.deref-4.result.now)) (sym defined)
+    (subst (λ fs. AreExpansionsCut d.text fs rows (map entry_reading_of c.deref-5.result.now)) (sym defined)
     (subst (AreExpansionsCut d.text d.says.abbreviations rows) (sym entries) (expansions_cut d c.raw-raw.ensures.read rows known)))
 
 pub edited_all-requires : goal.edited_all-requires
 edited_all-requires c =
     let d : Document = c.args.document.now in
-    let listed : map field_of c.deref-3.result.now ≡ d.says.abbreviations =
+    let listed : map field_of c.deref-4.result.now ≡ d.says.abbreviations =
+    ap (map field_of) c.deref-4.ensures.value ∙ ap (λ f. f.abbreviations) c.raw-raw.ensures.says in
+    let defined : map field_of c.deref-3.result.now ≡ d.says.abbreviations =
     ap (map field_of) c.deref-3.ensures.value ∙ ap (λ f. f.abbreviations) c.raw-raw.ensures.says in
-    let defined : map field_of c.deref-2.result.now ≡ d.says.abbreviations =
-    ap (map field_of) c.deref-2.ensures.value ∙ ap (λ f. f.abbreviations) c.raw-raw.ensures.says in
-    let entries : map entry_reading_of c.deref-4.result.now ≡ d.says.entries =
-    ap (map entry_reading_of) c.deref-4.ensures.value ∙ ap (λ f. f.entries) c.raw-raw.ensures.says in
+    let entries : map entry_reading_of c.deref-5.result.now ≡ d.says.entries =
+    ap (map entry_reading_of) c.deref-5.ensures.value ∙ ap (λ f. f.entries) c.raw-raw.ensures.says in
     let rows = rows_of c.in_ok-rows.field-0.items in
-    let known = known_rows c.deref-3.result.now d.says.abbreviations rows listed c.in_ok-rows.ensures.rows in
-    let edits = known_edits d rows (map edit_of c.deref-5.result.now) c.text.result.now (map field_of c.deref-2.result.now)
-    (map entry_reading_of c.deref-4.result.now) c.text.ensures defined entries
-    (ap (map edit_of) c.deref-5.ensures.value ∙ c.in_ok-edits.ensures) in
-    subst (λ t. AreEditsInOrder t 0 (map edit_of c.deref-5.result.now)) (sym c.text-2.ensures)
+    let known = known_rows c.deref-4.result.now d.says.abbreviations rows listed c.in_ok-rows.ensures in
+    let edits = known_edits d rows (map edit_of c.deref-6.result.now) c.text.result.now (map field_of c.deref-3.result.now)
+    (map entry_reading_of c.deref-5.result.now) c.text.ensures defined entries
+    (ap (map edit_of) c.deref-6.ensures.value ∙ c.in_ok-edits.ensures) in
+    subst (λ t. AreEditsInOrder t 0 (map edit_of c.deref-6.result.now)) (sym c.text-2.ensures)
     (subst (AreEditsInOrder d.text 0) (sym edits)
     (in_order d c.raw-raw.ensures.read rows known (subst IsUtf8 c.text.ensures c.text.utf8)))
 
 pub returns-clause-expanded : goal.returns-clause-expanded
 returns-clause-expanded c =
     let d : Document = c.args.document.now in
-    let listed : map field_of c.deref-3.result.now ≡ d.says.abbreviations =
+    let listed : map field_of c.deref-4.result.now ≡ d.says.abbreviations =
+    ap (map field_of) c.deref-4.ensures.value ∙ ap (λ f. f.abbreviations) c.raw-raw.ensures.says in
+    let defined : map field_of c.deref-3.result.now ≡ d.says.abbreviations =
     ap (map field_of) c.deref-3.ensures.value ∙ ap (λ f. f.abbreviations) c.raw-raw.ensures.says in
-    let defined : map field_of c.deref-2.result.now ≡ d.says.abbreviations =
-    ap (map field_of) c.deref-2.ensures.value ∙ ap (λ f. f.abbreviations) c.raw-raw.ensures.says in
-    let entries : map entry_reading_of c.deref-4.result.now ≡ d.says.entries =
-    ap (map entry_reading_of) c.deref-4.ensures.value ∙ ap (λ f. f.entries) c.raw-raw.ensures.says in
+    let entries : map entry_reading_of c.deref-5.result.now ≡ d.says.entries =
+    ap (map entry_reading_of) c.deref-5.ensures.value ∙ ap (λ f. f.entries) c.raw-raw.ensures.says in
     let rows = rows_of c.in_ok-rows.field-0.items in
-    let known = known_rows c.deref-3.result.now d.says.abbreviations rows listed c.in_ok-rows.ensures.rows in
-    let edits = known_edits d rows (map edit_of c.deref-5.result.now) c.text.result.now (map field_of c.deref-2.result.now)
-    (map entry_reading_of c.deref-4.result.now) c.text.ensures defined entries
-    (ap (map edit_of) c.deref-5.ensures.value ∙ c.in_ok-edits.ensures) in
+    let known = known_rows c.deref-4.result.now d.says.abbreviations rows listed c.in_ok-rows.ensures in
+    let edits = known_edits d rows (map edit_of c.deref-6.result.now) c.text.result.now (map field_of c.deref-3.result.now)
+    (map entry_reading_of c.deref-5.result.now) c.text.ensures defined entries
+    (ap (map edit_of) c.deref-6.ensures.value ∙ c.in_ok-edits.ensures) in
     expanded d c.raw-raw.ensures.read rows known (subst IsUtf8 c.text.ensures c.text.utf8) (string_bytes c.in_ok-edited_all.field-0)
-    (c.in_ok-edited_all.ensures ∙ ap (λ t. edited_all (map edit_of c.deref-5.result.now) t) c.text-2.ensures
+    (c.in_ok-edited_all.ensures ∙ ap (λ t. edited_all (map edit_of c.deref-6.result.now) t) c.text-2.ensures
     ∙ ap (λ es. edited_all es d.text) edits)

@@ -1,27 +1,12 @@
-use Rattle.std.proofs.Common.{◌≡◌, ◌+◌, ◌∷◌, [], get_or, cond, map, arith, sym, ap, ◌∙◌, subst, Some}
-use Rattle.std.proofs.lemmas.List.{length-map, map-append}
+use Rattle.std.proofs.Common.{◌≡◌, ◌+◌, ◌∷◌, [], get_or, cond, map, sym, ap, ◌∙◌, subst, Some}
+use Rattle.std.proofs.lemmas.List.{map-append}
 use Rattle.bib_syntax.specs.Views.{field_of, piece_of}
 use Rattle.edit_entries.specs.Documents.{has_name}
 use Rattle.edit_strings.specs.Expanded.{elements, index_before}
 use Rattle.edit_strings.specs.Tables.{AreRows, lowercase_index_in, indexed_back, row_at, rows_of, with_index}
 use Rattle.edit_strings.proofs.IndexFacts.{before_step}
-use Rattle.edit_strings.proofs.WrittenFacts.{early_is, elements_of_pair, none_more, row_push}
+use Rattle.edit_strings.proofs.WrittenFacts.{elements_of_pair, row_push}
 use Rattle.edit_strings.proofs.written.rows.Goals as goal
-
-pub returns-then-branch-clause-refused : goal.returns-then-branch-clause-refused
-returns-then-branch-clause-refused c =
-    let xs = c.args.definitions.now in
-    let i = c.definitions.index in
-    let definition = c.index-definitions-index.result in
-    record {
-      within = omega (arith, length-map xs field_of, c.definitions-test.true);
-      early =
-          sym
-          (early_is xs i definition c.definitions-test.true c.index-definitions-index.is c.args.all.now c.definitions.indices
-          c.requires.all c.definitions.invariant.indices)
-          ∙ sym c.in_ok-has_early_use.ensures ∙ c.if-branch.true;
-      first = c.definitions.invariant.none;
-    }
 
 pub definitions-preserved : goal.definitions-preserved
 definitions-preserved c =
@@ -45,10 +30,4 @@ definitions-preserved c =
           subst (AreRows (map field_of xs) (i + 1))
           (sym (ap rows_of c.in_ok-push.ensures.items ∙ map-append (λ r. indexed_back r.items) c.definitions.rows.items (row ∷ [])))
           (row_push (map field_of xs) i (rows_of c.definitions.rows.items) (indexed_back row.items) c.definitions.invariant.rows is);
-      none =
-          none_more (map field_of xs) i c.definitions.invariant.none
-          (sym
-          (early_is xs i definition c.definitions-test.true c.index-definitions-index.is c.args.all.now c.definitions.indices
-          c.requires.all c.definitions.invariant.indices)
-          ∙ sym c.in_ok-has_early_use.ensures ∙ c.if-branch.false);
     }

@@ -1,0 +1,23 @@
+//! The commands of `bibkit`, from the words of the command line to the status.
+//!
+//! `arguments` reads the words, and `start` runs the command that they ask for. The program `bibkit` only calls `start`, because a library is
+//! proved faster than a program, which reads the code of all libraries below it.
+#![tactic(auto)]
+
+mod argument_values;
+mod arguments;
+mod converting;
+mod document;
+mod edit_arguments;
+mod edits;
+mod files;
+mod formatting;
+mod importing;
+mod recoding;
+mod refusals;
+mod rekeying;
+mod replacing;
+mod resolving;
+mod selecting;
+pub mod start;
+mod stops;

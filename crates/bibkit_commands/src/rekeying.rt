@@ -1,0 +1,323 @@
+//! Gives entries the keys that a pattern makes.
+
+use crate::edits::{Editing, Mode, after_mark, apply, new_text};
+use crate::stops::{Stop, bytes_of, error_line, output_stop};
+use bib_entry::entry::Entry;
+use bib_keys::{KeyPattern, PatternError};
+use bib_queries::names::entry_names;
+use bib_source::positions::Positions;
+use bib_syntax::raw::{Pair, RawBibliography, RawChunk, RawEntry};
+use bib_tables::fields::is_reference_field;
+use bib_text::spanned::Spanned;
+use bib_text::text::Text;
+use bibkit_edits::edit::Edit;
+use bibkit_edits::left_notes::left_notes;
+use biblatex::{Bibliography, Output, Sink};
+use std::alloc::{AllocError, Global};
+use std::collections::BTreeSet;
+use std::io;
+use std::str::from_utf8;
+
+/// The pattern of keys, and the use of the keys that it makes.
+#[derive(Clone, Copy)]
+pub struct Rekeying<'a> {
+    /// The pattern.
+    pub pattern: &'a str,
+    /// Whether a line OLD,NEW for each key that changes is printed instead of the new text.
+    pub has_map: bool,
+    /// Whether the keys that would change are reported, and nothing is edited.
+    pub is_check: bool,
+}
+
+// Returns the error of a pattern, or fails if out of memory.
+fn unless_out_of_memory(error: PatternError) -> Result<PatternError, AllocError> {
+    match error {
+        PatternError::OutOfMemory => Err(AllocError),
+        error => Ok(error),
+    }
+}
+
+// Parses a pattern. Fails with a message and status 2 for a text that isn't a pattern.
+fn parse_pattern(alloc: Global, pattern: &str) -> Result<KeyPattern, Stop> {
+    match KeyPattern::parse(alloc, pattern) {
+        Ok(pattern) => Ok(pattern),
+        Err(error) => {
+            let error = unless_out_of_memory(error)?;
+            let said = format!(in alloc; "bibkit: --pattern `{pattern}`: {error}\n")?;
+            Err(Stop::Said(said, 2))
+        }
+    }
+}
+
+// Returns whether an entry gets a new key: it is neither an `xdata`, which only other entries refer to, nor a `set`, which groups other
+// entries.
+fn gets_key(entry: &RawEntry<'_>) -> bool {
+    let kind = entry.kind.v;
+    !kind.eq_ignore_ascii_case("xdata") && !kind.eq_ignore_ascii_case("set")
+}
+
+// Returns the new key of each entry, by its index. `made` has the keys for the entries at the indices `origins`. Every other entry, and an
+// entry that has its key already, that has an empty key, or that is an `xdata` or a `set`, gets no new key.
+fn new_keys<'k>(
+    alloc: Global,
+    entries: &[Spanned<RawEntry<'_>>],
+    made: &'k [Text],
+    origins: &[usize],
+) -> Result<Vec<Option<&'k str>>, AllocError> {
+    let mut keys = Vec::new(alloc);
+    'entries: for _ in entries {
+        keys.push(None)?;
+    }
+    'made: for (key, origin) in made.iter().zip(origins) {
+        if let Some(entry) = entries.get(*origin) {
+            let old = entry.v.key.v;
+            if !old.is_empty() && old != key.as_str() && gets_key(&entry.v) {
+                if let Some(place) = keys.get_mut(*origin) {
+                    *place = Some(key.as_str());
+                }
+            }
+        }
+    }
+    Ok(keys)
+}
+
+// Returns a line OLD,NEW for each key that changes.
+fn map_text(
+    alloc: Global,
+    entries: &[Spanned<RawEntry<'_>>],
+    keys: &[Option<&str>],
+) -> Result<String, AllocError> {
+    let mut map = String::new(alloc);
+    'entries: for (entry, key) in entries.iter().zip(keys) {
+        if let Some(key) = key {
+            map.push_str(format!(in alloc; "{},{}\n", entry.v.key.v, key)?.as_str())?;
+        }
+    }
+    Ok(map)
+}
+
+// Returns a message for each key that changes, with the position of the key.
+fn check_text(
+    alloc: Global,
+    name: &str,
+    text: &str,
+    entries: &[Spanned<RawEntry<'_>>],
+    keys: &[Option<&str>],
+) -> Result<String, AllocError> {
+    let mut lines = String::new(alloc);
+    'entries: for (entry, key) in entries.iter().zip(keys) {
+        if let Some(key) = key {
+            let old = &entry.v.key;
+            let said = format!(in alloc; "the key of `{}` isn't `{}`", old.v, key)?;
+            let line = error_line(alloc, name, text.as_bytes(), old.span.start, &said)?;
+            lines.push_str(&line)?;
+        }
+    }
+    Ok(lines)
+}
+
+// The names that entries of a file have before they get new keys, and the new keys, all in ASCII lowercase.
+#[derive(Drop)]
+struct Names {
+    old: BTreeSet<String>,
+    new: BTreeSet<String>,
+}
+
+// Returns the names of entries, and these new keys.
+fn names_of(
+    alloc: Global,
+    entries: &[Spanned<RawEntry<'_>>],
+    keys: &[Option<&str>],
+) -> Result<Names, AllocError> {
+    let mut names = Names {
+        old: BTreeSet::new(alloc),
+        new: BTreeSet::new(alloc),
+    };
+    'entries: for (entry, key) in entries.iter().zip(keys) {
+        insert_lowercase(alloc, &mut names.old, &entry_names(alloc, entry)?)?;
+        if let Some(key) = key {
+            names.new.insert(key.to_ascii_lowercase(alloc)?)?;
+        }
+    }
+    Ok(names)
+}
+
+// Inserts names into a set, in ASCII lowercase.
+fn insert_lowercase(
+    alloc: Global,
+    set: &mut BTreeSet<String>,
+    names: &[&str],
+) -> Result<(), AllocError> {
+    'names: for name in names {
+        set.insert(name.to_ascii_lowercase(alloc)?)?;
+    }
+    Ok(())
+}
+
+// Appends the names in a list that no entry has and that an entry gets as its new key, both in any ASCII case.
+fn push_caught<'s>(
+    caught: &mut Vec<&'s str>,
+    alloc: Global,
+    names: &Names,
+    list: &'s str,
+) -> Result<(), AllocError> {
+    'parts: for part in list.split(',') {
+        let name = part.trim().to_ascii_lowercase(alloc)?;
+        if names.new.contains(name.as_str()) && !names.old.contains(name.as_str()) {
+            caught.push(part.trim())?;
+        }
+    }
+    Ok(())
+}
+
+// Appends the names in a field that refers to entries, as `push_caught` does for a list.
+fn push_caught_in_field<'s>(
+    caught: &mut Vec<&'s str>,
+    alloc: Global,
+    names: &Names,
+    field: &Pair<'s>,
+) -> Result<(), AllocError> {
+    if !is_reference_field(field.key.v) {
+        return Ok(());
+    }
+    'pieces: for piece in &field.value.v {
+        if let RawChunk::Normal(text) = piece.v {
+            push_caught(caught, alloc, names, text)?;
+        }
+    }
+    Ok(())
+}
+
+// Returns the names to which an entry refers, which no entry had and which are new keys.
+fn caught_names<'s>(
+    alloc: Global,
+    names: &Names,
+    entry: &RawEntry<'s>,
+) -> Result<Vec<&'s str>, AllocError> {
+    let mut caught = Vec::new(alloc);
+    'fields: for field in &entry.fields {
+        push_caught_in_field(&mut caught, alloc, names, field)?;
+    }
+    Ok(caught)
+}
+
+// Returns a note for each entry that refers to names which no entry had, but which are new keys.
+fn caught_text(
+    alloc: Global,
+    name: &str,
+    text: &str,
+    entries: &[Spanned<RawEntry<'_>>],
+    keys: &[Option<&str>],
+) -> Result<String, AllocError> {
+    let names = names_of(alloc, entries, keys)?;
+    let mut positions = Positions::new(text);
+    let mut notes = String::new(alloc);
+    'entries: for entry in entries {
+        let caught = caught_names(alloc, &names, &entry.v)?;
+        if let Some(first) = caught.first() {
+            let position = positions.position(entry.v.key.span.start);
+            let note = format!(in alloc;
+                "{name}:{}:{}: note: the reference to `{}` led to no entry, and now leads to one with this new key\n",
+                position.line, position.column, first
+            )?;
+            notes.push_str(&note)?;
+        }
+    }
+    Ok(notes)
+}
+
+// Prints a text to standard output.
+fn print(rt: &HostRuntime, text: &str) -> Result<(), Stop> {
+    let mut output = Output::new(io::writer(rt));
+    if output.write_str(text) {
+        Ok(())
+    } else {
+        Err(output_stop(rt.alloc())?)
+    }
+}
+
+// Gives the entries of a file new keys as `rekeying` requests, and prints notes on references. For a check, only reports the keys that would
+// change, with status 1 if there are any.
+fn use_keys(
+    rt: &HostRuntime,
+    editing: &Editing<'_>,
+    rekeying: &Rekeying<'_>,
+    bytes: &[u8],
+    text: &str,
+    entries: &[Spanned<RawEntry<'_>>],
+    keys: &[Option<&str>],
+) -> Result<(), Stop> {
+    if rekeying.is_check {
+        let lines = check_text(rt.alloc(), editing.name, text, entries, keys)?;
+        return if lines.is_empty() {
+            Ok(())
+        } else {
+            Err(Stop::Said(lines, 1))
+        };
+    }
+    let left = left_notes(rt.alloc(), editing.name, text, &Edit::RenameAll { keys })?;
+    let caught = caught_text(rt.alloc(), editing.name, text, entries, keys)?;
+    edit_keys(rt, editing, rekeying, bytes, entries, keys)?;
+    let _ = eprint!(rt; "{left}{caught}");
+    Ok(())
+}
+
+// Gives the entries of a file new keys. Prints the map of the keys if `rekeying` requests it, and otherwise uses the new text as `editing`
+// requests. With a map, the new text is still written into the file if `editing` requests that.
+fn edit_keys(
+    rt: &HostRuntime,
+    editing: &Editing<'_>,
+    rekeying: &Rekeying<'_>,
+    bytes: &[u8],
+    entries: &[Spanned<RawEntry<'_>>],
+    keys: &[Option<&str>],
+) -> Result<(), Stop> {
+    let edits = [Edit::RenameAll { keys }];
+    if !rekeying.has_map {
+        return apply(rt, editing, bytes, &edits);
+    }
+    if editing.mode == Mode::Write {
+        apply(rt, editing, bytes, &edits)?;
+    } else {
+        let _new = new_text(rt.alloc(), editing.name, bytes, &edits)?;
+    }
+    print(rt, &map_text(rt.alloc(), entries, keys)?)
+}
+
+// Returns the keys that a pattern makes for entries.
+fn made_keys(
+    alloc: Global,
+    pattern: &KeyPattern,
+    bibliography: Bibliography,
+) -> Result<Vec<Text>, AllocError> {
+    let entries: Vec<Entry> = bibliography.into_vec();
+    pattern.keys(alloc, &entries)
+}
+
+// Gives the entries of a file's text the keys that a pattern makes. A text with a syntax error is refused.
+fn rekey_text(
+    rt: &HostRuntime,
+    editing: &Editing<'_>,
+    rekeying: &Rekeying<'_>,
+    pattern: &KeyPattern,
+    bytes: &[u8],
+    text: &str,
+) -> Result<(), Stop> {
+    let Ok(raw) = RawBibliography::parse(rt.alloc(), text) else {
+        return apply(rt, editing, bytes, &[Edit::RenameAll { keys: &[] }]);
+    };
+    let found = Bibliography::recover(rt.alloc(), text)?;
+    let made = made_keys(rt.alloc(), pattern, found.bibliography)?;
+    let keys = new_keys(rt.alloc(), &raw.entries, &made, &found.origins)?;
+    use_keys(rt, editing, rekeying, bytes, text, &raw.entries, &keys)
+}
+
+/// Gives the entries of a file the keys that a pattern makes, or uses these keys as `rekeying` requests.
+pub fn rekey(rt: &HostRuntime, editing: &Editing<'_>, rekeying: &Rekeying<'_>) -> Result<(), Stop> {
+    let pattern = parse_pattern(rt.alloc(), rekeying.pattern)?;
+    let bytes = bytes_of(rt, editing.name)?;
+    match from_utf8(after_mark(&bytes)) {
+        Ok(text) => rekey_text(rt, editing, rekeying, &pattern, &bytes, text),
+        Err(_) => apply(rt, editing, &bytes, &[Edit::RenameAll { keys: &[] }]),
+    }
+}
