@@ -1,11 +1,11 @@
 -- Meaning: words of public contracts.
 -- The dates of an item.
-use Rattle.std.specs.Prelude.{ℕ, ◌+◌, ◌-◌, ◌*◌, Bool, false, ◌&&◌, ◌||◌, ◌==◌, if◌then◌else◌, ℤ, pos, ◌-ℤ◌, List, [], ◌∷◌, ◌++◌, length, take, slice_index, codes, Option, Some, None}
+use Rattle.std.specs.Prelude.{ℕ, ◌+◌, ◌-◌, ◌*◌, Bool, false, ◌&&◌, ◌||◌, ◌==◌, if◌then◌else◌, ℤ, pos, ◌-ℤ◌, List, [], ◌∷◌, ◌++◌, length, drop, take, slice_index, bytes_eq, codes, Option, Some, None}
 use Rattle.std.specs.Char.{is_ascii_digit}
-use Rattle.std.specs.List.{list_all}
+use Rattle.std.specs.List.{list_all, list_any, prefix_len}
 use Rattle.std.specs.Option.{option_map, unwrap_or}
 use Rattle.std.specs.Ordering.{int_cmp, is_lt}
-use Rattle.std.specs.Str.{trim}
+use Rattle.std.specs.Str.{trim, trim_start}
 use Rattle.bib_text.specs.Characters as char
 use Rattle.bib_chunks.specs.Values.{Value, text}
 use Rattle.bib_dates.specs.Chunks.{date_read, three_fields_reading}
@@ -105,9 +105,17 @@ abbrev pub without_hyphen : List ℕ → List ℕ
 without_hyphen [] = []
 without_hyphen (b ∷ rest) = if b == char.hyphen then rest else b ∷ rest
 
--- whether a text is a year and nothing else, unlike `1943-1978` or `7 May 2021`
+-- a text without the digits at its start
+abbrev pub after_digits : List ℕ → List ℕ
+after_digits text = drop (prefix_len is_ascii_digit text) text
+
+-- what may be after the digits of a year: nothing, or an era
+abbrev pub eras : List (List ℕ)
+eras = [] ∷ codes "AD" ∷ codes "CE" ∷ codes "BCE" ∷ codes "BC" ∷ []
+
+-- whether a text is a year, with or without an era, and nothing else, unlike `1943-1978` or `7 May 2021`
 unfoldable pub is_year : List ℕ → Bool
-is_year text = list_all is_ascii_digit (without_hyphen (trim text))
+is_year text = list_any (bytes_eq (trim_start (after_digits (without_hyphen (trim text))))) eras
 
 -- the date that a year, a month and a day are parsed as, if the year is a year and nothing else
 unfoldable pub three_fields_read : Value → Option Value → Option Value → Option Date

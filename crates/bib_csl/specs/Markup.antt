@@ -5,7 +5,6 @@ use Rattle.std.specs.Prelude.{ℕ, Bool, false, not, nat_lt, ◌==◌, ◌&&◌,
 use Rattle.std.specs.Char.{is_ascii_alphabetic}
 use Rattle.std.specs.List.{list_any}
 use Rattle.std.specs.Option.{option_or, unwrap_or}
-use Rattle.std.specs.Str.{chars}
 use Rattle.bib_text.specs.Enums.{words}
 use Rattle.bib_text.specs.Characters as char
 
@@ -82,7 +81,7 @@ mark_closing has_tags name =
     if quotes_argument name then Some (encode_utf8_all (codes "”")) else if has_tags then tag_after name else None
 
 -- the output for a command and the opening brace of its argument: a tag, a quotation mark or a sign, and nothing for any other command,
--- of which the argument alone is shown; `None` for a backslash without a name
+-- whose argument is kept; `None` for a backslash without a name
 unfoldable pub opening_tag : Bool → List ℕ → Option (List ℕ)
 opening_tag has_tags name =
     if length name == 0 then None else Some (unwrap_or (mark_opening has_tags name) (unwrap_or (sign_named name) []))

@@ -127,7 +127,7 @@ fn mark_closing(has_tags: bool, name: &str) -> Option<&'static str>
 }
 
 // Returns the text for a command and the opening brace of its argument: a tag, a quotation mark or a sign. It is empty for any other
-// command, of which the argument alone is shown. Returns `None` for a backslash without a name.
+// command, whose argument is kept. Returns `None` for a backslash without a name.
 #[tactic(auto, unfolding(crate::specs::Markup::opening_tag))]
 pub(crate) fn opening_tag(has_tags: bool, name: &str) -> Option<&'static str>
     ensures { option_map (λ tag. tag.now) result ≡ spec.opening_tag has_tags name.now }

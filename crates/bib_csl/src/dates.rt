@@ -2,7 +2,7 @@
 
 ghost use Rattle.std.specs.Prelude.{◌≡◌, ◌<◌, pos, true, length, ◌++◌, Some, OnOk, IfOk};
 ghost use Rattle.std.specs.Char.{is_ascii_digit};
-ghost use Rattle.std.specs.List.{list_all};
+ghost use Rattle.std.specs.List.{list_all, prefix_len};
 ghost use Rattle.std.specs.Option.{option_map, option_copied};
 ghost use Rattle.bib_chunks.specs.Values.{text};
 ghost use Rattle.bib_dates.specs.Chunks.{date_read};
@@ -246,12 +246,30 @@ fn without_hyphen(text: &str) -> &str
     }
 }
 
-// Returns whether a text is a year and nothing else.
+// Returns the number of digits at the start of a text.
+fn digits(text: &str) -> usize
+    ensures { result ≡ prefix_len is_ascii_digit text.now }
+{
+    text.as_bytes()
+        .iter()
+        .take_while(|byte| byte.is_ascii_digit())
+        .count()
+}
+
+// Returns a text without the digits at its start.
+fn after_digits(text: &str) -> &str
+    ensures { result.now ≡ spec.after_digits text.now }
+{
+    text.split_at(digits(text)).1
+}
+
+// Returns whether a text is a year, with or without an era, and nothing else.
 #[tactic(auto, unfolding(crate::specs::Dates::is_year))]
 fn is_year(text: &str) -> bool
     ensures { result ≡ spec.is_year text.now }
 {
-    are_digits(without_hyphen(text.trim()).as_bytes())
+    let rest = after_digits(without_hyphen(text.trim()));
+    matches!(rest.trim_start(), "" | "AD" | "CE" | "BCE" | "BC")
 }
 
 // Returns the date that a year, and the month and the day if they are given, are parsed as, or `None` if they can't be parsed or the year is
