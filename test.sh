@@ -1,8 +1,8 @@
 #!/usr/bin/env bash
 # Runs the tests: test.sh [--prove]
-# Without a word it runs all tests that need no proof, in about five minutes: check.py with its own tests, the rows and test functions
-# of tests/, and, if the programs and the library for C are built and no source has changed since, the tests of those. Its last
-# lines say what it ran, and what it didn't.
+# Without a word it runs all tests that need no proof, in five to eight minutes: check.py with its own tests, the lists of original.py,
+# the rows and test functions of tests/, and, if the programs and the library for C are built and no source has changed since, the
+# tests of those. Its last lines say what it ran, and what it didn't.
 # With --prove it is the whole gate: it also proves every crate and tries the wrong bodies that must be refused, by `rt ci`, and
 # makes the archive of a release and tries it. A missing compiler or interpreter then fails it. The shells zsh and fish, and mypy,
 # may be missing. RT_JOBS=N uses N processors.
@@ -43,6 +43,7 @@ is_new() {
 
 part check.py python3 scripts/check.py
 part check_test.py python3 tests/check_test.py
+part 'the lists of original.py' python3 tests/original.py
 room=$(mktemp -d)
 said=$room/said
 trap 'rm -rf "$room"' EXIT

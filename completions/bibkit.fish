@@ -3,8 +3,8 @@ set -l commands lint keys get select grep cited stats fmt convert resolve set un
 set -l edits set unset rename rekey edit remove add strings
 set -l codes unread-bytes syntax unread-field unknown-abbreviation circular-abbreviation duplicate-key circular-reference \
     unread-date unknown-type missing-field superfluous-field malformed-field not-a-number malformed-date unknown-field foreign-field \
-    repeated-field empty-field wrong-isbn wrong-issn doi-address empty-key unknown-reference likely-duplicate key-case missing-entry \
-    unused-entry
+    repeated-field empty-field wrong-isbn wrong-issn doi-address malformed-name special-character two-years empty-key stray-field \
+    unknown-reference likely-duplicate key-case early-parent missing-entry unused-entry
 set -l fields author editor title subtitle booktitle journaltitle journal series edition volume number pages publisher location address \
     institution school organization date year month doi isbn issn url urldate note keywords abstract crossref
 
@@ -52,6 +52,7 @@ complete -c bibkit -n '__fish_seen_subcommand_from fmt' -x -l sort -a 'keep key 
 complete -c bibkit -n '__fish_seen_subcommand_from fmt' -l check -d 'List the files that aren\'t in this style'
 complete -c bibkit -n '__fish_seen_subcommand_from fmt' -l write -d 'Write the new texts to the files'
 complete -c bibkit -n '__fish_seen_subcommand_from fmt' -l diff -d 'Print a diff'
+complete -c bibkit -n '__fish_seen_subcommand_from resolve' -l not-inherited -d 'Report fields that entries don\'t inherit'
 complete -c bibkit -n '__fish_seen_subcommand_from resolve' -l write -d 'Write the new texts to the files'
 complete -c bibkit -n '__fish_seen_subcommand_from resolve' -l diff -d 'Print a diff'
 complete -c bibkit -n '__fish_seen_subcommand_from convert' -x -l to -a 'csl json ris biblatex bibtex' -d 'The format'

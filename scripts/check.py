@@ -43,6 +43,14 @@ CLAUSE = re.compile(r" *(?:ensures|requires)\*?(?: \w+)? \{")
 CODE = re.compile(
     r"(?:== |≡ |CharAt [\w'.]+ |cut_at [\w'.]+ |replicate [\w'.]+ |has_byte |holds |IsWithout )(\d+)\b|(?<![\w'.])(\d+)(?= ∷)"
 )
+# The laws of bib_typed that state which values of a type are kept. Each is refused if the class of its type is empty.
+KEPT_LAWS = (
+    "pub fn texts_are_kept(", "pub fn numbers_are_kept(", "ensures language { ⟦<Language as Type>⟧.kept",
+    "ensures pagination { ⟦<Pagination as Type>⟧.kept", "ensures gender { ⟦<Gender as Type>⟧.kept", "⟦<EditorType as Type>⟧.kept",
+    "pub fn ranges_are_kept(", "pub fn lists_of_ranges_are_kept(", "pub fn lists_of_texts_are_kept(",
+    "pub fn lists_of_languages_are_kept(", "pub fn lists_of_people_are_kept(", "pub fn dates_are_kept(",
+    "pub fn permissive_values_are_kept<",
+)
 # Wrong bodies that the promises of the library name, each with the edits in must-fail/ that stand for it, or the file and the
 # text of a test that shows it.
 PROMISED = {
@@ -70,10 +78,7 @@ PROMISED = {
     "a typed setter keeps the old value": ["bib_typed/setter-keeps-the-old-value"],
     "a call always answers out of memory": ["tests/src/calls/values.rs: fn types_and_enumerations", "tests/check_test.py: (check.check_calls, "],
     "a class of kept values is empty":
-        ["bib_typed/empty-kept-class", "bib_typed/no-range-is-kept", "bib_typed/no-ranges-are-kept", "bib_typed/no-text-is-kept",
-         "bib_typed/no-texts-are-kept", "bib_typed/no-language-is-kept", "bib_typed/no-languages-are-kept",
-         "bib_typed/no-pagination-is-kept", "bib_typed/no-gender-is-kept", "bib_typed/no-editor-type-is-kept",
-         "bib_typed/no-people-are-kept", "bib_typed/no-date-is-kept", "bib_typed/permissive-keeps-nothing"],
+        ["bib_typed/every-kept-class-is-empty", *(f"crates/bib_typed/src/laws.rt: {law}" for law in KEPT_LAWS)],
     "the topological order is the order of the file": ["bib_inheritance/order-is-that-of-the-file"],
     "an own month alone stops the inheritance of a date": ["bib_inheritance/own-month-alone-stops-inheritance"],
     "a child with an own year is refused for its parent's date": ["bib_inheritance/own-year-refused-for-the-date-of-the-parent"],

@@ -1,6 +1,6 @@
 #!/usr/bin/env bash
 # Runs the tests in tests/ without a proof: the rows of each layer, whose answers must be those of tests/rows/NAME.stdout, and the
-# test functions. `rt try` builds both from the sources of the library, with checks of each access. It takes about three minutes.
+# test functions. `rt try` builds both from the sources of the library, with checks of each access. It takes three to seven minutes.
 # The files of tests/src/ are Rattle, and end in .rs, since `rt ci` asks for a proof of every .rt file.
 set -eu
 cd "$(dirname "$0")/.."
@@ -22,8 +22,8 @@ python3 tests/expected.py "$room"/rows/*.stdout
 libraries=$(cd "$room" && ls -d crates/*/src/lib.rt | cut -d/ -f2 | grep -vx -e tests -e guide -e bibkit_commands)
 { grep -v '^#\|^guide:' crates.txt | sed 's/^bib:/bib_commands:/; s/ staticlib:/:/'; echo "tests: sha2" $libraries; } > "$room/crates.txt"
 cd "$room/crates/tests"
-rt try --seconds 300 --cases "$room/rows" > "$room/answers" 2>&1 & rows=$!
-rt try --seconds 300 --test > "$room/functions" 2>&1 & functions=$!
+rt try --seconds 1200 --cases "$room/rows" > "$room/answers" 2>&1 & rows=$!
+rt try --seconds 1200 --test > "$room/functions" 2>&1 & functions=$!
 status=0
 wait "$rows" || status=1
 wait "$functions" || status=1

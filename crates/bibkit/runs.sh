@@ -171,10 +171,11 @@ for code in unread-bytes syntax unread-field circular-abbreviation duplicate-key
     run_start "the meaning of $code" 0 "$code (error): " lint --explain $code no-file.bib
 done
 for code in unknown-abbreviation unread-date unknown-type missing-field superfluous-field malformed-field malformed-date unknown-field repeated-field \
-    wrong-isbn wrong-issn doi-address empty-key unknown-reference likely-duplicate key-case unused-entry; do
+    wrong-isbn wrong-issn doi-address malformed-name special-character two-years empty-key stray-field unknown-reference likely-duplicate \
+    key-case unused-entry; do
     run_start "the meaning of $code" 0 "$code (warning): " lint --explain $code no-file.bib
 done
-for code in not-a-number foreign-field empty-field; do
+for code in not-a-number foreign-field empty-field early-parent; do
     run_start "the meaning of $code" 0 "$code (info): " lint --explain $code no-file.bib
 done
 run 'the whole meaning of a code' 0 'superfluous-field (warning): An entry of this type must not have this field. Remove it, or change the type of the entry.
@@ -582,6 +583,10 @@ run 'the last field after a comment, with CR LF' 0 $'@book{k,\r\n  author = {A},
 printf '@book{k,\n  author = {A}, %% one\n  title = {T}, %% two\n  year = 2000 \n}\n' >beside.bib
 run 'a comment on the same line' 0 $'@book{k,\n  author = {A}, % one % two\n  year = 2000 \n}\n' unset k title -f beside.bib
 run 'a last field without a comma, after a comment' 0 $'@book{k,\n  author = {A}, % one\n  title = {T}, % two\n}\n' unset k year -f beside.bib
+printf '@book{k,\n  author = {A},\n  year = 2000\n  %% note = {x}\n}\n' >last.bib
+run 'a comment on a line after the last field' 0 $'@book{k,\n  author = {A},\n  % note = {x}\n}\n' unset k year -f last.bib
+printf '@book{k,\n  author = {A},\n  year = 2000 %% note\n}\n' >last_beside.bib
+run 'a comment beside the last field' 0 $'@book{k,\n  author = {A},\n}\n' unset k year -f last_beside.bib
 printf '@book{k,\n  note = {A},\n  %% about the title\n  title = {T},\n  %% about the note\n  note = {B},\n  %% about the year\n  year = 2000,\n}\n' >notes.bib
 run 'several fields with the name, and comments' 0 \
     $'@book{k,\n  % about the title\n  title = {T},\n  % about the note % about the year\n  year = 2000,\n}\n' unset k note -f notes.bib
@@ -1396,6 +1401,38 @@ run 'a file that is not there, and one that is resolved' 2 "$resolved" resolve n
 cp circle.bib circular.bib
 run 'a circle is not written' 1 '' resolve --write circular.bib
 holds 'a file that is refused stays' cmp -s circle.bib circular.bib
+cat >uninherited.bib <<'BIB'
+@proceedings{p, title={T}, shorttitle={S}, label={L}, publisher={P}, ids={q}}
+@inproceedings{c,
+  title={C},
+  crossref={p},
+}
+@misc{m, xdata={x, y}, title={M}, label={own}, crossref={p}}
+@xdata{x, options={useprefix=true}, organization={O}}
+@xdata{y, note+an={=z}, note={N}}
+@misc{k, crossref={none}, xdata={x, none}, title={K}}
+BIB
+uninherited=$'uninherited.bib:4:3: note: entry `c` doesn\'t inherit `shorttitle`, `label` of `p`
+uninherited.bib:6:10: note: entry `m` doesn\'t inherit `options` of `x`
+uninherited.bib:6:10: note: entry `m` doesn\'t inherit `note+an` of `y`
+'
+run 'inherited fields with notes' 0 "$resolved" resolve --not-inherited resolve.bib
+run_messages 'no note on fields that entries inherit' 0 '' resolve --not-inherited resolve.bib
+run_messages 'fields that entries do not inherit are reported' 0 "$uninherited" resolve --not-inherited uninherited.bib
+run_messages 'without the option no field is reported' 0 '' resolve uninherited.bib
+run_messages 'fields of two files are reported' 0 "$uninherited$uninherited" resolve --not-inherited uninherited.bib resolve.bib uninherited.bib
+run_messages 'fields are reported beside a diff' 0 "$uninherited" resolve --diff --not-inherited uninherited.bib
+cp uninherited.bib uninheriting.bib
+run_messages 'fields are reported when the file is written' 0 "${uninherited//uninherited.bib/uninheriting.bib}" resolve --not-inherited --write uninheriting.bib
+run_messages 'a file that is resolved has no references to report' 0 '' resolve --not-inherited uninheriting.bib
+printf '\xef\xbb\xbf@misc{c, crossref={p}, title={C}}\r\n@misc{p, label={L}}\r\n' >uninherited-mark.bib
+run_messages 'fields are reported after a byte order mark' 0 $'uninherited-mark.bib:1:10: note: entry `c` doesn\'t inherit `label` of `p`\n' resolve --not-inherited uninherited-mark.bib
+cp uninherited.bib input
+run_messages 'fields of standard input are reported' 0 "${uninherited//uninherited.bib/-}" resolve --not-inherited
+: >input
+run_messages 'a refused file has no notes' 1 $'circle.bib:2:7: error: entry `b` inherits from itself [circular-reference]\n' resolve --not-inherited circle.bib
+printf '@misc{c, crossref={p}, title={\xff}}\n@misc{p, label={L}}\n' >uninherited-bytes.bib
+run 'a file with other bytes has no notes' 2 '' resolve --not-inherited uninherited-bytes.bib
 
 # select
 cat >select.bib <<'BIB'
@@ -1701,7 +1738,7 @@ in_bash 'bibkit keys refe' $'references.bib\n'
 in_bash 'bibkit rem' $'remove\n'
 in_bash 'bibkit conv' $'convert\n'
 in_bash 'bibkit res' $'resolve\n'
-in_bash 'bibkit resolve --' $'--write\n--diff\n--help\n'
+in_bash 'bibkit resolve --' $'--not-inherited\n--write\n--diff\n--help\n'
 in_bash 'bibkit sel' $'select\n'
 in_bash 'bibkit select --' $'--where\n--complete\n--keys\n--help\n'
 in_bash 'bibkit edit --re' $'--rename\n'

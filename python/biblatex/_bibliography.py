@@ -59,18 +59,18 @@ class Bibliography(Mapping[str, Entry]):
         return tuple(self._by_key.values())
 
     def to_biblatex(self) -> str:
-        """Returns the bibliography with escapes, in the types and fields of BibLaTeX.
+        """Returns the bibliography in the types and fields of BibLaTeX.
 
-        A command that the parser doesn't know is plain text: `\\emph{x}` is written `\\\\emph\\{x\\}`. Outside verbatim fields
+        A command that the parser doesn't know is escaped: `\\emph{x}` is written `\\\\emph\\{x\\}`. Outside verbatim fields
         `~` is written `\\textasciitilde{}`. The edits, for example `set_field`, keep the source of a file. Each entry contains
         the fields that it inherits. Some values don't parse back to themselves, for example math with an unclosed brace.
         """
         return self._source.write(Format.BIBLATEX).decode()
 
     def to_bibtex(self) -> str:
-        """Returns the bibliography with escapes, in the types and fields of BibTeX.
+        """Returns the bibliography in the types and fields of BibTeX.
 
-        A command that the parser doesn't know is plain text: `\\emph{x}` is written `\\\\emph\\{x\\}`. Outside verbatim fields
+        A command that the parser doesn't know is escaped: `\\emph{x}` is written `\\\\emph\\{x\\}`. Outside verbatim fields
         `~` is written `\\textasciitilde{}`. The edits, for example `set_field`, keep the source of a file. Each entry contains
         the fields that it inherits.
         """
@@ -106,8 +106,8 @@ def recover(text: AnyText) -> tuple[Bibliography, list[Finding]]:
     """Parses everything in a text that can be parsed. Returns the bibliography, and the findings that make `parse` fail.
 
     Only the complete parts of a block that can't be parsed are kept: its key, fields or definitions. An entry with the key of
-    an earlier one is left out, and so is a field whose text can't be parsed. docs/LIBRARY.md lists the effect of each error. A text that isn't UTF-8 is read as Windows-1252, and
-    the spans of its chunks are byte ranges of that text in UTF-8.
+    an earlier one is left out, and so is a field whose text can't be parsed. docs/LIBRARY.md lists the effect of each error. A
+    text that isn't UTF-8 is read as Windows-1252, and the spans of its chunks are byte ranges of that text in UTF-8.
 
     `to_biblatex` and `to_bibtex` escape each command that the parser doesn't know.
     """

@@ -43,8 +43,8 @@ def _unknown_key(key: str) -> Mapping[Status, str]:
 def set_field(text: Text, key: str, name: str, value: str, *, bare: bool = False) -> Text:
     """Returns the text with the field `name` of the entry `key` set to `value`, in braces.
 
-    With `bare`, the value is written without braces. It is then a number, or an abbreviation that is defined before the
-    entry, or that of a month, such as `jan`.
+    With `bare`, the value is written without braces. It must be a number, the abbreviation of a month, such as `jan`, or an
+    abbreviation that is defined before the entry.
 
     If several fields of the entry have this name, each gets the value. If the entry lacks the field, it is added before the
     other fields, laid out like them. `value` is TeX source, and its braces must balance. BibTeX also counts a brace after a
@@ -74,10 +74,13 @@ def unset_field(text: Text, key: str, name: str) -> Text:
 
 
 def rename_key(text: Text, old: str, new: str) -> Text:
-    """Returns the text with the key `old` replaced by `new`, also in each reference to it, for example in `crossref`.
+    """Returns the text with the key `old` replaced by `new`, also in references to it whose value is one text, for example in `crossref`.
 
-    Raises an `EditError` if no entry has the key `old`, if another entry has the key `new`, or has it in its field `ids`, in
-    any ASCII case, if BibTeX, Biber or bibtool wouldn't read the key `new`, or if `new` is `*`. An empty key can't be renamed.
+    Raises an `EditError` in these cases:
+
+    - No entry has the key `old`, or `old` is empty.
+    - `new` is the key of another entry, or in the field `ids` of an entry, in any ASCII case.
+    - BibTeX, Biber or bibtool wouldn't read the key `new`, or `new` is `*`.
     """
     # each key of a file can be renamed, except the empty one: if `old` isn't empty, the status is about `new`
     refused = new if old else old
@@ -126,11 +129,15 @@ def _why_not_added(status: Status, text: bytes, added: bytes) -> str:
 
 
 def add_entries(text: Text, added: Text) -> Text:
-    """Returns the text, and the text `added` after it on a new line. If the first line of the text ends with CR LF, so do the added lines.
+    """Returns the text, and the text `added` after it on a new line.
 
-    Raises an `EditError` if an added entry has the key of another entry, or a name in its field `ids`, in any ASCII case, if
-    BibTeX, Biber or bibtool wouldn't read its key, if its key is `*`, if `added` defines an abbreviation of the text with another
-    value, if the braces of a text in quotes aren't balanced in one of the texts, or if `added` has a syntax error or isn't UTF-8.
+    If the first line of the text ends with CR LF, so do the added lines. Raises an `EditError` in these cases:
+
+    - An added entry has a name of another entry, in any ASCII case. The names of an entry are its key and those in its `ids`.
+    - BibTeX, Biber or bibtool wouldn't read the key of an added entry, or the key is `*`.
+    - `added` gives an abbreviation of the text another value.
+    - The braces of a text in quotes aren't balanced, in the text or in `added`.
+    - `added` has a syntax error or isn't UTF-8.
     """
     data, more = as_bytes(text), as_bytes(added)
     try:

@@ -174,7 +174,7 @@ def date_of(content: Json) -> Date:
 
 
 def date_of_parts(content: Json) -> Optional[Date]:
-    """Converts a CSL-JSON date, where the year before year 1 is -1. Returns None for a season or a literal text."""
+    """Converts a CSL-JSON date, in which the year before year 1 is -1. Returns None for a season or a literal text."""
     if "literal" in content or "season" in content:
         return None
     year, month, day = (content["date-parts"][0] + [None, None])[:3]

@@ -87,7 +87,7 @@ class Refusals(unittest.TestCase):
         self.refuses(biblatex.set_field, BOTH, "a", "my note", "N", why="'my note' can't be the name of a field")
         self.refuses(biblatex.set_field, BOTH, "a", "note", "N}", why="the value can't be written in braces: 'N}'")
 
-    def test_values_without_braces(self):
+    def test_values_without_braces(self) -> None:
         self.assertEqual(biblatex.set_field("@misc{a, month={x}}", "a", "month", "jan", bare=True), "@misc{a, month=jan}")
         self.assertEqual(biblatex.set_field("@misc{a, year={x}}", "a", "year", "2020", bare=True), "@misc{a, year=2020}")
         with self.assertRaisesRegex(biblatex.EditError, "neither a number nor an abbreviation"):

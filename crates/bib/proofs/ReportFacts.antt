@@ -1,10 +1,11 @@
 -- Lemmas about reports.
-use Rattle.std.proofs.Common.{◌≡◌, ℕ, suc, false, Bor, List, [], ◌∷◌, ◌++◌, ◌+◌, ◌<◌, length, get_or, take, map, Result, Ok, Err, OnOk, refl, sym, ap, ◌∙◌, append_assoc, subst, arith}
+use Rattle.std.proofs.Common.{◌≡◌, ℕ, Bor, List, [], ◌∷◌, ◌++◌, ◌+◌, ◌<◌, length, get_or, take, map, Result, Ok, Err, OnOk, refl, sym, ap, ◌∙◌, append_assoc, subst}
 use Rattle.std.specs.Prelude.{◌==◌, if◌then◌else◌, codes}
 use Rattle.std.specs.List.{flat_map}
 use Rattle.std.proofs.lemmas.List.{map-append, flat_map_more, take_more}
 use Rattle.std.proofs.lemmas.List.Elements.{All-nil, All-push}
 use Rattle.biblatex.specs.Syntax.{Entry, Bibliography, TypeError, AreMalformed, Names, missing_of, superfluous_of}
+use Rattle.biblatex.proofs.WritingFacts.{not_suc}
 use Rattle.bib.specs.Answering.{AddsReport}
 use Rattle.bib.specs.Output.{AreReported, EntryReport, IsReport, ShowsReports, field_line, malformed_line, report_lines}
 
@@ -72,9 +73,6 @@ report_next before entry old new so_far more =
       allowed = All-push IsReport so_far.reports report so_far.allowed more.1;
       text = more.2 ∙ ap (λ text. text ++ report_lines report) so_far.text ∙ flat_map_more report_lines [] so_far.reports report;
     }
-
-not_suc : (n : ℕ) → false ≡ (suc n == 0)
-not_suc n = grind arith
 
 -- the output of `check`: its status tells whether there is a line
 pub reports_shown : (bibliography : Bibliography) (text : List ℕ) (status : ℕ) → AreReported bibliography.entries text

@@ -29,7 +29,7 @@ AreArgumentsKnown texts = IfErr texts (λ error_answer. error_answer ≢ OutOfMe
 abbrev pub IsMemoryLacking : Result (List (List ℕ)) ErrorKind → Type 0
 IsMemoryLacking texts = IfErr texts (λ error_answer. error_answer ≡ OutOfMemory)
 
--- the output and the exit status for these arguments: for out of memory while reading them, or as in `IsAnswer`; `given`,
+-- the output and the exit status for these arguments: for out of memory while reading them, or as in `IsAnswer`. `given`,
 -- `failed` and `read` are those of `IsAnswer`
 pub data IsStartAnswer (texts : Result (List (List ℕ)) ErrorKind) (given : List ℕ → Type 0) (failed read : Type 0) :
     List ℕ → ℕ → Type 0 where

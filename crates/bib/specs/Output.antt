@@ -66,7 +66,7 @@ pub record ShowsNoBibliography (bytes text : List ℕ) : Type 0 where
   pub refused : IsAcceptedText bytes → ⊥
   pub listed : ShowsError error text
 
--- the output and the exit status of a command on a bibliography for these bytes, given its output for a bibliography
+-- the output and the exit status, for these bytes, of a command that parses a bibliography; `shows` relates a bibliography to both
 pub data IsBibliographyAnswer (shows : Bibliography → List ℕ → ℕ → Type 0) (bytes : List ℕ) : List ℕ → ℕ → Type 0 where
   no_text : (IsUtf8 bytes → ⊥) → IsBibliographyAnswer shows bytes not_utf8 1
   no_bibliography : {text : List ℕ} → IsUtf8 bytes → ShowsNoBibliography bytes text → IsBibliographyAnswer shows bytes text 1
@@ -148,8 +148,8 @@ Name words command = words ≡ command_name command ∷ []
 abbrev pub IsCommand : List (List ℕ) → Type 0
 IsCommand words = (command : Command) × Name words command
 
--- the output and the exit status for these arguments; `given` holds for the bytes that the input may contain, `failed` states
--- that reading it failed, and `read` that reading it did not fail
+-- the output and the exit status for these arguments. `given` holds for the bytes that the input may contain. `failed`
+-- states that reading it failed, and `read` that reading it did not fail
 pub data IsAnswer (words : List (List ℕ)) (given : List ℕ → Type 0) (failed read : Type 0) : List ℕ → ℕ → Type 0 where
   usage_reported : (IsCommand words → ⊥) → IsAnswer words given failed read usage 2
   no_memory : IsCommand words → read → IsAnswer words given failed read (error_line (codes "out of memory")) 3

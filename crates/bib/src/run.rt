@@ -28,7 +28,7 @@ pub trait InputSource {
     // Whether these may be the remaining bytes.
     ghost gives: { Self → List ℕ → Type 0 };
 
-    // The number of failed reads so far. The count may stop at its greatest value.
+    // A number that grows with each read that returns `Failed`. It may stop at 2^64 - 1.
     ghost failures: { Self → ℕ };
 
     /// Reads all remaining bytes.
@@ -99,8 +99,8 @@ fn key_lines(alloc: Global, raw: &RawBibliography<'_>) -> Result<String, AllocEr
     Ok(text)
 }
 
-// Runs the command `keys` on a text. Here and in the commands below, the parsed data is not freed, because the program ends
-// after printing.
+// Runs the command `keys` on a text. If this and the commands below succeed, they don't free the parsed data, because the
+// program ends after printing.
 fn keys(alloc: Global, text: &str) -> Result<Answer, AllocError>
     ensures { IfOk result (λ answer. IsKeysAnswer text.now
         (string_bytes answer.text) answer.status) }

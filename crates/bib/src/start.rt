@@ -14,7 +14,7 @@ use std::io;
 use std::io::ErrorKind;
 
 // Returns the arguments after the program's name. Returns none if the arguments can't be read for another reason than out of
-// memory, such as one that isn't UTF-8.
+// memory, for instance because an argument isn't UTF-8.
 fn words(alloc: Global, arguments: io::Result<Args>) -> Result<Vec<String>, AllocError>
     ensures words { IfOk result
         (λ words. map string_bytes words.items ≡ program_words (texts_of arguments)) }
@@ -31,7 +31,7 @@ fn words(alloc: Global, arguments: io::Result<Args>) -> Result<Vec<String>, Allo
 /// Runs the program with its arguments, and returns its exit status. The first argument is the program's name.
 ///
 /// If memory runs out while the arguments are read, this is reported, and the status is 3. If they can't be read for another
-/// reason, such as one that isn't UTF-8, the program runs without arguments.
+/// reason, for instance because an argument isn't UTF-8, the program runs without arguments.
 pub fn start<S: InputSource, K: Sink>(
     alloc: Global,
     arguments: io::Result<Args>,

@@ -43,7 +43,7 @@ part_at text span = record { text = text; start = span.start; end = span.end }
 abbrev pub with_progress : List ℕ → Progress → (List ℕ → Option Progress) → List ℕ → Option Progress
 with_progress name now before other = if bytes_eq name other then Some now else before other
 
--- the chunks from the index `start` up to the index `end`
+-- the chunks from the index `start` to before the index `end`
 abbrev pub chunks_between : ℕ → ℕ → List (Spanned Chunk) → List (Spanned Chunk)
 chunks_between start end chunks = take (end - start) (drop start chunks)
 
@@ -53,7 +53,7 @@ AreWithin memo =
     (name : List ℕ) (start end : ℕ) → progress memo name ≡ Some (Done start end)
     → (start ≤ end) × (end ≤ length memo.values.items)
 
--- the chunks from `start` to `end` have the styled text of a name's definition
+-- the chunks from `start` to before `end` have the styled text of a name's definition
 pub record IsValue (definitions : Definitions) (is_verbatim : Bool) (chunks : List (Spanned Chunk)) (name : List ℕ)
     (start end : ℕ) : Type 0 where
   pub definition : List Piece
@@ -62,8 +62,8 @@ pub record IsValue (definitions : Definitions) (is_verbatim : Bool) (chunks : Li
   pub within : end ≤ length chunks
   pub says : Evaluates definitions is_verbatim definition (styled (chunks_between start end chunks))
 
--- the memo is right: an expanded name has the chunks of its definition, and the names whose expansion has begun are
--- those in `path`
+-- the memo is right: an expanded name has the chunks of its definition, and the names that are being expanded are those in
+-- `path`
 pub record IsSound (definitions : Definitions) (is_verbatim : Bool) (memo : Memo) (path : List (List ℕ)) : Type 0 where
   pub done : (name : List ℕ) (start end : ℕ) → progress memo name ≡ Some (Done start end)
       → IsValue definitions is_verbatim memo.values.items name start end
@@ -76,7 +76,7 @@ pub record Expands (definitions : Definitions) (is_verbatim : Bool) (old new : L
   pub values : new ≡ old ++ more
   pub says : Evaluates definitions is_verbatim pieces (styled more)
 
--- the expansion of a defined name begins, which isn't in the memo `old`
+-- the expansion of a defined name begins; the name isn't in the memo `old`
 pub record Opens (definitions : Definitions) (old new : Memo) (name : List ℕ) (frame : Frame) : Type 0 where
   pub named : frame.name.now ≡ name
   pub is : definitions name ≡ Some (map piece_of frame.rest.now)

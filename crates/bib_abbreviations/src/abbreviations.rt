@@ -1,4 +1,4 @@
-//! Expands abbreviations: each name is expanded once, and its chunks are kept for later uses.
+//! Expands abbreviations: a memo keeps the chunks of each expanded name for later uses.
 
 ghost use Rattle.std.specs.Prelude.{◌≡◌, ℕ, ◌+◌, ◌≤◌, ◌⊎◌, Some, None, List, [], ◌∷◌, ◌++◌, map, length, vec_len, IsOk, OnOk, OnErr, IfOk, IfErr};
 ghost use Rattle.std.specs.Option.{option_map};
@@ -65,7 +65,7 @@ pub(crate) struct Memo<'s> {
 enum Progress {
     // It has begun.
     Begun,
-    // It is done: the chunks of the name are those from `start` to `end` in `values`.
+    // It is done: the chunks of the name are those from `start` to before `end` in `values`.
     Done { start: usize, end: usize },
 }
 
@@ -126,7 +126,7 @@ impl<'s> Memo<'s> {
         Ok(())
     }
 
-    // Appends copies of the chunks from `start` to `end`, merged as by `append_copies`.
+    // Appends copies of the chunks from `start` to before `end`, merged as by `append_copies`.
     fn repeat(&mut self, alloc: Global, start: usize, end: usize) -> Result<(), ParseError>
         requires ordered { start ≤ end }
         requires within { end ≤ length self.old.values.items }
@@ -254,7 +254,7 @@ impl<'m, 'f, 's> Expansion<'m, 'f, 's> {
         }
     }
 
-    // Appends the chunks of a literal or of a known name to the memo, or starts to expand an abbreviation.
+    // Appends the chunks of a literal, of an expanded name or of a month to the memo, or starts to expand a name.
     fn take(
         self,
         memo: &mut Memo<'s>,
@@ -290,7 +290,8 @@ impl<'m, 'f, 's> Expansion<'m, 'f, 's> {
         Ok(())
     }
 
-    // Appends the chunks of a name to the memo, or starts to expand it. Returns an error if the name is being expanded.
+    // Appends the chunks of a name to the memo, or starts to expand it. Returns an error if the name is being expanded, or
+    // if it is neither defined nor that of a month.
     fn name(
         self,
         memo: &mut Memo<'s>,

@@ -14,8 +14,8 @@ pub fn one_value()
         Evaluates definitions is_verbatim pieces second → first ≡ second }
 {}
 
-/// States that pieces with a styled text have no first error, and that other pieces have at most one. It is one in its
-/// kind and, for a name, in its span. For a literal that can't be parsed, only the kind is determined.
+/// States that pieces with a styled text have no first error. Any two first errors of the same pieces have the same kind.
+/// They also have the same span, unless they are errors of a literal that can't be parsed.
 pub fn one_error()
     ensures none { (definitions : Definitions) (is_verbatim : Bool) (pieces : List Piece)
         (atoms : List Atom) (e : ParseError) → Evaluates definitions is_verbatim pieces atoms →

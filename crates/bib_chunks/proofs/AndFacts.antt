@@ -52,7 +52,7 @@ and_chars : (text following : List ℕ) → IsUtf8 text → text ≡ codes "and"
 and_chars text following utf8 word = chars_past (97 ∷ 110 ∷ 100 ∷ []) text following utf8 (word ∙ and_bytes following)
 
 -- no word is at the start of a text without white space before it
-never : (cs : List ℕ) → word_here false cs ≡ false
+pub never : (cs : List ℕ) → word_here false cs ≡ false
 never [] = refl
 never (a ∷ []) = refl
 never (a ∷ n ∷ []) = refl

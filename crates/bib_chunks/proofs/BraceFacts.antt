@@ -7,6 +7,7 @@ use Rattle.bib_text.specs.Places.{Place, place, CharAt, AtEnd}
 use Rattle.bib_text.specs.Braces.{is_plain, Parts}
 use Rattle.bib_text.specs.Braces.Parts.{none, plain, hidden, nested}
 use Rattle.bib_text.proofs.PlaceFacts.{same_char, same_place, no_char_at_end}
+use Rattle.bib_text.proofs.BraceFacts.{no_parts, parts_end}
 
 -- the text from `u` to `e` is parts with `n` closing braces of braces opened before `u`
 abbrev pub Closes : ℕ → Place → Place → Type 0
@@ -44,20 +45,6 @@ parts_open char (plain other also rest) = absurd (both_ways _ refl (rw (sym (sam
 parts_open char (hidden other next rest) = absurd (omega (arith, (same_char char other).0))
 parts_open char (nested {w = w} {x = y} other inner close rest) =
     inr (w, y, subst (λ p. Parts p w) (same_char other char).1 inner, close, rest)
-
--- parts from a closing brace are empty
-parts_close : {u v x : Place} → CharAt u 125 v → Parts u x → u ≡ x
-parts_close char none = refl
-parts_close char (plain other also rest) = absurd (both_ways _ refl (rw (sym (same_char char other).0) at also))
-parts_close char (hidden other next rest) = absurd (omega (arith, (same_char char other).0))
-parts_close char (nested other inner close rest) = absurd (omega (arith, (same_char char other).0))
-
--- parts from the end of a text are empty
-parts_end : {u x : Place} → AtEnd u → Parts u x → u ≡ x
-parts_end end none = refl
-parts_end end (plain other also rest) = absurd (no_char_at_end end other)
-parts_end end (hidden other next rest) = absurd (no_char_at_end end other)
-parts_end end (nested other inner close rest) = absurd (no_char_at_end end other)
 
 -- a place with a character isn't the end
 not_last : {u v e : Place} {c : ℕ} → AtEnd e → CharAt u c v → u ≡ e → ⊥
@@ -115,7 +102,7 @@ closes_close_suc : (n : ℕ) (e : Place) {u v : Place} → CharAt u 125 v → Cl
 closes_close_suc n e {u} {v} char = (
   λ (w, x, parts, close, rest).
       subst (λ p. Closes n p e)
-      (sym (same_char char (subst (λ p. CharAt p 125 x) (sym (parts_close char parts)) close)).1) rest,
+      (sym (same_char char (subst (λ p. CharAt p 125 x) (sym (no_parts char parts)) close)).1) rest,
   λ rest. (u, v, none, char, rest),
 )
 
@@ -126,7 +113,7 @@ closes_close (suc n) e within char = rw sub-one (closes_close_suc n e char)
 
 -- a closing brace of no open one is not in parts
 pub closes_close_none : (e : Place) {u v : Place} → AtEnd e → CharAt u 125 v → Closes 0 u e → ⊥
-closes_close_none e end char parts = not_last end char (parts_close char parts)
+closes_close_none e end char parts = not_last end char (no_parts char parts)
 
 -- at the end of the text all braces are closed exactly if none is open
 pub closes_end : (n : ℕ) (e : Place) {u : Place} → AtEnd u → u ≡ e → MatchBool (nat_eq n 0) (Closes n u e) (Closes n u e → ⊥)
@@ -139,10 +126,6 @@ closes_end (suc n) e last same =
 -- a place at the end of a text is its end
 pub end_is : (text : List ℕ) {u : Place} → u.text ≡ text → AtEnd u → u ≡ place text (length text)
 end_is text same last = same_place same (last ∙ ap length same)
-
--- a character that is neither a brace nor a backslash
-pub is_plain_from : (c : ℕ) → (c ≡ 123 → ⊥) → (c ≡ 125 → ⊥) → (c ≡ 92 → ⊥) → is_plain c ≡ true
-is_plain_from c no_open no_close no_slash = rw (ne_eqb c 123 no_open, ne_eqb c 125 no_close, ne_eqb c 92 no_slash) refl
 
 -- equivalence is transitive
 pub iff_trans : {A B C : Type 0} → A ↔ B → B ↔ C → A ↔ C

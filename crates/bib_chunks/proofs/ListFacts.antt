@@ -138,7 +138,7 @@ verbatim_run : (c : ℕ) (cs : List ℕ) → chunks_of (map Atom.verbatim (c ∷
 verbatim_run c [] = ap (λ t. at_start (Verbatim t) ∷ []) (sym (append-nil (encode_utf8 c)))
 verbatim_run c (d ∷ cs) = ap (before (at_start (Verbatim (encode_utf8 c)))) (verbatim_run d cs)
 
--- appending a chunk changes only the last of the chunks
+-- appending a chunk leaves all chunks before the last one unchanged
 with_chunk-last : (leading_run : List (Spanned Chunk)) (last n : Spanned Chunk)
     → with_chunk (leading_run ++ last ∷ []) n ≡ leading_run ++ before last (n ∷ [])
 with_chunk-last [] last n = refl

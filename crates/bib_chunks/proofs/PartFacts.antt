@@ -11,15 +11,12 @@ use Rattle.std.proofs.lemmas.Str.{scalars-chars, chars-encodes}
 use Rattle.bib_chunks.specs.declared.chunk.Chunk.{Chunk}
 use Rattle.bib_chunks.specs.declared.chunk.Chunk.TheVariants.{Normal, Verbatim, Math}
 use Rattle.bib_text.specs.declared.spanned.Spanned.{Spanned}
+use Rattle.bib_text.proofs.ListFacts.{all_append}
 use Rattle.bib_chunks.specs.Styled.{Atom, atoms_of, styled, text_of}
 use Rattle.bib_chunks.specs.Cuts.{piece, pieces, pieces_between, onto, joined_parts, list_parts, between_commas, comma_list, trimmed_chunk}
 use Rattle.bib_chunks.specs.Parted.{AreTexts, HoldsNoComma, is_normal_comma}
 use Rattle.bib_chunks.proofs.TrimFacts.{IsTrimmed, SaysPiece, piece_says, scalars_parts}
 use Rattle.bib_chunks.proofs.WholeFacts.{rejoined, commas_whole}
-
-all-append : {A : Type 0} (P : A → Type 0) (xs ys : List A) → AllByRecursion P xs → AllByRecursion P ys → AllByRecursion P (xs ++ ys)
-all-append P [] ys one two = two
-all-append P (x ∷ xs) ys one two = (one.0, all-append P xs ys one.1 two)
 
 -- each text between separators consists of valid characters if the whole text does
 texts_valid : (separator : List ℕ) (texts : List (List ℕ)) → scalars (rejoined separator texts) ≡ true
@@ -36,7 +33,7 @@ module _ (P : Spanned Chunk → Type 0) where
   onto_hold : (leading_run : List (Spanned Chunk)) (parts : List (List (Spanned Chunk))) → AllByRecursion P leading_run
       → AllByRecursion (AllByRecursion P) parts → AllByRecursion (AllByRecursion P) (onto leading_run parts)
   onto_hold leading_run [] one hold = (one, tt)
-  onto_hold leading_run (part ∷ parts) one hold = (all-append P leading_run part one hold.0, hold.1)
+  onto_hold leading_run (part ∷ parts) one hold = (all_append P leading_run part one hold.0, hold.1)
 
   joined_hold : (ps : List (Spanned Chunk)) (parts : List (List (Spanned Chunk))) → AllByRecursion P ps
       → AllByRecursion (AllByRecursion P) parts → AllByRecursion (AllByRecursion P) (joined_parts ps parts)

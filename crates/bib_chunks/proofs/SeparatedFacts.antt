@@ -48,7 +48,7 @@ module _ (width : ℕ) (between : List ℕ → List (List ℕ)) (chunk : List �
   blank_prefix span xs = ap (λ cs. flowing false cs ++ formatted_chars_after (ends_in_space false (flowing false cs)) xs) chars-nil
 
   module _ (separator : List ℕ) (is : IsSeparator width between separator) where
-    -- the chunks of texts after separators
+    -- the chunks of texts, each with a separator before it
     abbrev after_separators : List (List ℕ) → Value
     after_separators texts = flat_map (after_separator separator) (map (λ t. alone (chunk t)) texts)
 

@@ -154,7 +154,7 @@ pub math_stuck : (v : Bool) (before : Before) (chunk : Chunk) (text bytes : List
 math_stuck v before chunk text bytes is same utf8 unsettled =
     rw (math_atoms chunk text bytes is same) (λ rest s. unsettled (s.0.1, subst IsParts (encodes-chars bytes utf8) s.0.2))
 
--- without a dollar sign, a math text is settled exactly if its braces balance
+-- without a dollar sign, a math text is settled exactly if its unescaped braces balance and no unescaped backslash ends it (`IsParts`)
 pub math_by_parts : (text : List ℕ) (parts : Bool) → list_any (λ c. c == 36) (chars text) ≡ false
     → MatchBool parts (IsParts text) (IsParts text → ⊥) → MatchBool parts (IsSettledMath text) (IsSettledMath text → ⊥)
 math_by_parts text true none is = (none, is)

@@ -11,6 +11,7 @@ use Rattle.std.proofs.lemmas.Str.{scalars-chars, encodes-chars, encodes-append}
 use Rattle.bib_chunks.specs.declared.chunk.Chunk.{Chunk}
 use Rattle.bib_chunks.specs.declared.chunk.Chunk.TheVariants.{Normal, Verbatim, Math}
 use Rattle.bib_text.specs.declared.spanned.Spanned.{Spanned}
+use Rattle.bib_text.proofs.ListFacts.{all_weaker}
 use Rattle.bib_chunks.specs.Styled.{text_of}
 use Rattle.bib_chunks.specs.Cuts.{further, with_span, chunk_part, piece, pieces, pieces_between, list_parts, between_commas, comma_list, between_ands, trimmed_chunk, trimmed_chunks, trimmed_ends, and_list}
 use Rattle.bib_chunks.specs.Parted.{AreTexts, IsAsLong, StandsInChunk, StandsInOne}
@@ -120,10 +121,6 @@ module _ (whole : List ℕ) (span : Range ℕ) (long : IsAsLong (record { v = No
             (omega (arith, at_is, width, length-append before (here ++ word), length-append here word)),
       )
 
-all_map : {A : Type 0} (P Q : A → Type 0) → ((x : A) → P x → Q x) → (xs : List A) → AllByRecursion P xs → AllByRecursion Q xs
-all_map P Q onward [] all = tt
-all_map P Q onward (x ∷ xs) all = (onward x all.0, all_map P Q onward xs all.1)
-
 module _ (separator : List ℕ) (w : ℕ) (width : w ≡ length (encode_utf8_all separator)) (cut : List ℕ → List (List ℕ))
     (whole_again : (cs : List ℕ) → rejoined separator (cut cs) ≡ cs) where
   pieces_stand : (v : Chunk) (span : Range ℕ) → IsUtf8 (text_of v) → IsAsLong (record { v = v; span = span })
@@ -141,7 +138,7 @@ module _ (separator : List ℕ) (w : ℕ) (width : w ≡ length (encode_utf8_all
       → AllByRecursion (λ c. AllByRecursion (StandsInOne all) (pieces w cut c.v c.span)) chunks
   pieces_in all [] texts long stand = tt
   pieces_in all (c ∷ rest) texts long stand = (
-    all_map (StandsInChunk c) (StandsInOne all)
+    all_weaker (StandsInChunk c) (StandsInOne all)
         (λ here inner. (stand.0.0, stand.0.1, stands_twice stand.0.0 c here stand.0.2 inner)) (pieces w cut c.v c.span)
         (pieces_stand c.v c.span texts.0 long.0),
     pieces_in all rest texts.1 long.1 stand.1,
@@ -159,7 +156,7 @@ later c rest x (k, within, is) = (suc k, omega (arith, within), is)
 
 contains_all : (chunks : List (Spanned Chunk)) → AllByRecursion (Contains chunks) chunks
 contains_all [] = tt
-contains_all (c ∷ rest) = ((0, omega arith, refl), all_map (Contains rest) (Contains (c ∷ rest)) (later c rest) rest (contains_all rest))
+contains_all (c ∷ rest) = ((0, omega arith, refl), all_weaker (Contains rest) (Contains (c ∷ rest)) (later c rest) rest (contains_all rest))
 
 -- chunks of a list are each in one chunk of the list
 stand_all : (all chunks : List (Spanned Chunk)) → AllByRecursion IsAsLong chunks → AllByRecursion (Contains all) chunks
@@ -219,5 +216,5 @@ pub and_list_stands : (chunks : List (Spanned Chunk)) → AreTexts chunks → Al
 and_list_stands chunks texts long =
     let all = all_trimmed chunks true chunks texts long (contains_all chunks) in
     list_stands letters 3 and_width (between_ands false) (ands_whole false) chunks (trimmed_ends chunks) (trimmed_texts true chunks texts)
-    (all_map (StandsLong chunks) IsAsLong (λ c both. both.1) (trimmed_ends chunks) all)
-    (all_map (StandsLong chunks) (StandsInOne chunks) (λ c both. both.0) (trimmed_ends chunks) all)
+    (all_weaker (StandsLong chunks) IsAsLong (λ c both. both.1) (trimmed_ends chunks) all)
+    (all_weaker (StandsLong chunks) (StandsInOne chunks) (λ c both. both.0) (trimmed_ends chunks) all)

@@ -106,7 +106,7 @@ end_parts true text = let cut = dropped text in (cut.0, cut.1, cut.2, λ no. abs
 end_parts false text = ([], sym (append-nil text), refl, λ _. refl)
 
 -- a part of a chunk is a normal chunk with the part's text
-part_chunk : (whole : List ℕ) (span : Range ℕ) (at : ℕ) (text : List ℕ) → (chunk_part whole span at text).v ≡ Normal text
+pub part_chunk : (whole : List ℕ) (span : Range ℕ) (at : ℕ) (text : List ℕ) → (chunk_part whole span at text).v ≡ Normal text
 part_chunk whole span at text =
     elim (length text == length whole) as
     (λ b.

@@ -6,7 +6,7 @@ use Rattle.std.specs.List.{list_all, AllByRecursion}
 use Rattle.std.specs.Str.{IsUtf8, chars}
 use Rattle.std.specs.declared.ops.Range.{Range}
 use Rattle.std.proofs.Math.Utf8.{scalars}
-use Rattle.std.proofs.lemmas.Bool.{and_parts, false≢true, false_from_ne_true}
+use Rattle.std.proofs.lemmas.Bool.{and_parts, false≢true, false_from_ne_true, or_right, or_left}
 use Rattle.std.proofs.lemmas.List.{map-append}
 use Rattle.std.proofs.lemmas.Str.{scalars-chars, chars-encodes, encodes-chars}
 use Rattle.bib_chunks.specs.declared.chunk.Chunk.{Chunk}
@@ -115,13 +115,6 @@ ands_free space (a ∷ []) = (refl, tt)
 ands_free space (a ∷ n ∷ []) = (refl, tt)
 ands_free space (a ∷ n ∷ d ∷ rest) =
     one_free (word_here space (a ∷ n ∷ d ∷ rest)) space a n d rest refl (ands_free false rest) (ands_free (is_whitespace a) (n ∷ d ∷ rest))
-
-or_right : (a b : Bool) → b ≡ true → (a || b) ≡ true
-or_right true b holds = refl
-or_right false b holds = holds
-
-or_left : (a b : Bool) → a ≡ true → (a || b) ≡ true
-or_left a b holds = ap (λ c. c || b) holds
 
 -- `holds_and` is true if `and` occurs between two white space characters
 found_and : (space : Bool) (before following : List ℕ) (s t : ℕ) → is_whitespace s ≡ true → is_whitespace t ≡ true

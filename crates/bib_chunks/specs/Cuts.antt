@@ -28,8 +28,8 @@ abbrev pub trimmed_end : Bool → List ℕ → List ℕ
 trimmed_end true text = trim_end text
 trimmed_end false text = text
 
--- a part of a normal chunk's text as a chunk, given that text, the chunk's span and the number of bytes of the text
--- before the part. It starts that many bytes after the chunk's start and is as long as its text. A part that is the
+-- a part of a normal chunk's text as a chunk. `whole` and `span` are the text and the span of the chunk, and `at` is the number of bytes
+-- of `whole` before the part. The part starts that many bytes after the chunk's start and is as long as its text. A part that is the
 -- whole text has the chunk's span, which may be longer or shorter than the text, as for a command.
 abbrev pub chunk_part : List ℕ → Range ℕ → ℕ → List ℕ → Spanned Chunk
 chunk_part whole span at text =
@@ -64,8 +64,8 @@ abbrev pub onto : List (Spanned Chunk) → List (List (Spanned Chunk)) → List 
 onto chunks [] = chunks ∷ []
 onto chunks (part ∷ parts) = (chunks ++ part) ∷ parts
 
--- the parts of a list that begins with the pieces of a chunk, given the parts after that chunk. The last piece is
--- prepended to the first of these; each other piece ends a part.
+-- the parts of a list that begins with the pieces of a chunk; `parts` are the parts after that chunk. The last piece is
+-- prepended to the first of these; each other piece is a part.
 abbrev pub joined_parts : List (Spanned Chunk) → List (List (Spanned Chunk)) → List (List (Spanned Chunk))
 joined_parts [] parts = parts
 joined_parts (piece ∷ []) parts = onto (piece ∷ []) parts
@@ -112,8 +112,7 @@ trimmed_chunk first last (Normal text) span = piece text span 0 first last text
 trimmed_chunk first last (Verbatim text) span = with_span (Verbatim text) span.start span.end
 trimmed_chunk first last (Math text) span = with_span (Math text) span.start span.end
 
--- chunks without the white space at the start of the first one (if `first`) and at the end of the last one, if these
--- are normal
+-- chunks without white space at the start of the first one (if `first`) and at the end of the last one, if these are normal
 abbrev pub trimmed_chunks : Bool → List (Spanned Chunk) → List (Spanned Chunk)
 trimmed_chunks first [] = []
 trimmed_chunks first (c ∷ []) = trimmed_chunk first true c.v c.span ∷ []
@@ -123,8 +122,8 @@ trimmed_chunks first (c ∷ next ∷ more) = trimmed_chunk first false c.v c.spa
 abbrev pub trimmed_ends : List (Spanned Chunk) → List (Spanned Chunk)
 trimmed_ends = trimmed_chunks true
 
--- the parts of an `and` list: its ends are trimmed, and it is cut at each word `and` between white space inside one
--- normal chunk
+-- The parts of an `and` list. First its ends are trimmed. Then it is cut at each word `and` that has white space right before
+-- and after it inside one normal chunk.
 abbrev pub and_list : List (Spanned Chunk) → List (List (Spanned Chunk))
 and_list chunks = list_parts 3 (between_ands false) (trimmed_ends chunks)
 
@@ -143,8 +142,8 @@ both_pieces width whole span both = (
   piece whole span (length (encode_utf8_all both.0) + width) true false (encode_utf8_all both.1),
 )
 
--- the two pieces of a normal chunk before and after its first `separator`, without the white space next to it; none if
--- the chunk isn't normal or has no such character
+-- The pieces of a normal chunk before and after its first `separator`, without the white space next to it. None if the chunk
+-- isn't normal or lacks `separator`.
 abbrev pub halves : Chunk → Range ℕ → ℕ → Option (Spanned Chunk × Spanned Chunk)
 halves (Normal text) span separator = option_map (both_pieces (len_utf8 separator) text span) (cut_characters separator (chars text))
 halves (Verbatim text) span separator = None
@@ -156,7 +155,7 @@ abbrev pub cut_after : List (Spanned Chunk) → Option (List (Spanned Chunk) × 
 cut_after chunks None = None
 cut_after chunks (Some cut) = Some (chunks ++ cut.0, cut.1)
 
--- the cut of a chunk and the chunks `rest` after it, given the halves of the chunk and the cut of `rest`
+-- the cut of a chunk and the chunks `rest` after it, from the halves of the chunk and the cut of `rest`
 abbrev pub cut_first : Spanned Chunk → List (Spanned Chunk) → Option (Spanned Chunk × Spanned Chunk)
     → Option (List (Spanned Chunk) × List (Spanned Chunk)) → Option (List (Spanned Chunk) × List (Spanned Chunk))
 cut_first c rest (Some both) later = Some (both.0 ∷ [], both.1 ∷ rest)

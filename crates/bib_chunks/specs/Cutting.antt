@@ -44,8 +44,8 @@ pub record IsAnd (text following : List ℕ) : Type 0 where
 abbrev pub NoAnd : List ℕ → Type 0
 NoAnd text = (following : List ℕ) → IsAnd text following → ⊥
 
--- `before` and `following` are the texts before and after the first word `and` of a text that has white space right
--- before and after it, both UTF-8
+-- `before` and `following` are UTF-8. They are the texts before and after the first word `and` of a text that has white space
+-- right before and after it.
 pub record IsFirstAnd (text before following : List ℕ) : Type 0 where
   pub word : text ≡ before ++ (codes "and" ++ following)
   pub cut : between_ands false (chars text) ≡ chars before ∷ between_ands false (chars following)

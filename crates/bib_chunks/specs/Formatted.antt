@@ -21,31 +21,33 @@ abbrev pub ends_in_space : Bool → List ℕ → Bool
 ends_in_space empty [] = empty
 ends_in_space empty (c ∷ cs) = ends_in_space (is_whitespace c) cs
 
--- what replaces a character of a normal text. A line break is replaced by a space, or by nothing if the last character
--- written before it is white space, which the flag says. Any other character is kept.
+-- the replacement of a character of a normal text. A line break is replaced by a space, or by nothing if the flag is true. Any
+-- other character is kept.
 abbrev pub char_on_line : Bool → ℕ → List ℕ
 char_on_line space c = if is_break c then (if space then [] else char.space ∷ []) else c ∷ []
 
--- a normal text on one line; the flag says whether the last character written before it is white space
+-- a normal text on one line; the flag says whether a line break at its start is dropped. After its first character is written,
+-- a line break is dropped if the last character written is white space.
 abbrev pub flowing : Bool → List ℕ → List ℕ
 flowing space [] = []
 flowing space (c ∷ cs) = char_on_line space c ++ flowing (ends_in_space space (char_on_line space c)) cs
 
--- whether the last character written is white space after a chunk, given the same before it. Math leaves it unchanged,
--- and after an empty verbatim chunk it is false.
+-- Whether a line break right after a chunk is dropped: whether the formatted chunk ends in white space. `space` says whether one
+-- right before the chunk is. Math leaves it unchanged, as does a normal chunk that is empty once formatted. After an empty
+-- verbatim chunk it is false.
 abbrev pub space_after : Bool → Chunk → Bool
 space_after space (Normal text) = ends_in_space space (flowing space (chars text))
 space_after space (Verbatim text) = ends_in_space false (chars text)
 space_after space (Math text) = space
 
--- one chunk, formatted: normal text on one line and recased, verbatim text unchanged, and math between dollar signs;
--- the flag says whether the last character written before it is white space
+-- One chunk, formatted: normal text on one line and recased, verbatim text unchanged, and math between dollar signs. The flag
+-- says whether a line break at its start is dropped.
 abbrev pub formatted_chunk : (List ℕ → List ℕ) → Bool → Chunk → List ℕ
 formatted_chunk recased space (Normal text) = recased (flowing space (chars text))
 formatted_chunk recased space (Verbatim text) = chars text
 formatted_chunk recased space (Math text) = char.dollar ∷ (chars text ++ char.dollar ∷ [])
 
--- chunks formatted without change of case; the flag says whether the last character written before them is white space
+-- chunks formatted without change of case; the flag says whether a line break at their start is dropped
 abbrev pub formatted_chars_after : Bool → List (Spanned Chunk) → List ℕ
 formatted_chars_after space [] = []
 formatted_chars_after space (c ∷ rest) = formatted_chunk (λ cs. cs) space c.v ++ formatted_chars_after (space_after space c.v) rest
@@ -54,8 +56,8 @@ formatted_chars_after space (c ∷ rest) = formatted_chunk (λ cs. cs) space c.v
 abbrev pub formatted_chars : List (Spanned Chunk) → List ℕ
 formatted_chars = formatted_chars_after false
 
--- a styled text, formatted: normal characters on one line, verbatim ones unchanged, and math between dollar signs; the
--- flag says whether the last character written before it is white space
+-- A styled text, formatted: normal characters on one line, verbatim ones unchanged, and math between dollar signs. The flag
+-- says whether a line break at its start is dropped.
 abbrev pub formatted_atoms : Bool → List Atom → List ℕ
 formatted_atoms space [] = []
 formatted_atoms space (Atom.normal c ∷ rest) = char_on_line space c ++ formatted_atoms (ends_in_space space (char_on_line space c)) rest
@@ -75,7 +77,7 @@ sentence_case begins [] = []
 sentence_case begins (c ∷ cs) = upper_or_lower begins c ++ flat_map to_lowercase cs
 
 -- chunks formatted in sentence case. The first flag says whether the first of them begins the sentence, the second one
--- whether the last character written before them is white space.
+-- whether a line break at their start is dropped.
 abbrev pub sentence_after : Bool → Bool → List (Spanned Chunk) → List ℕ
 sentence_after begins space [] = []
 sentence_after begins space (c ∷ rest) =

@@ -11,14 +11,14 @@ AreJoined [] = Unit {0}
 AreJoined (c ∷ []) = Unit {0}
 AreJoined (c ∷ d ∷ rest) = (is_same_kind c.v d.v ≡ false) × AreJoined (d ∷ rest)
 
--- the spans of the chunks lie between `low` and `high`. None ends before it starts, and each starts at or after the end
--- of the one before it.
+-- No span of the chunks starts before `low` or ends after `high`. None ends before it starts, and each starts at or after
+-- the end of the one before it.
 abbrev pub ArePlaced : ℕ → ℕ → List (Spanned Chunk) → Type 0
 ArePlaced low high [] = low ≤ high
 ArePlaced low high (c ∷ rest) = (low ≤ c.span.start) × (c.span.start ≤ c.span.end) × ArePlaced c.span.end high rest
 
 -- `whole` has the atoms of `first` and then those of `second`, and the span from the start of `first` to the end of
--- `second`. A chunk before it is of its kind exactly if that chunk is of the kind of `first`.
+-- `second`. For each other chunk, `is_same_kind` has the same value with `whole` as with `first`.
 pub record IsWhole (first second whole : Spanned Chunk) : Type 0 where
   pub says : atoms_of whole.v ≡ atoms_of first.v ++ atoms_of second.v
   pub kind : (before : Chunk) → is_same_kind before whole.v ≡ is_same_kind before first.v

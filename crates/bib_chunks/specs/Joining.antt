@@ -5,8 +5,8 @@ use Rattle.bib_chunks.specs.declared.chunk.Chunk.{Chunk}
 use Rattle.bib_text.specs.declared.spanned.Spanned.{Spanned}
 use Rattle.bib_chunks.specs.Lists.{before}
 
--- chunks with another one appended; it is merged with the last of them if both are normal or both verbatim, and then
--- has the span of the last
+-- Chunks with another one appended. If it and the last of them are both normal or both verbatim, they are merged, with the span
+-- of the last.
 abbrev pub with_chunk : List (Spanned Chunk) → Spanned Chunk → List (Spanned Chunk)
 with_chunk [] chunk = chunk ∷ []
 with_chunk (last ∷ []) chunk = before last (chunk ∷ [])

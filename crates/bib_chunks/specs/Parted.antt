@@ -68,13 +68,13 @@ HasNoAnd text =
     (before following : List ℕ) (s t : ℕ) → is_whitespace s ≡ true → is_whitespace t ≡ true
     → text ≡ before ++ (s ∷ char.letter_a ∷ char.letter_n ∷ char.letter_d ∷ t ∷ following) → ⊥
 
--- a chunk isn't normal or contains no such word
+-- a chunk isn't normal, or it contains no word `and` with white space right before and after it
 abbrev pub IsWithoutAnd : Chunk → Type 0
 IsWithoutAnd (Normal text) = HasNoAnd (chars text)
 IsWithoutAnd (Verbatim text) = Unit {0}
 IsWithoutAnd (Math text) = Unit {0}
 
--- no normal chunk of these contains such a word
+-- no normal chunk of these contains a word `and` with white space right before and after it
 abbrev pub HoldsNoAnd : List (Spanned Chunk) → Type 0
 HoldsNoAnd = AllByRecursion (λ c. IsWithoutAnd c.v)
 

@@ -1,12 +1,12 @@
 -- Meaning: words of public contracts.
--- Lists that are written with a separator between each two parts: a comma in `keywords`, the word `and` in lists of
--- names and places.
+-- Lists that are written with a separator between each two parts: a comma in `keywords`, for example, or the word `and`
+-- between names.
 use Rattle.std.specs.Prelude.{ℕ, List, [], ◌∷◌, ◌++◌, codes}
 use Rattle.std.specs.List.{flat_map}
 use Rattle.bib_chunks.specs.declared.chunk.Chunk.TheVariants.{Normal}
 use Rattle.bib_chunks.specs.Values.{Value, nowhere}
 
--- a part of a list with the separator before it, as a normal chunk with a detached span
+-- a part of a list after a separator, which is a normal chunk with a detached span
 abbrev pub after_separator : List ℕ → Value → Value
 after_separator separator part = nowhere (Normal separator) ∷ part
 

@@ -1,5 +1,5 @@
 -- Meaning: words of public contracts.
--- Settled text: styled text that parses back to itself once it is written.
+-- Settled text: conditions on styled text under which it parses back to itself once it is written.
 use Rattle.std.specs.Prelude.{◌≡◌, ℕ, Bool, true, false, ◌==◌, ◌&&◌, ◌||◌, List, [], ◌∷◌, encode_utf8_all}
 use Rattle.std.specs.Char.{is_whitespace}
 use Rattle.std.specs.List.{list_any, AllByRecursion}
@@ -8,7 +8,7 @@ use Rattle.bib_chunks.specs.Styled.{Atom}
 use Rattle.bib_text.specs.Characters as char
 
 -- an atom that may occur in settled text. A normal or verbatim character may be white space only if it is U+0020. Math
--- requires a field that isn't verbatim; it contains no `$`, and its braces balance.
+-- requires a field that isn't verbatim. It contains no `$`, its unescaped braces balance, and no unescaped backslash ends it.
 abbrev pub IsSettledAtom : Bool → Atom → Type 0
 IsSettledAtom is_verbatim (Atom.normal c) = is_whitespace c ≡ true → c ≡ char.space
 IsSettledAtom is_verbatim (Atom.verbatim c) = is_whitespace c ≡ true → c ≡ char.space

@@ -50,8 +50,8 @@ IsStuckIn is_verbatim before atoms = (rest : List Atom) → AreSettledAfter is_v
 abbrev pub IsUnsettledAfter : Before → List Atom → Type 0
 IsUnsettledAfter before atoms = (is_verbatim : Bool) → IsStuckIn is_verbatim before atoms
 
--- `atoms` followed by any text is settled after `before` exactly if `more` followed by it is settled after `after`; the
--- flag says whether the field is a verbatim one
+-- For any text, `atoms` and that text are settled after `before` exactly if `more` and that text are settled after `after`. The
+-- flag says whether the field is a verbatim one.
 abbrev pub ContinuesIn : Bool → Before → List Atom → Before → List Atom → Type 0
 ContinuesIn is_verbatim before atoms after more =
     (rest : List Atom) → AreSettledAfter is_verbatim before (atoms ++ rest) ↔ AreSettledAfter is_verbatim after (more ++ rest)
@@ -60,6 +60,6 @@ ContinuesIn is_verbatim before atoms after more =
 abbrev pub Continues : Before → List Atom → Before → List Atom → Type 0
 Continues before atoms after more = (is_verbatim : Bool) → ContinuesIn is_verbatim before atoms after more
 
--- a math text, in bytes, that may occur in settled text outside verbatim fields
+-- the math text, in bytes, may occur in settled text outside verbatim fields
 abbrev pub IsSettledMath : List ℕ → Type 0
 IsSettledMath text = (list_any (λ c. c == char.dollar) (chars text) ≡ false) × IsParts text

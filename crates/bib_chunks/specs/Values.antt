@@ -1,6 +1,6 @@
 -- Meaning: words of public contracts.
--- Chunks as values: the formatted text of chunks, and chunks that weren't parsed from a file. These have a detached
--- span: both ends are the greatest 64-bit number, as in the Rust crate `biblatex`.
+-- Chunks as values: the formatted text of chunks, and chunks with a detached span. Both ends of such a span are the greatest
+-- 64-bit number, as in the Rust crate `biblatex`.
 use Rattle.std.specs.Prelude.{ℕ, ◌-◌, ◌^◌, List, [], ◌∷◌, encode_utf8_all}
 use Rattle.std.specs.Str.{str_to_ascii_lowercase}
 use Rattle.bib_chunks.specs.declared.chunk.Chunk.{Chunk}

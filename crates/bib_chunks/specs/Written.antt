@@ -1,5 +1,5 @@
 -- Meaning: words of public contracts.
--- Values as a file has them. A written text is a list of its characters.
+-- Values as they are written in a file. A written text is a list of its characters.
 use Rattle.std.specs.Prelude.{ℕ, Bool, true, false, ◌==◌, ◌||◌, if◌then◌else◌, List, [], ◌∷◌, ◌++◌, codes}
 use Rattle.std.specs.List.{flat_map}
 use Rattle.std.specs.Str.{chars}
@@ -16,9 +16,9 @@ is_grouping c = c == char.open_brace || c == char.close_brace || c == char.backs
 unfoldable pub is_reserved : ℕ → Bool
 is_reserved c = c == char.hash || c == char.ampersand || c == char.percent || c == char.dollar || c == char.underscore
 
--- how a character is written: a grouping one after a backslash in every field, any other unchanged in a verbatim field;
--- outside verbatim fields a reserved one after a backslash, and the tilde and the circumflex as the commands that print
--- them
+-- How a character is written. A grouping one is written after a backslash in every field. In a verbatim field, any other is
+-- unchanged. In other fields, a reserved one is written after a backslash, the tilde and the circumflex as commands, and any
+-- other unchanged.
 unfoldable pub char_spelling : Bool → ℕ → List ℕ
 char_spelling is_verbatim c =
     if is_grouping c then char.backslash ∷ c ∷ []
@@ -54,7 +54,7 @@ trail (Normal text) = []
 trail (Verbatim text) = []
 trail (Math text) = char.dollar ∷ []
 
--- whether the braces around verbatim chunks are open after a chunk, given whether they are open before it
+-- whether the braces around verbatim chunks are open after a chunk; the flag says whether they are open before it
 abbrev pub is_open_after : Bool → Chunk → Bool
 is_open_after is_open (Normal text) = false
 is_open_after is_open (Verbatim text) = true

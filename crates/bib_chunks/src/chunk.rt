@@ -57,13 +57,13 @@ impl Chunk {
         }
     }
 
-    /// Returns the text of the chunk as a file has it, without braces and dollar signs around it. `is_verbatim` says
+    /// Returns the text of the chunk as it is written in a file, without braces and dollar signs around it. `is_verbatim` says
     /// whether the field is a verbatim one.
     ///
-    /// Braces and backslashes are escaped by a backslash, outside verbatim fields also `#`, `&`, `%`, `$` and `_`. There
-    /// `~` is written `\textasciitilde{}` and `^` is written `\textasciicircum{}`, but math is written unchanged. A
-    /// command that the parser does not know is plain text: `\emph{x}` is written `\\emph\{x\}`. The edits and `convert`
-    /// of `bibkit` keep a file's own text.
+    /// Outside verbatim fields, math is written unchanged. In any other text, braces and backslashes are escaped by a backslash,
+    /// outside verbatim fields also `#`, `&`, `%`, `$` and `_`. There `~` is written `\textasciitilde{}` and `^` is written
+    /// `\textasciicircum{}`. A command that the parser doesn't know is plain text: `\emph{x}` is written `\\emph\{x\}`. The edits
+    /// and `convert` of `bibkit` don't use this function: they keep the text of the file.
     ///
     /// The only error is out of memory.
     pub fn to_biblatex_string(&self, alloc: Global, is_verbatim: bool) -> Result<String, AllocError>

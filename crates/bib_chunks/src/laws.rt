@@ -21,8 +21,8 @@ pub fn no_comma_in_parts()
         AllByRecursion HoldsNoComma (comma_list chunks) }
 {}
 
-/// States that the parts of an `and` list with the word `and` between them are its styled text, except for normal white
-/// space next to the words and at both ends.
+/// States that the parts of an `and` list, with `and` between them, are its styled text. Only normal white space next to each
+/// `and` and at both ends is missing.
 pub fn and_list_is_whole()
     ensures { (chunks : List (APlaced AChunk)) → AreTexts chunks → (inside : List Atom) ×
         IsSpaced inside (styled chunks) × IsList and_word (map styled (and_list chunks)) inside }

@@ -69,7 +69,7 @@ fn merge_neighbours(alloc: Global, chunks: ChunksRef<'_>) -> Result<Chunks, Allo
 
 /// Splits a comma list and returns its parts, each formatted by `format_styled`.
 ///
-/// The list is cut in its styled text: empty normal and verbatim chunks are ignored, and neighbours that are both normal
+/// The list is cut in its styled text. So empty normal and verbatim chunks are ignored, and neighbours that are both normal
 /// or both verbatim count as one chunk. The only error is out of memory.
 pub fn comma_texts(alloc: Global, chunks: ChunksRef<'_>) -> Result<Vec<Text>, AllocError>
     ensures { IfOk result (λ texts. texts.items ≡ comma_texts (styled chunks.now)) }

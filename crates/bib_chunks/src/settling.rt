@@ -1,4 +1,4 @@
-//! Decides whether written chunks parse back to the same styled text.
+//! Decides whether chunks are settled. If they are, they parse back to the same styled text once they are written.
 
 ghost use Rattle.std.specs.Prelude.{◌≡◌, ◌==◌, ◌↔◌, [], IsTrue, MatchBool, MatchOption};
 ghost use Rattle.std.specs.List.{list_any};
@@ -78,7 +78,8 @@ fn holds_dollar(text: &str) -> bool
     scanner.eat().is_some()
 }
 
-// Returns whether the braces of a text balance. A backslash escapes the next character, so it can't be the last one.
+// Returns whether the unescaped braces of a text balance and no unescaped backslash ends it. A backslash escapes the next
+// character.
 fn is_parts(text: &str) -> bool
     ensures { MatchBool result (IsParts text.now) (IsParts text.now → ⊥) }
 {
@@ -105,7 +106,7 @@ fn is_parts(text: &str) -> bool
     depth == 0
 }
 
-// Returns whether a math text parses back to itself outside verbatim fields.
+// Returns whether a math text may occur in settled text outside verbatim fields.
 fn is_settled_math(text: &str) -> bool
     ensures { MatchBool result (IsSettledMath text.now) (IsSettledMath text.now → ⊥) }
 {
@@ -135,12 +136,12 @@ fn after_chunk(chunk: &Chunk, is_verbatim: bool, before: Before) -> Option<Befor
     }
 }
 
-/// Returns whether a value parses back to the same styled text once it is written. `is_verbatim` says whether its field
-/// is a verbatim one. Does not allocate.
+/// Returns whether a value is settled. If it is, it parses back to the same styled text once it is written. `is_verbatim`
+/// says whether its field is a verbatim one. Does not allocate.
 ///
-/// It does if the following hold. The only white space of its normal and verbatim chunks is U+0020. No two spaces and
-/// no two hyphens are neighbours if both are normal or both verbatim. A verbatim field contains no math; in other
-/// fields each math text has balanced braces and contains no dollar sign.
+/// A value is settled if and only if the following hold. The only white space of its normal and verbatim chunks is U+0020.
+/// No two spaces and no two hyphens are neighbours if both are normal or both verbatim. A verbatim field contains no math. In
+/// other fields, each math text has balanced unescaped braces, no dollar sign, and no unescaped backslash at its end.
 pub fn is_settled(chunks: ChunksRef<'_>, is_verbatim: bool) -> bool
     ensures { IsTrue result ↔ IsSettled (styled chunks.now) is_verbatim }
 {

@@ -1,5 +1,6 @@
 pub mod ClaimsFacts
 pub mod CopyFacts
+pub mod LeadFacts
 pub mod LookingFacts
 pub mod NamesFacts
 pub mod RetainingFacts

@@ -11,7 +11,7 @@ use Rattle.bib_collections.specs.Graph.{Graph, IsFirstOnCycle}
 abbrev pub rows : List (Vec ℕ Global) → Graph
 rows refs = map (λ row. row.items) refs
 
--- what an error states about the graph: for `Cycle`, that its index is the first on a cycle; for `OutOfMemory`, nothing
+-- the statement of an error about the graph: for `Cycle`, that its index is the first on a cycle; for `OutOfMemory`, nothing
 abbrev pub IsOrderError : Graph → OrderError → Type 0
 IsOrderError graph OutOfMemory = Unit {0}
 IsOrderError graph (Cycle index) = IsFirstOnCycle graph index

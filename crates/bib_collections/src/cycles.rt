@@ -94,7 +94,7 @@ fn post_order(alloc: Global, refs: &[Vec<usize>]) -> Result<Vec<usize>, AllocErr
 }
 
 // The results of `search`. An index that leads to itself is a suspect. The root of an index leads to it. Because of the
-// order of `post_order`, only indices that lead to themselves are suspects, and each index leads to its root; these two
+// order of `post_order`, only indices that lead to themselves are suspects, and each index with a root leads to it. These two
 // facts aren't proved.
 struct Searches {
     suspects: Vec<bool>,

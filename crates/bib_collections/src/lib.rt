@@ -1,23 +1,23 @@
 //! Sorted maps by text, names that point to the indices of entries, and a topological order of references.
 //!
-//! A `TextMap` is a sorted vector of names and values. `Names` is a sorted vector of names and indices of entries. For the
-//! few fields of an entry, each takes half the memory of a tree. `sorted` contains the look-ups. `TextMap::get` compares the
-//! names one by one if there are at most 16, because most differ in length. All other look-ups are binary searches. `Claims`
-//! is a tree, because a sorted vector would move half of its names for each key of a file that is loaded.
+//! A `TextMap` is a sorted vector of names and values, and `Names` of names and indices of entries. For the few fields of an
+//! entry, a vector takes half the memory of a tree. `sorted` contains the look-ups in both. `TextMap::get` compares the names
+//! one by one if there are at most 16, because most differ in length. Other look-ups are binary searches. `Claims` is a tree,
+//! because a sorted vector would on average move half of its names for each key of a file that is loaded.
 //!
 //! `worklist` orders entries such that each comes after all that it refers to. For each entry, it counts the references to
 //! entries that aren't done, and lists the entries that wait for it. An entry with a count of 0 is done, and lowers the
 //! counts of the entries that wait for it.
 //!
-//! An entry *leads* to another if a chain of one or more references goes from it to the other. If some entries are never
-//! done, `cycles` finds those on a cycle, which lead to themselves. A depth-first search against the direction of the
+//! One entry *leads* to a second one if a chain of one or more references goes from it to the second. Both may be the same. If
+//! some entries are never done, `cycles` finds those that lead to themselves. A depth-first search against the direction of the
 //! references leaves the entries in some order. In the reverse of this order, a search along the references starts at each
 //! entry without a mark. It marks the entries without a mark that the start leads to. The start is the root of these
 //! entries. A walk back from the root, among the entries with this root, finds those that lead to the root. Since the root
 //! leads to them, they lead to themselves.
 //!
-//! It isn't proved that these searches decide every entry, so a separate search would start from each undecided one. In all,
-//! this takes time linear in the number of references. No function is recursive.
+//! It isn't proved that these searches decide every entry, so a separate search would start from each undecided one. If there
+//! is none, the time is linear in the number of entries and references. No function is recursive.
 #![tactic(auto)]
 
 pub mod claims;

@@ -197,11 +197,6 @@ pub accents_one : (bytes rest : List ℕ) (c : ℕ) → IsUtf8 bytes → bytes �
 accents_one bytes [] c utf8 spells none = chars_past_char bytes [] c utf8 spells ∙ ap (λ cs. c ∷ cs) chars-nil
 accents_one bytes (r ∷ rest) c utf8 spells none = let empty : length (r ∷ rest) ≡ 0 = eqb-true _ _ none in absurd (omega arith)
 
--- an empty text has no characters
-pub chars_none : (bytes : List ℕ) → length bytes ≡ 0 → chars bytes ≡ []
-chars_none [] none = chars-nil
-chars_none (b ∷ bytes) none = absurd (omega arith)
-
 -- the text of `o` without an argument
 pub other_o : (name : List ℕ) → name ≡ 111 ∷ [] → other (chars name) None ≡ 248 ∷ []
 unfolding chars

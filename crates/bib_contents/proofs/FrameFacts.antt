@@ -7,6 +7,7 @@ use Rattle.std.proofs.Math.Seq.{take-append-add}
 use Rattle.std.proofs.lemmas.List.{drop-take, length-take}
 use Rattle.std.proofs.lemmas.Str.{encodes-append, encodes-chars, length-le-encodes}
 use Rattle.bib_text.specs.Places.{Place}
+use Rattle.bib_text.proofs.ListFacts.{some_same}
 use Rattle.bib_chunks.specs.Formatted.{formatted_atoms}
 use Rattle.bib_chunks.specs.Styled.{Atom}
 use Rattle.bib_contents.specs.Arguments.{AreKnown, Closes, IsInside, KeepsFrame, IsReadTo, IsShorterThan, StandsRight, flat_if, argument_written}
@@ -28,7 +29,6 @@ use Rattle.bib_contents.proofs.UnitFacts.{command_parts}
 use Rattle.bib_contents.proofs.ArgumentReading.{fails_argument, name_plain, read_more, written_none}
 use Rattle.bib_contents.proofs.LaidFacts.{is_flat_at, laid_given, written_characters, led_characters, capped_given}
 use Rattle.bib_contents.proofs.ReaderFacts.{goes_here, goes_unit, unit_shorter}
-use Rattle.bib_contents.proofs.TakingFacts.{held_is}
 use Rattle.bib_contents.proofs.WholeFacts.{whole_reads, whole_capped}
 
 -- `frame` is that of the command `name`, and its text begins after `under` and the text before the argument; it lies
@@ -173,7 +173,7 @@ module _ {first_name first_whole first_under : List ℕ} {ends : Ends} {low high
         read =
             read_more (map (character below.depth) said) (command_text name (Some (argument_written is_flat atoms))) read
             (goes_unit {u = ContentUnit.command name space (Argument.braced whole)} {inner = atoms} one refl
-            (λ argument holds. subst (λ t. Reads false 0 t atoms) (held_is holds) inner) refl)
+            (λ argument holds. subst (λ t. Reads false 0 t atoms) (some_same holds) inner) refl)
             (led_characters below.depth said (capped_given name formatted plain capped).first)
             (written_characters below.is_flat below.depth said
             ∙ laid_given (is_flat_at below.is_flat below.depth) name formatted plain capped
@@ -327,7 +327,7 @@ unit_ahead u s t one next =
     let wide : length (unit_spelling u) ≤ length (encode_utf8_all (unit_spelling u)) = length-le-encodes (unit_spelling u) in
     omega arith
 
--- the text after a command and its argument are together shorter than the text before it
+-- the rest and a command's argument in braces are together at least two characters shorter than the text that begins with the command
 pub applied_shorter : (name space argument before rest : List ℕ)
     → IsNext false (ContentUnit.command name space (Argument.braced argument)) before rest
     → length rest + length argument + 1 < length before

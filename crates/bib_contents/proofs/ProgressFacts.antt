@@ -1,13 +1,13 @@
 -- Facts about the characters that a cursor passes.
-use Rattle.std.proofs.Common.{◌≡◌, ℕ, ◌+◌, Bool, true, false, List, [], ◌∷◌, ◌++◌, length, refl, sym, ap, ◌∙◌, subst, arith, append_assoc, length-append, Option, None, Some, MatchOption, MatchBool}
+use Rattle.std.proofs.Common.{◌≡◌, ℕ, ◌+◌, Bool, true, false, List, [], ◌∷◌, ◌++◌, refl, sym, ap, ◌∙◌, subst, arith, append_assoc, Option, None, Some, MatchOption, MatchBool}
 use Rattle.std.specs.Prelude.{◌==◌, encode_utf8_all}
 use Rattle.std.specs.List.{list_all}
 use Rattle.std.specs.Str.{chars, IsUtf8}
 use Rattle.std.proofs.lemmas.Bool.{eqb-true, false_from_ne_true}
-use Rattle.std.proofs.lemmas.Str.{encodes-append, encodes-chars}
+use Rattle.std.proofs.lemmas.Str.{encodes-chars}
 use Rattle.bib_text.specs.Places.{Place, CharAt, Longest, Stops, AtEnd, between}
 use Rattle.bib_text.proofs.PlaceFacts.{char_here}
-use Rattle.bib_text.proofs.TextFacts.{ahead, MovesPast, passed_char, passed_run, passed_between, chars_at_end, chars_whole}
+use Rattle.bib_text.proofs.TextFacts.{ahead, MovesPast, joined_bytes, joined_offset, passed_char, passed_run, passed_between, chars_at_end, chars_whole}
 use Rattle.bib_contents.specs.Contents.{begins}
 use Rattle.bib_contents.specs.Progress.{left, Passes}
 
@@ -18,17 +18,10 @@ passes passed = record { same = passed.same; here = passed.here; next = passed.n
 -- one run of characters after another is one run
 pub passes_then : {u v w : Place} {cs ds : List ℕ} → Passes u cs v → Passes v ds w → Passes u (cs ++ ds) w
 passes_then {u} {v} {w} {cs} {ds} first second =
-    let joined : encode_utf8_all (cs ++ ds) ≡ encode_utf8_all cs ++ encode_utf8_all ds = encodes-append cs ds in
-    let sizes : length (encode_utf8_all (cs ++ ds)) ≡ length (encode_utf8_all cs) + length (encode_utf8_all ds) =
-    ap length joined ∙ length-append (encode_utf8_all cs) _ in
-    let next_first : v.at ≡ u.at + length (encode_utf8_all cs) = first.next in
-    let next_second : w.at ≡ v.at + length (encode_utf8_all ds) = second.next in
     record {
       same = second.same ∙ first.same;
-      here =
-          first.here ∙ ap (λ bs. encode_utf8_all cs ++ bs) second.here ∙ sym (append_assoc (encode_utf8_all cs) _ _)
-          ∙ ap (λ bs. bs ++ ahead w) (sym joined);
-      next = omega arith;
+      here = joined_bytes cs ds _ _ _ first.here second.here;
+      next = joined_offset cs ds _ _ _ first.next second.next;
       left = first.left ∙ ap (λ bs. cs ++ bs) second.left ∙ sym (append_assoc cs ds _);
     }
 

@@ -185,8 +185,3 @@ nothing_grows out growing empty =
     sym
     (ap (λ cs. styled out ++ map (character growing.depth) cs) (ap chars empty ∙ chars-nil)
     ∙ append-nil (styled out))
-
--- a text of length 0 is empty
-pub no_bytes : (bs : List ℕ) → length bs ≡ 0 → bs ≡ []
-no_bytes [] none = refl
-no_bytes (b ∷ bs) none = absurd (omega (arith, none))

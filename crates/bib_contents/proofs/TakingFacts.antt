@@ -10,6 +10,7 @@ use Rattle.bib_chunks.specs.Writing.{Writes}
 use Rattle.bib_chunks.specs.declared.chunk.Chunk.{Chunk}
 use Rattle.bib_text.specs.declared.spanned.Spanned.{Spanned}
 use Rattle.bib_text.proofs.TextFacts.{chars_whole}
+use Rattle.bib_text.proofs.ListFacts.{some_same}
 use Rattle.bib_contents.specs.Contents.{Argument, ContentUnit, IsNext, unit_spelling, Reads, character, meaning, is_closable, depth_after, inner_text, unit_text}
 use Rattle.bib_chunks.specs.Joined.{ArePlaced}
 use Rattle.bib_contents.specs.Progress.{Took, left, so_far}
@@ -48,10 +49,6 @@ text_unit depth shown.Backslash = record { closable = refl; deep = refl; means =
 text_unit depth (shown.Copied c) = record { closable = refl; deep = refl; means = λ inner. refl }
 text_unit depth (shown.Command name space argument) = record { closable = refl; deep = refl; means = λ inner. refl }
 text_unit depth (shown.Other c) = record { closable = refl; deep = refl; means = λ inner. refl }
-
--- two arguments of one unit are equal
-pub held_is : {text argument : List ℕ} → Some text ≡ Some argument → text ≡ argument
-held_is same = cc
 
 -- characters were appended to the open chunk
 took_characters : (u : ContentUnit) (growing grown : OpenChunk) (out : List (Spanned Chunk)) (inner : List Atom)
@@ -93,7 +90,7 @@ pub took_applied : (name space argument : List ℕ) (growing grown : OpenChunk) 
 took_applied name space argument growing grown out inner read written depth =
     took_characters (ContentUnit.command name space (Argument.braced argument)) growing grown out inner record
     { closable = refl; deep = refl; means = λ inner. refl }
-    (λ text holds. subst (λ t. Reads false 0 t inner) (held_is holds) read) written depth
+    (λ text holds. subst (λ t. Reads false 0 t inner) (some_same holds) read) written depth
 
 -- a unit that isn't put on one line is written as its text
 as_is : (unit : TextUnit) → unit_written false (text_unit_of unit) ≡ unit_text (text_unit_of unit) []

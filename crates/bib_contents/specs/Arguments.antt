@@ -17,7 +17,7 @@ use Rattle.bib_contents.specs.declared.units.Unit as units
 use Rattle.bib_contents.specs.declared.units.Unit.TheVariants.{Applied}
 use Rattle.bib_text.specs.Characters as char
 
--- a closing brace is at byte `end` of the text, and the braces from `begin` to it balance
+-- a closing brace is at byte `end` of the text, and the braces from `begin` to before it balance
 pub record Closes (text : List ℕ) (begin end : ℕ) : Type 0 where
   pub inside : List ℕ
   pub width : end ≡ begin + length (encode_utf8_all inside)
@@ -44,7 +44,7 @@ pub record Encloses (u inside v : Place) : Type 0 where
   pub spelt : left u ≡ left inside ++ char.close_brace ∷ left v
   pub balanced : balances 0 (left inside) ≡ true
 
--- if a unit is a command with an argument in braces, that is between `low` and `high` in the text
+-- if a unit is a command with an argument in braces, the argument is between `low` and `high` in the text
 abbrev pub IsArgumentBetween : List ℕ → ℕ → units.Unit → ℕ → Type 0
 IsArgumentBetween text low (Applied name space inside) high = IsInside text low inside high
 IsArgumentBetween text low u high = Unit {0}
@@ -63,17 +63,17 @@ IsFoundIn text low found high = Unit {0}
 abbrev pub flat_if : Bool → List ℕ → List ℕ
 flat_if is_flat cs = if is_flat then flowing false cs else cs
 
--- the text of an argument's atoms: formatted, and put on one line if the flag says that an argument around it is
+-- the text of an argument's atoms: formatted, and put on one line if the flag is true
 abbrev pub argument_written : Bool → List Atom → List ℕ
 argument_written is_flat atoms = flat_if is_flat (formatted_atoms false atoms)
 
--- the text of a unit without an argument in braces; the flag says whether it is put on one line, where a line break
--- after a backslash becomes a space
+-- The text of a unit without an argument in braces. The flag says whether it is put on one line. A line break after a backslash
+-- then becomes a space.
 abbrev pub unit_written : Bool → ContentUnit → List ℕ
 unit_written is_flat (ContentUnit.copied c) = char.backslash ∷ (if is_flat then (if is_break c then char.space else c) else c) ∷ []
 unit_written is_flat u = unit_text u []
 
--- an argument `whole` was parsed up to `rest` with `depth` braces open, and the output `now` is `base` and its text
+-- an argument `whole` was parsed up to `rest` with `depth` braces open, and the output `now` is `base` and the parsed text
 pub record IsReadTo (is_flat : Bool) (whole base rest : List ℕ) (depth : ℕ) (now : List ℕ) : Type 0 where
   pub atoms : List Atom
   pub goes : Goes false 0 whole atoms depth rest
@@ -87,8 +87,8 @@ IsReadOn whole base frame now (Follows name inside) =
     × IsNext false (ContentUnit.command (chars name.now) space (Argument.braced (left inside))) before (left frame.s)
 IsReadOn whole base frame now End = IsReadTo frame.is_flat whole base [] frame.depth now × (left frame.s ≡ [])
 
--- fewer than `size` characters are left, counting those of an argument that follows, which lies between `low` and the
--- cursor; at the end at most `size` are left
+-- Fewer than `size` characters are left, counting those of an argument that follows. That argument lies between `low` and the
+-- cursor. At the end, at most `size` are left.
 abbrev pub IsShorterThan : ℕ → List ℕ → ℕ → Place → Next → Type 0
 IsShorterThan size text low s Read = length (left s) < size
 IsShorterThan size text low s (Follows name inside) = (length (left s) + length (left inside) + 1 < size) × IsInside text low inside s.at

@@ -83,12 +83,13 @@ other name (Some argument) =
     else if bytes_eq name (codes "copyright") then codes "©" ++ argument
     else codes "\\" ++ name ++ codes "{" ++ argument ++ codes "}"
 
--- the text of a command, given the mark if its name is that of an accent, and the text if it is that of a symbol
+-- the text of a command. The first argument is the mark if the name is that of an accent. The second is the text if the name is
+-- that of a symbol.
 abbrev pub text_from_tables : Option ℕ → Option (List ℕ) → List ℕ → Option (List ℕ) → List ℕ
 text_from_tables (Some mark) text name argument = accent_text mark argument
 text_from_tables None (Some text) name argument = text
 text_from_tables None None name argument = other name argument
 
--- the text of a command with this name, given the text of its argument if it has one
+-- the text of a command with this name; `argument` is the text of its argument if it has one
 unfoldable pub command_text : List ℕ → Option (List ℕ) → List ℕ
 command_text name argument = text_from_tables (value_named accents name) (value_named symbols name) name argument

@@ -1,5 +1,5 @@
 -- Meaning: words of public contracts.
--- The contents of a field: how the text of a piece is cut into units, and what each unit means. Contents are LaTeX
+-- The contents of a field: how the text of a piece is cut into units, and the meaning of each unit. Contents are LaTeX
 -- source, as the Rust crate `biblatex` parses it. A text is a list of its characters.
 use Rattle.std.specs.Prelude.{◌≡◌, ◌≤◌, ℕ, zero, suc, ◌-◌, ◌/◌, ◌%◌, ◌^◌, min, Bool, true, false, not, ◌&&◌, ◌||◌, ◌==◌, nat_lt, ◌⊎◌, if◌then◌else◌, List, [], ◌∷◌, ◌++◌, map, replicate, Option, None, Some}
 use Rattle.std.specs.Char.{is_whitespace, is_control}
@@ -16,15 +16,16 @@ use Rattle.bib_syntax.specs.declared.raw.ParseErrorKind.{ParseErrorKind}
 use Rattle.bib_syntax.specs.declared.raw.ParseErrorKind.TheVariants.{UnexpectedEof, Unexpected}
 use Rattle.bib_text.specs.Characters as char
 
--- whether a backslash escapes a character: grouping characters in every field; reserved ones, the tilde and the
--- circumflex outside verbatim fields; and the colon if the text is parsed, since Zotero writes a backslash before it
+-- Whether a backslash escapes a character. In every field, it escapes grouping characters, and the colon if the text is parsed,
+-- since Zotero writes a backslash before it. Outside verbatim fields, it also escapes reserved ones, the tilde and the
+-- circumflex.
 unfoldable pub is_escapable : ℕ → Bool → Bool → Bool
 is_escapable c is_verbatim is_read =
     is_grouping c || (not is_verbatim && (is_reserved c || c == char.tilde || c == char.circumflex))
     || (is_read && c == char.colon)
 
--- whether a backslash and a character are parsed as the character: the escapable ones of parsed text, except the tilde
--- and the circumflex, which name accents
+-- whether a backslash and a character are parsed as the character: those escapable in parsed text, except the tilde and the
+-- circumflex, which name accents
 unfoldable pub is_escaped : Bool → ℕ → Bool
 is_escaped is_verbatim c = is_escapable c is_verbatim true && not (c == char.tilde || c == char.circumflex)
 
@@ -52,7 +53,7 @@ is_accent_letter c =
     c == char.letter_b || c == char.letter_c || c == char.letter_d || c == char.upper_h || c == char.letter_k
     || c == char.letter_r || c == char.letter_u || c == char.letter_v
 
--- the characters that are a command's whole name: the signs that name an accent, and the hyphen
+-- the characters that are a command's whole name if they begin it: the signs that name an accent, and the hyphen
 unfoldable pub is_sign : ℕ → Bool
 is_sign c = is_mark c || c == char.hyphen
 
@@ -79,8 +80,7 @@ balances depth (c ∷ cs) =
     else if c == char.close_brace then (nat_lt 0 depth && balances (depth - 1) cs)
     else balances depth cs
 
--- the argument of a command: none, the empty one at the end of a text, the next character, or the text in a pair of
--- braces
+-- the argument of a command: none, the empty one at the end of a text, the next character, or the text in braces
 pub data Argument : Type 0 where
   without : Argument
   empty : Argument
@@ -120,8 +120,8 @@ unit_spelling (ContentUnit.formula text) = char.dollar ∷ (text ++ char.dollar 
 unit_spelling (ContentUnit.command name space argument) = char.backslash ∷ (name ++ (space ++ argument_spelling argument))
 unit_spelling (ContentUnit.other c) = c ∷ []
 
--- the name of a command: a sign, or identifier characters after a first character that isn't white space, a control
--- character or escaped by a backslash
+-- The name of a command: a sign, or a first character and identifier characters after it. The first character isn't white
+-- space, a control character or escaped by a backslash.
 abbrev pub is_name : List ℕ → Bool
 is_name [] = false
 is_name (c ∷ cs) =
@@ -131,8 +131,8 @@ is_name (c ∷ cs) =
 abbrev pub is_whole_name : List ℕ → List ℕ → Bool
 is_whole_name name rest = begins is_sign name || not (begins is_name_character rest)
 
--- whether a command takes the next character as its argument: an accent that is named by a sign, or by a letter with
--- white space after it
+-- whether a command takes the next character as its argument: an accent named by a sign, or by a letter with white space
+-- after it
 abbrev pub takes_next : List ℕ → List ℕ → Bool
 takes_next [] space = false
 takes_next (c ∷ []) space = is_mark c || (is_accent_letter c && not (is_empty space))
@@ -198,7 +198,7 @@ abbrev pub character : ℕ → ℕ → Atom
 character zero c = Atom.normal c
 character (suc depth) c = Atom.verbatim c
 
--- the atoms of a unit, given the number of braces open before it and the atoms of an argument in braces
+-- the atoms of a unit; `depth` is the number of braces open before it, and `inner` are the atoms of its argument in braces
 abbrev pub meaning : ℕ → ContentUnit → List Atom → List Atom
 meaning depth (ContentUnit.formula text) inner = Atom.math text ∷ []
 meaning depth u inner = map (character depth) (unit_text u inner)
@@ -208,7 +208,7 @@ abbrev pub is_closable : ℕ → ContentUnit → Bool
 is_closable depth ContentUnit.closing = nat_lt 0 depth
 is_closable depth u = true
 
--- the number of braces open after a unit, given the number before it
+-- the number of braces open after a unit; `depth` is the number before it
 abbrev pub depth_after : ℕ → ContentUnit → ℕ
 depth_after depth ContentUnit.opening = suc depth
 depth_after depth ContentUnit.closing = depth - 1
@@ -237,11 +237,11 @@ IsContent is_verbatim text atoms = Reads is_verbatim 0 text atoms
 abbrev pub IsUnread : ParseErrorKind → Type 0
 IsUnread kind = (kind ≡ UnexpectedEof) ⊎ (kind ≡ Unexpected ClosingBrace)
 
--- the span of an error lies between two byte offsets
+-- the span of an error doesn't end before it starts, and no part of it is before the first or after the second byte offset
 abbrev pub LiesBetween : ℕ → ℕ → ParseError → Type 0
 LiesBetween low high e = (low ≤ e.span.start) × (e.span.start ≤ e.span.end) × (e.span.end ≤ high)
 
--- out of memory, or an error whose span lies between two byte offsets
+-- out of memory, or an error whose span is between two byte offsets in this way
 abbrev pub StaysBetween : ℕ → ℕ → ParseError → Type 0
 StaysBetween low high e = (e ≡ out_of_memory) ⊎ LiesBetween low high e
 

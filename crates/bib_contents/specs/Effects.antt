@@ -23,7 +23,7 @@ effect_text (Symbol text) name argument = chars text.now
 effect_text Copyright name argument = char.copyright_sign ∷ argument
 effect_text Unknown name argument = char.backslash ∷ (name ++ char.open_brace ∷ (argument ++ char.close_brace ∷ []))
 
--- if the effect is a mark, that doesn't decompose (NFD); if it is a symbol, that is UTF-8
+-- the mark of an effect doesn't decompose (NFD), and the text of a symbol is UTF-8
 abbrev pub IsFit : Effect → Type 0
 IsFit (Mark mark) = IsTrue (is_in_form Nfd (mark ∷ []))
 IsFit (Symbol text) = IsUtf8 text.now

@@ -68,8 +68,8 @@ IsUntaken u depth kind =
     ((is_closable depth u ≡ false) × (kind ≡ Unexpected ClosingBrace))
     ⊎ ((text : List ℕ) × (inner_text u ≡ Some text) × ContentFails false 0 text kind)
 
--- chunks stay placed: if `growing` begins after `chunks` and not after `end`, the next open chunk begins after `more`
--- and not after `following`
+-- Chunks stay placed. Suppose that `growing` starts neither before the end of `chunks` nor after `end`. Then `grown` starts
+-- neither before the end of `more` nor after `following`.
 abbrev pub StaysPlaced : List (Spanned Chunk) → OpenChunk → ℕ → List (Spanned Chunk) → OpenChunk → ℕ → Type 0
 StaysPlaced chunks growing end more grown following =
     (low : ℕ) → ArePlaced low growing.start chunks → growing.start ≤ end → ArePlaced low grown.start more × (grown.start ≤ following)

@@ -6,7 +6,8 @@ ghost use Rattle.bib_contents.specs.Contents as contents;
 use bib_syntax::raw::is_id_continue;
 
 /// Returns whether a backslash escapes `c`. `verb` says whether the field is a verbatim one. `read_char` is true for
-/// parsed text and false for written text: the colon is escaped only in parsed text.
+/// parsed text and false for written text: the colon is escaped only in parsed text. `~` and `^` count as escaped outside verbatim
+/// fields, although this library parses `\~` and `\^` as accents.
 #[tactic(auto, unfolding(crate::specs::Contents::is_escapable, bib_chunks::specs::Written::is_grouping, bib_chunks::specs::Written::is_reserved))]
 pub fn is_escapable(c: char, verb: bool, read_char: bool) -> bool
     ensures { result ≡ contents.is_escapable c verb read_char }
@@ -71,7 +72,7 @@ pub(crate) fn is_accent_letter(c: char) -> bool
     matches!(c, 'b' | 'c' | 'd' | 'H' | 'k' | 'r' | 'u' | 'v')
 }
 
-// Returns whether the character is the whole name of a command.
+// Returns whether the character is the whole name of a command that begins with it.
 #[tactic(auto, unfolding(crate::specs::Contents::is_sign))]
 pub(crate) fn is_sign(c: char) -> bool
     ensures { result ≡ contents.is_sign c }
@@ -79,8 +80,8 @@ pub(crate) fn is_sign(c: char) -> bool
     is_mark(c) || c == '-'
 }
 
-// Returns whether the character is a unit by itself: it isn't white space, a hyphen, a brace, a backslash or, outside
-// verbatim fields, a dollar sign.
+// Returns whether the character is a unit by itself: not white space, a hyphen, a brace, a backslash or, outside verbatim
+// fields, a dollar sign.
 #[tactic(auto, unfolding(crate::specs::Contents::is_ordinary, crate::specs::Contents::is_space, bib_chunks::specs::Written::is_grouping))]
 pub(crate) fn is_ordinary(is_verbatim: bool, c: char) -> bool
     ensures { result ≡ contents.is_ordinary is_verbatim c }

@@ -5,39 +5,14 @@ ghost use Rattle.std.specs.Option.{option_map};
 ghost use Rattle.std.specs.Str.{chars};
 ghost use Rattle.bib_text.specs.Enums.{value_named};
 ghost use Rattle.bib_chunks.specs.Writing.{Writes};
-ghost use Rattle.bib_contents.specs.Commands.{accents, symbols, letter, bare, with_mark, other, command_text};
+ghost use Rattle.bib_contents.specs.Commands.{accents, symbols, bare, with_mark, other, command_text};
 ghost use Rattle.bib_contents.specs.Effects.{before_argument, effect_text, IsFit};
 ghost use Rattle.unicode_normalization.specs.Forms.{Nfd, nfc, is_in_form};
 
+use crate::accents::{letter, mark_of};
 use std::alloc::AllocError;
 use unicode_normalization::char::compose;
 use unicode_normalization::to_nfc;
-
-// Returns the combining mark of the accent that this character names.
-#[tactic(auto, unfolding(crate::specs::Commands::accents))]
-fn mark_of(c: char) -> Option<char>
-    ensures { result ≡ value_named accents (c ∷ []) }
-{
-    match c {
-        '`' => Some('\u{300}'),
-        '´' => Some('\u{301}'),
-        '\'' => Some('\u{301}'),
-        '^' => Some('\u{302}'),
-        '~' => Some('\u{303}'),
-        '=' => Some('\u{304}'),
-        'u' => Some('\u{306}'),
-        '.' => Some('\u{307}'),
-        '"' => Some('\u{308}'),
-        'r' => Some('\u{30A}'),
-        'H' => Some('\u{30B}'),
-        'v' => Some('\u{30C}'),
-        'd' => Some('\u{323}'),
-        'c' => Some('\u{327}'),
-        'k' => Some('\u{328}'),
-        'b' => Some('\u{332}'),
-        _ => None,
-    }
-}
 
 // Returns the combining mark of the accent with this name.
 fn accent_mark(name: &str) -> Option<char>
@@ -72,17 +47,6 @@ fn symbol(name: &str) -> Option<&'static str>
         option_map encode_utf8_all (value_named symbols (chars name.now)) }
 {
     find_text(&SYMBOLS, name)
-}
-
-// Returns the letter that a mark is put on: the dotless i and j get their dots.
-fn letter(c: char) -> char
-    ensures { result ≡ letter c }
-{
-    match c {
-        'ı' => 'i',
-        'ȷ' => 'j',
-        _ => c,
-    }
 }
 
 // Returns the character for a mark without a letter.
@@ -263,7 +227,7 @@ pub(crate) fn write_command(out: &mut String, name: &str, argument: &str) -> Res
     Ok(())
 }
 
-// The names of the symbols, each with the text that it is replaced by.
+// The names of the symbols, each with its text.
 static SYMBOLS: [(&str, &str); 70] = [
     ("LaTeX", "LaTeX"),
     ("TeX", "TeX"),

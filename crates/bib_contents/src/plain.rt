@@ -31,8 +31,8 @@ fn eat_escaped(s: &mut Characters<'_>, is_verbatim: bool) -> Option<char>
     Some(c)
 }
 
-// If the text goes on with white space, a hyphen or an escaped character, consumes the run or the character, writes its
-// replacement, and returns true.
+// If the text goes on with white space, hyphens or an escaped character, consumes the run or the character. Then writes its
+// replacement and returns true.
 fn write_run(
     text: &mut String,
     s: &mut Characters<'_>,

@@ -169,8 +169,8 @@ fn eat_name<'s>(s: &mut Characters<'s>, first: char) -> &'s str
     s.from(start)
 }
 
-// Returns whether the command `name` takes the next character as its argument: an accent named by a sign, or by a letter
-// if white space follows it (`is_spaced`).
+// Returns whether the command `name` takes the next character as its argument. An accent does if it is named by a sign, or by a
+// letter that white space follows (`is_spaced`).
 fn takes_next(name: &str, is_spaced: bool) -> bool
     ensures { (space : List ℕ) → is_spaced ≡ not (contents.is_empty space) →
         result ≡ contents.takes_next (chars name.now) space }

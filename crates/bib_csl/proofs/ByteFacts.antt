@@ -2,17 +2,13 @@
 use Rattle.std.proofs.Common.{◌≡◌, ◌==◌, ◌||◌, ℕ, Bool, true, false, true≢false, List, ◌∷◌, refl, sym, ap, ◌∙◌, arith}
 use lib.Utf8.{encode, encodes}
 use Rattle.std.specs.List.{list_all}
-use Rattle.std.proofs.lemmas.Bool.{and_parts}
+use Rattle.std.proofs.lemmas.Bool.{and_parts, false_from_ne_true}
 use Rattle.std.proofs.lemmas.List.Folds.{list_all-append}
-
-decided : (b : Bool) → (b ≡ true → ⊥) → b ≡ false
-decided true h = absurd (h refl)
-decided false h = refl
 
 -- one of which they do is none of which they don't
 pub not_this : (p : ℕ → Bool) (k c : ℕ) → list_all p (encode k) ≡ false → list_all p (encode c) ≡ true → (c == k) ≡ false
 not_this p k c bad good =
-    decided (c == k)
+    false_from_ne_true (c == k)
     (λ same. let is : c ≡ k = grind arith in true≢false (sym good ∙ ap (λ x. list_all p (encode x)) is ∙ bad))
 
 -- the first character and the others

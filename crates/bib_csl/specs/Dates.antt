@@ -91,7 +91,7 @@ season_of text = if is_season_text text then option_map (season_item (first_year
 unfoldable pub unread : List ℕ → Option ItemDate
 unread text = if length text == 0 then None else Some (unwrap_or (season_of text) (literal_item text))
 
--- the date of an item: the parsed date, or else what the text is, a season or an unparsed text
+-- the date of an item: the parsed date, or else the season that the text is, or else the text as an unparsed one
 unfoldable pub read_or_unread : Option Date → List ℕ → Option ItemDate
 read_or_unread (Some date) text = Some (date_item date)
 read_or_unread None text = unread text
@@ -105,23 +105,24 @@ abbrev pub without_hyphen : List ℕ → List ℕ
 without_hyphen [] = []
 without_hyphen (b ∷ rest) = if b == char.hyphen then rest else b ∷ rest
 
--- a text without the digits at its start
+-- a text without the ASCII digits at its start
 abbrev pub after_digits : List ℕ → List ℕ
 after_digits text = drop (prefix_len is_ascii_digit text) text
 
--- what may be after the digits of a year: nothing, or an era
+-- the texts that may follow the digits of a year: the empty text, or an era
 abbrev pub eras : List (List ℕ)
 eras = [] ∷ codes "AD" ∷ codes "CE" ∷ codes "BCE" ∷ codes "BC" ∷ []
 
--- whether a text is a year, with or without an era, and nothing else, unlike `1943-1978` or `7 May 2021`
+-- whether a text has nothing but the digits of a year, maybe with a hyphen before them and an era after them. `1943-1978` and `7 May 2021`
+-- have more. There may be white space at its ends and before the era, and the digits may be missing.
 unfoldable pub is_year : List ℕ → Bool
 is_year text = list_any (bytes_eq (trim_start (after_digits (without_hyphen (trim text))))) eras
 
--- the date that a year, a month and a day are parsed as, if the year is a year and nothing else
+-- the date that a year, a month and a day are parsed as, if there is no other text around the year
 unfoldable pub three_fields_read : Value → Option Value → Option Value → Option Date
 three_fields_read year month day = if is_year (text year) then readable_value (three_fields_reading year month day) else None
 
--- the date of an item for a year, and the month and the day if they are given
+-- the date of an item for a year, and the month and the day if the entry has them; none without a year
 unfoldable pub three_fields_item : Option Value → Option Value → Option Value → Option ItemDate
 three_fields_item None month day = None
 three_fields_item (Some year) month day = read_or_unread (three_fields_read year month day) (month_and_year month year)
@@ -131,7 +132,7 @@ abbrev pub date_or_fields : Option Value → Option Value → Option Value → O
 date_or_fields (Some date) year month day = read_or_unread (date_read date) (text date)
 date_or_fields None year month day = three_fields_item year month day
 
--- the date of an item for the field `date`, or else for the fields `year`, `month` and `day`
+-- the date of an item for the field named `date`, or else for the fields named `year`, `month` and `day`
 unfoldable pub date_in : Entry → List ℕ → List ℕ → List ℕ → List ℕ → Option ItemDate
 date_in entry date year month day = date_or_fields (field entry date) (field entry year) (field entry month) (field entry day)
 

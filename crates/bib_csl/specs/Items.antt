@@ -33,7 +33,7 @@ unfoldable pub detail_fields : ItemType → Entry → List Field
 detail_fields kind entry =
     volume_fields kind entry ++ (page_fields entry ++ (identifier_fields entry ++ (archive_fields entry ++ note_fields entry)))
 
--- the variables of the item of an entry, given its type
+-- the variables of the item of an entry; `kind` is the type of the item
 unfoldable pub item_fields : ItemType → Entry → List Field
 item_fields kind entry = work_fields kind entry ++ (detail_fields kind entry ++ (people_fields kind entry ++ date_fields entry))
 

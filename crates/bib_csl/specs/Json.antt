@@ -36,12 +36,12 @@ name_members (Parts p) = parts_members p
 unfoldable pub name_json : Name → Data
 name_json name = object (name_members name)
 
--- a day of a month, if it is given
+-- the day of a month, if there is one
 abbrev pub day_items : Option ℕ → Items
 day_items None = no_items
 day_items (Some day) = item (number (unsigned day)) no_items
 
--- a month, and its day if it is given; nothing without a month
+-- a month, and its day if there is one; nothing without a month
 abbrev pub month_items : Option ℕ → Option ℕ → Items
 month_items None day = no_items
 month_items (Some month) day = item (number (unsigned month)) (day_items day)
@@ -87,11 +87,11 @@ content_json (content.Text text) = string text
 content_json (content.Names names) = array (items_of (map name_json names))
 content_json (content.Date date) = object (date_members date)
 
--- members, with a variable
+-- members with the member of a variable, which replaces a member of the same name
 unfoldable pub with_variable : Field → Members → Members
 with_variable field members = put (variable_name field.variable) (content_json field.content) members
 
--- members, with variables one after another
+-- members with the members of variables, added one after another
 abbrev pub with_variables : List Field → Members → Members
 with_variables [] members = members
 with_variables (field ∷ fields) members = with_variables fields (with_variable field members)

@@ -1,6 +1,6 @@
 -- Meaning: words of public contracts.
--- Texts without the LaTeX commands that the parser leaves in them, with HTML tags for some, or without tags. A text is given by its
--- characters, and the output by bytes.
+-- Texts with the LaTeX commands that the parser leaves in them replaced: some by HTML tags, if these are requested. An unknown command
+-- without an argument is kept. A text is a list of its characters, and the output is a list of bytes.
 use Rattle.std.specs.Prelude.{ℕ, Bool, false, not, nat_lt, ◌==◌, ◌&&◌, ◌||◌, if◌then◌else◌, List, [], ◌∷◌, ◌++◌, length, codes, encode_utf8, encode_utf8_all, Option, Some, None, bytes_eq}
 use Rattle.std.specs.Char.{is_ascii_alphabetic}
 use Rattle.std.specs.List.{list_any}
@@ -70,12 +70,12 @@ tag_after name =
 unfoldable pub quotes_argument : List ℕ → Bool
 quotes_argument name = bytes_eq name (codes "enquote") || bytes_eq name (codes "mkbibquote")
 
--- the quotation mark or the tag for a command with this name, the tag only where tags are wanted; `None` for other commands
+-- the quotation mark before the argument of a command with this name, or its opening tag if `has_tags`; `None` for other commands
 unfoldable pub mark_opening : Bool → List ℕ → Option (List ℕ)
 mark_opening has_tags name =
     if quotes_argument name then Some (encode_utf8_all (codes "“")) else if has_tags then tag_before name else None
 
--- the same after the argument of the command
+-- the quotation mark after the argument of a command with this name, or its closing tag if `has_tags`; `None` for other commands
 unfoldable pub mark_closing : Bool → List ℕ → Option (List ℕ)
 mark_closing has_tags name =
     if quotes_argument name then Some (encode_utf8_all (codes "”")) else if has_tags then tag_after name else None
@@ -119,7 +119,7 @@ is_accent_name (b ∷ rest) = b == 204 || b == 205
 -- The state before a character: the name of the command of each open brace, the innermost first, empty for a brace without a command; and
 -- the start of the name of a command, if one is being read.
 
--- whether a character after a backslash begins a name: a letter, a space or an accent
+-- whether a character after a backslash begins a name: an ASCII letter, a space or an accent
 unfoldable pub begins_command : ℕ → Bool
 begins_command c = is_ascii_alphabetic c || (c == char.space || is_accent c)
 
@@ -129,11 +129,11 @@ goes_on name c =
     if length name == 0 then begins_command c
     else not (is_space_name name || is_accent_name name) && is_ascii_alphabetic c
 
--- whether a character opens a brace for the argument of the command before it
+-- whether a character is the opening brace of the argument of the command before it
 unfoldable pub opens_argument : List ℕ → ℕ → Bool
 opens_argument name c = c == char.open_brace && not (is_space_name name)
 
--- the output for a command and the opening brace after it, given its tag if it has one
+-- the output for a command and the opening brace after it: its tag if it has one, otherwise the command and the brace as they are
 abbrev pub begun_by : Option (List ℕ) → List ℕ → List ℕ
 begun_by None name = as_command name ++ codes "{"
 begun_by (Some tag) name = tag
@@ -142,7 +142,7 @@ begun_by (Some tag) name = tag
 unfoldable pub begun : Bool → List ℕ → List ℕ
 begun has_tags name = begun_by (opening_tag has_tags name) name
 
--- the output for a closing brace, given its tag if it has one
+-- the output for a closing brace: its tag if it has one, otherwise the brace
 abbrev pub ended_by : Option (List ℕ) → List ℕ
 ended_by None = codes "}"
 ended_by (Some tag) = tag
@@ -162,7 +162,7 @@ unfoldable pub is_address : List (List ℕ) → Bool
 is_address [] = false
 is_address (name ∷ names) = bytes_eq name (codes "url")
 
--- the output for a character: a tilde is a no-break space outside of `\url`
+-- the output for a character: a tilde is a no-break space, unless the innermost open brace is that of `\url`
 unfoldable pub shown_in : List (List ℕ) → ℕ → List ℕ
 shown_in names c = if is_address names then encode_utf8 c else untie c
 
@@ -183,7 +183,7 @@ after_sign has_tags names c = if c == char.space then [] else said_plainly has_t
 unfoldable pub said_as_it_is : Bool → List (List ℕ) → List ℕ → ℕ → List ℕ
 said_as_it_is has_tags names name c = as_command name ++ said_plainly has_tags names c
 
--- the output for a command without a brace and the character after it, given the output of the command, if it has one
+-- the output for a command without a brace and the character after it; the first argument is the output of the command, if it has one
 abbrev pub said_with : Option (List ℕ) → Bool → List (List ℕ) → List ℕ → ℕ → List ℕ
 said_with None has_tags names name c = said_as_it_is has_tags names name c
 said_with (Some sign) has_tags names name c = sign ++ after_sign has_tags names c
@@ -192,7 +192,8 @@ said_with (Some sign) has_tags names name c = sign ++ after_sign has_tags names 
 unfoldable pub said_after : Bool → List (List ℕ) → List ℕ → ℕ → List ℕ
 said_after has_tags names name c = said_with (said_alone name) has_tags names name c
 
--- the output for a backslash and a space and the character after it: one space, or the backslash if that isn't another space
+-- the output for a backslash, a space and the character after them: one space if that is another space. Otherwise, the backslash and the
+-- space are kept, and the output for the character follows.
 unfoldable pub said_after_space : Bool → List (List ℕ) → ℕ → List ℕ
 said_after_space has_tags names c = if c == char.space then codes " " else said_as_it_is has_tags names (codes " ") c
 
@@ -236,7 +237,7 @@ abbrev pub all_ended : Bool → List (List ℕ) → List ℕ
 all_ended has_tags [] = []
 all_ended has_tags (name ∷ names) = unwrap_or (closing_tag has_tags name) [] ++ all_ended has_tags names
 
--- the output at the end: the command that is being read, and the closing tags of all open braces
+-- the output at the end: that for the command that is being read, and the closing tags of all open braces
 unfoldable pub said_last : Bool → List (List ℕ) → Option (List ℕ) → List ℕ
 said_last has_tags names None = all_ended has_tags names
 said_last has_tags names (Some name) = unwrap_or (said_alone name) (as_command name) ++ all_ended has_tags names
@@ -247,7 +248,7 @@ marked_from has_tags names name [] = said_last has_tags names name
 marked_from has_tags names name (c ∷ cs) =
     said has_tags names name c ++ marked_from has_tags (open_after names name c) (name_after name c) cs
 
--- a text with HTML tags or without them
+-- a text with its commands replaced, with HTML tags or without them
 unfoldable pub marked_text : Bool → List ℕ → List ℕ
 marked_text has_tags text = marked_from has_tags [] None text
 

@@ -74,7 +74,7 @@ is_way_address entry =
     not (length (way_as_address entry) == 0)
     && (length (named_address entry) == 0 || bytes_eq (named_address entry) (way_as_address entry))
 
--- whether `howpublished` is the address or the publisher of the item
+-- whether `howpublished` is the address of the item if it begins with an address; otherwise, whether the item has no other publisher
 unfoldable pub is_way_printed : Entry → Bool
 is_way_printed entry =
     if begins_with_address (way_of entry) then is_way_address entry else length (named_publisher entry) == 0
@@ -83,7 +83,8 @@ is_way_printed entry =
 unfoldable pub way_in_note : Entry → List ℕ
 way_in_note entry = if is_way_printed entry then [] else way_of entry
 
--- the fields `note` and `addendum`, and `howpublished` if it is neither the publisher nor the address, with full stops between them
+-- the fields `note` and `addendum`, and `howpublished` if it is neither the publisher nor the address; between them are full stops, as by
+-- `joined_by_mark`
 unfoldable pub note_of : Entry → List ℕ
 note_of entry =
     joined_by_mark (codes ".") (joined_by_mark (codes ".") (rich_text entry (codes "note")) (rich_text entry (codes "addendum")))

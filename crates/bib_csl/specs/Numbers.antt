@@ -28,8 +28,8 @@ own_number kind number eid = if counts_issues kind then eid else if counts_serie
 unfoldable pub collection_number : ItemType → List ℕ → List ℕ
 collection_number kind number = if counts_series kind then number else []
 
--- the output for a character of ranges of pages: nothing for white space, an en dash for the first of several dashes, and a space after a
--- comma; digits stay, also zeros at the start of a page, which belong to it
+-- the output for a character of ranges of pages: nothing for white space, and nothing for a dash after a dash. Any other dash becomes an en
+-- dash, and a comma becomes a comma and a space. Any other character is unchanged, also a zero at the start of a page.
 unfoldable pub page_sign : Bool → ℕ → List ℕ
 page_sign follows_dash c =
     if is_whitespace c then []
@@ -41,7 +41,7 @@ page_sign follows_dash c =
 unfoldable pub follows_dash_after : Bool → ℕ → Bool
 follows_dash_after follows_dash c = if is_whitespace c then follows_dash else is_dash c
 
--- ranges of pages with en dashes and with a space after each comma; a text is given by its characters
+-- ranges of pages with en dashes and with a space after each comma; the parsed text is a list of its characters
 abbrev pub pages_from : Bool → List ℕ → List ℕ
 pages_from follows_dash [] = []
 pages_from follows_dash (c ∷ cs) = page_sign follows_dash c ++ pages_from (follows_dash_after follows_dash c) cs

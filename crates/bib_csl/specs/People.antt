@@ -58,7 +58,8 @@ parts_with false p = record {
   non_dropping_particle = [];
 }
 
--- the name in chunks; the flag says whether a prefix is part of the family name, unless the name itself says so
+-- the name in chunks; the flag says whether a prefix is part of the family name. If the name has the key `useprefix` of the extended name
+-- format, that key decides instead.
 unfoldable pub name_said : Bool → Value → Name
 name_said uses_prefix chunks =
     if is_literal chunks then Literal (loosened_name (text chunks))
@@ -97,7 +98,7 @@ uses_prefix_in (Some options) = list_any (λ option. is_prefix_option (text opti
 unfoldable pub uses_prefix : Entry → Bool
 uses_prefix entry = uses_prefix_in (field entry (codes "options"))
 
--- the variable of editors with this role: `editor` for a role that CSL doesn't have
+-- the variable of editors with this role: `compiler`, `director` or `organizer` for these roles, and `editor` for any other
 abbrev pub variable_of_role : EditorType → Variable
 variable_of_role role.Compiler = Compiler
 variable_of_role role.Director = Director

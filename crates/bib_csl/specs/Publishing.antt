@@ -17,7 +17,7 @@ named_publisher entry =
     either (listed_field (field entry (codes "publisher")))
     (either (listed_field (field_or entry (codes "institution") (codes "school"))) (listed_field (field entry (codes "organization"))))
 
--- the publisher, or else `howpublished`
+-- the publisher, or else `howpublished`, unless that begins with an address
 unfoldable pub publisher_of : Entry → List ℕ
 publisher_of entry = either (named_publisher entry) (way_as_publisher entry)
 

@@ -1,5 +1,5 @@
 -- Meaning: words of public contracts.
--- The texts of fields, plain or with HTML tags, as in CSL-JSON. A text is given by its bytes.
+-- The texts of fields, plain or with HTML tags, as in CSL-JSON. A text is a list of its bytes.
 use Rattle.std.specs.Prelude.{ℕ, Bool, true, false, ◌==◌, ◌-◌, nat_lt, if◌then◌else◌, List, [], ◌∷◌, ◌++◌, length, codes, eqb, ◌&&◌, ◌||◌, Option, Some, None}
 use Rattle.std.specs.FinMap as by_name
 use Rattle.std.specs.List.{ends_with, flat_map, list_any}
@@ -27,7 +27,7 @@ shown_field (Some chunks) = text chunks
 unfoldable pub keeping_case : List ℕ → List ℕ
 keeping_case text = if length text == 0 then [] else codes "<span class=\"nocase\">" ++ (text ++ codes "</span>")
 
--- the text of a chunk without commands, with HTML tags or without them; math is unchanged
+-- the text of a chunk with its commands replaced, with HTML tags or without them; math is unchanged
 unfoldable pub tagged : Bool → Chunk → List ℕ → List ℕ
 tagged has_tags (Normal whole) text = marked_text has_tags (chars text)
 tagged has_tags (Verbatim whole) text = marked_text has_tags (chars text)
@@ -49,7 +49,7 @@ is_in_braces (Normal whole) = false
 is_in_braces (Verbatim whole) = true
 is_in_braces (Math whole) = false
 
--- the text of a chunk, in a tag that keeps its case if it must
+-- the text of a chunk; if it is in braces in a title, as `braced_in_title` has it
 unfoldable pub keeping_its_case : Bool → Spanned Chunk → List ℕ → List ℕ
 keeping_its_case is_title c text = if is_title && is_in_braces c.v then braced_in_title c text else text
 
@@ -61,7 +61,7 @@ marked_chunk is_title c = keeping_its_case is_title c (tagged true c.v (text (c 
 unfoldable pub marked_chunks : Bool → Value → List ℕ
 marked_chunks is_title chunks = flat_map (marked_chunk is_title) chunks
 
--- the text of chunks without commands and without HTML tags
+-- the text of chunks with its commands replaced, without HTML tags
 unfoldable pub bare_text : Value → List ℕ
 bare_text chunks = flat_map (λ c. tagged false c.v (text (c ∷ []))) chunks
 
@@ -101,12 +101,12 @@ marks = words (codes "? ! . , : ;")
 abbrev pub ends_with_mark_before : List ℕ → List ℕ → Bool
 ends_with_mark_before end text = list_any (λ mark. ends_with eqb text (mark ++ end)) marks
 
--- whether a text ends with one of these marks, or with one in emphasis or in a tag that keeps the case
+-- whether a text ends with one of these marks, or with one and then the closing tag `</i>` or `</span>`
 unfoldable pub ends_with_mark : List ℕ → Bool
 ends_with_mark text =
     ends_with_mark_before [] text || (ends_with_mark_before (codes "</i>") text || ends_with_mark_before (codes "</span>") text)
 
--- the separator of two texts: a mark and a space, or the space alone after a text that ends with a mark of its own
+-- the separator of two texts: a mark and a space, or only the space after a text that ends with a mark of its own
 unfoldable pub mark_after : List ℕ → List ℕ → List ℕ
 mark_after mark first = if ends_with_mark first then codes " " else mark ++ codes " "
 

@@ -33,7 +33,7 @@ journal_title entry =
     with_subtitle entry (marked_field true (field_or entry (codes "journaltitle") (codes "journal")))
     (codes "journalsubtitle") (codes "journaltitleaddon")
 
--- the title of a volume, or else the title of a book
+-- the title of the work itself, or else that of the book that contains it
 unfoldable pub title_of_whole : Entry → List ℕ
 title_of_whole entry = either (own_title entry) (title_of_book entry)
 
@@ -41,7 +41,7 @@ title_of_whole entry = either (own_title entry) (title_of_book entry)
 unfoldable pub item_title : ItemType → Entry → List ℕ
 item_title kind entry = if is_volume kind then either (title_of_work entry) (title_of_whole entry) else own_title entry
 
--- the title of the volume, if the work of several volumes has a title of its own
+-- the title of the volume, if the item is a volume or a part of a book, and the work of several volumes has a title; otherwise nothing
 unfoldable pub volume_title : ItemType → Entry → List ℕ
 volume_title kind entry =
     if length (title_of_work entry) == 0 then []
@@ -49,7 +49,8 @@ volume_title kind entry =
     else if is_in_book kind then title_of_book entry
     else []
 
--- the title of the container: the work of several volumes, the book or the journal; a book is in no other book
+-- the title of the container. For a part of a book, this is the work of several volumes, or else the book. For an article or a volume, it
+-- is the journal. For any other item, it is the journal, or else the book.
 unfoldable pub container_title : ItemType → Entry → List ℕ
 container_title kind entry =
     if is_in_book kind then either (title_of_work entry) (title_of_book entry)

@@ -54,12 +54,12 @@ unfoldable pub name_tokens : Name → List Token
 name_tokens (Literal text) = key (codes "literal") ∷ string text ∷ []
 name_tokens (Parts p) = parts_tokens p
 
--- a day of a month, if it is given
+-- the day of a month, if there is one
 abbrev pub day_tokens : Option ℕ → List Token
 day_tokens None = []
 day_tokens (Some day) = number (decimal day) ∷ []
 
--- a month, and its day if it is given; nothing without a month
+-- a month, and its day if there is one; nothing without a month
 abbrev pub month_tokens : Option ℕ → Option ℕ → List Token
 month_tokens None day = []
 month_tokens (Some month) day = number (decimal month) ∷ day_tokens day

@@ -13,7 +13,8 @@ type_of_article subtype =
     else if bytes_eq subtype (codes "newspaper") then item_type.ArticleNewspaper
     else item_type.ArticleJournal
 
--- the type of the item of an entry with the name of a type that only BibLaTeX's data model has, or of any other type
+-- the type of the item of an entry whose type is unknown and has this name: a type for some other types of BibLaTeX, such as `movie`,
+-- and `Document` for any other name
 unfoldable pub item_type_named : List ℕ → ItemType
 item_type_named name =
     if bytes_eq name (codes "artwork") then item_type.Graphic
@@ -72,7 +73,7 @@ item_type_of Set subtype has_event = item_type.Document
 item_type_of XData subtype has_event = item_type.Document
 item_type_of (Unknown name) subtype has_event = item_type_named name
 
--- whether the item is an article
+-- whether the item is an article or a review
 abbrev pub is_article : ItemType → Bool
 is_article item_type.ArticleJournal = true
 is_article item_type.ArticleMagazine = true

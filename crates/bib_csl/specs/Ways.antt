@@ -12,18 +12,18 @@ use Rattle.bib_csl.specs.Texts.{rich_text}
 unfoldable pub way_of : Entry → List ℕ
 way_of entry = rich_text entry (codes "howpublished")
 
--- whether a text begins with the address of a web page
+-- whether a text begins with an address: with `http://` or `https://`
 unfoldable pub begins_with_address : List ℕ → Bool
 begins_with_address text = starts_with eqb text (codes "http://") || starts_with eqb text (codes "https://")
 
--- whether a text contains white space or a tag
+-- whether a text contains white space, or a less-than sign, as a tag does
 unfoldable pub has_gap : List ℕ → Bool
 has_gap text = list_any (λ c. is_whitespace c || c == char.less) (chars text)
 
--- the field `howpublished` if it is an address and nothing else
+-- the field `howpublished` if it is an address and nothing else; otherwise nothing
 unfoldable pub way_as_address : Entry → List ℕ
 way_as_address entry = if begins_with_address (way_of entry) && not (has_gap (way_of entry)) then way_of entry else []
 
--- the field `howpublished` if it doesn't begin with an address
+-- the field `howpublished` if it doesn't begin with an address; otherwise nothing
 unfoldable pub way_as_publisher : Entry → List ℕ
 way_as_publisher entry = if begins_with_address (way_of entry) then [] else way_of entry

@@ -28,7 +28,7 @@ pub(crate) fn is_accent_name(name: &str) -> bool
     }
 }
 
-// Returns whether a character after a backslash begins a name: a letter, a space or an accent.
+// Returns whether a character after a backslash begins a name: an ASCII letter, a space or an accent.
 #[tactic(auto, unfolding(crate::specs::Markup::begins_command))]
 fn begins_command(c: char) -> bool
     ensures { result ≡ spec.begins_command c }
@@ -50,7 +50,7 @@ pub(crate) fn goes_on(name: &str, c: char) -> bool
     c.is_ascii_alphabetic()
 }
 
-// Returns whether a character opens a brace for the argument of the command before it.
+// Returns whether a character is the opening brace of the argument of the command `name`, which is before it.
 #[tactic(auto, unfolding(crate::specs::Markup::opens_argument))]
 pub(crate) fn opens_argument(name: &str, c: char) -> bool
     ensures { result ≡ spec.opens_argument name.now c }

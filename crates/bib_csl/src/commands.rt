@@ -104,7 +104,7 @@ fn quotes_argument(name: &str) -> bool
     name == "enquote" || name == "mkbibquote"
 }
 
-// Returns the quotation mark or the tag before the argument of a command, the tag only where tags are wanted, or `None` for other commands.
+// Returns the quotation mark before the argument of a command, or its opening tag if `has_tags`, or `None` for other commands.
 #[tactic(auto, unfolding(crate::specs::Markup::mark_opening))]
 fn mark_opening(has_tags: bool, name: &str) -> Option<&'static str>
     ensures { option_map (λ mark. mark.now) result ≡ spec.mark_opening has_tags name.now }
@@ -115,7 +115,7 @@ fn mark_opening(has_tags: bool, name: &str) -> Option<&'static str>
     if has_tags { tag_before(name) } else { None }
 }
 
-// Returns the quotation mark or the tag after the argument of a command, the tag only where tags are wanted, or `None` for other commands.
+// Returns the quotation mark after the argument of a command, or its closing tag if `has_tags`, or `None` for other commands.
 #[tactic(auto, unfolding(crate::specs::Markup::mark_closing))]
 fn mark_closing(has_tags: bool, name: &str) -> Option<&'static str>
     ensures { option_map (λ mark. mark.now) result ≡ spec.mark_closing has_tags name.now }

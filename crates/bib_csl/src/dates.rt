@@ -207,8 +207,8 @@ fn unread(alloc: Global, text: Text) -> Result<Option<ItemDate>, AllocError>
     }
 }
 
-/// Returns the date of an item: `date` if it was parsed, or else what `text` is, a season or an unparsed text. Returns `None` without a
-/// date if `text` is empty. The only error is out of memory.
+/// Returns the date of an item: `date` if it was parsed, or else the season that `text` is, or else `text` as an unparsed text. Returns
+/// `None` without a date if `text` is empty. The only error is out of memory.
 #[tactic(auto, unfolding(crate::specs::Dates::read_or_unread))]
 pub fn read_or_unread(
     alloc: Global,
@@ -246,7 +246,7 @@ fn without_hyphen(text: &str) -> &str
     }
 }
 
-// Returns the number of digits at the start of a text.
+// Returns the number of ASCII digits at the start of a text.
 fn digits(text: &str) -> usize
     ensures { result ≡ prefix_len is_ascii_digit text.now }
 {
@@ -256,14 +256,15 @@ fn digits(text: &str) -> usize
         .count()
 }
 
-// Returns a text without the digits at its start.
+// Returns a text without the ASCII digits at its start.
 fn after_digits(text: &str) -> &str
     ensures { result.now ≡ spec.after_digits text.now }
 {
     text.split_at(digits(text)).1
 }
 
-// Returns whether a text is a year, with or without an era, and nothing else.
+// Returns whether a text has nothing but the digits of a year, maybe with a hyphen before them and an era after them. There may be
+// white space at its ends and before the era, and the digits may be missing.
 #[tactic(auto, unfolding(crate::specs::Dates::is_year))]
 fn is_year(text: &str) -> bool
     ensures { result ≡ spec.is_year text.now }
@@ -272,8 +273,8 @@ fn is_year(text: &str) -> bool
     matches!(rest.trim_start(), "" | "AD" | "CE" | "BCE" | "BC")
 }
 
-// Returns the date that a year, and the month and the day if they are given, are parsed as, or `None` if they can't be parsed or the year is
-// more than a year.
+// Returns the date that a year, and the month and the day if the entry has them, are parsed as. Returns `None` if they can't be
+// parsed, or if there is other text around the year.
 #[tactic(auto, unfolding(crate::specs::Dates::three_fields_read))]
 fn read_fields(
     alloc: Global,
@@ -306,8 +307,8 @@ fn one_field_item(alloc: Global, chunks: ChunksRef<'_>) -> Result<Option<ItemDat
     unread(alloc, shown(alloc, chunks)?)
 }
 
-// Returns the date of an item for a year, and the month and the day if they are given. If they can't be parsed, it is the date
-// for the text of the month and the year, which can be a season.
+// Returns the date of an item for a year, and the month and the day if the entry has them. If `read_fields` returns `None`, it is the
+// date for the text of the month and the year, which can be a season.
 #[tactic(auto, unfolding(crate::specs::Dates::three_fields_item, crate::specs::Dates::read_or_unread))]
 fn three_fields_item(
     alloc: Global,

@@ -29,7 +29,7 @@ fn archive_name(alloc: Global, field: Option<ChunksRef<'_>>) -> Result<Text, All
     Ok(Text::from_string(name))
 }
 
-// Returns the archive of the electronic version of an entry (`eprinttype` or `archiveprefix`), in lowercase.
+// Returns the archive of the electronic version of an entry (`eprinttype` or `archiveprefix`), with ASCII letters in lowercase.
 #[tactic(auto, unfolding(crate::specs::Identifiers::archive_of))]
 fn archive_of(alloc: Global, entry: &Entry) -> Result<Text, AllocError>
     ensures { IfOk result (λ text. text ≡ spec.archive_of entry.now) }
@@ -89,8 +89,8 @@ pub(crate) fn named_address(alloc: Global, entry: &Entry) -> Result<Text, AllocE
     address_in(alloc, archive.as_str(), eprint.as_str())
 }
 
-/// Returns the address of an entry: `url`, or else that in the archive, or else `howpublished` if it is an address. The only error is out of
-/// memory.
+/// Returns the address of an entry: `url`, or else that in the archive, or else `howpublished` if it is an address. The only error is out
+/// of memory.
 #[tactic(auto, unfolding(crate::specs::Identifiers::url_of))]
 pub fn url_of(alloc: Global, entry: &Entry) -> Result<Text, AllocError>
     ensures { IfOk result (λ text. text ≡ spec.url_of entry.now) }
@@ -139,8 +139,8 @@ fn archive_location(alloc: Global, entry: &Entry) -> Result<Text, AllocError>
     eprint_of(alloc, entry)
 }
 
-/// Returns the DOI in a text: the text from the first `10.` on, or the whole text without one. Each DOI begins with `10.`, so an address or a
-/// scheme before it is no part of it. The only error is out of memory.
+/// Returns the DOI in a text: the text from the first `10.` on, or the whole text without one. Each DOI begins with `10.`, so an address
+/// or a scheme before it is no part of it. The only error is out of memory.
 #[tactic(auto, unfolding(crate::specs::Identifiers::bare_doi))]
 pub fn bare_doi(alloc: Global, text: &str) -> Result<Text, AllocError>
     ensures { IfOk result (λ doi. doi ≡ spec.bare_doi text.now) }

@@ -29,7 +29,7 @@ pub struct Field {
 pub enum Content {
     /// A text, with HTML tags for markup.
     Text(Text),
-    /// People.
+    /// Names of people or institutions.
     Names(Items<Name>),
     /// A date.
     Date(ItemDate),
@@ -62,20 +62,20 @@ pub struct NameParts {
 /// A date.
 #[derive(Debug, PartialEq, Eq, Drop)]
 pub struct ItemDate {
-    /// Empty for a date that can't be parsed; otherwise one date, or the two dates of a range.
+    /// One date, or the two dates of a range. In the item of an entry, empty for a date that can't be parsed and isn't a season.
     pub parts: Items<DateParts>,
     /// The season of the year.
     pub season: Option<Season>,
     /// Whether the date is uncertain or approximate.
     pub circa: bool,
-    /// The text of a date that can't be parsed, or of a range with an open side.
+    /// The text of the date. In the item of an entry, only a date that can't be parsed and isn't a season has one.
     pub literal: Option<Text>,
 }
 
 /// A year, with its month and its day if the date has them.
 #[derive(Debug, Clone, Copy, PartialEq, Eq)]
 pub struct DateParts {
-    /// The year; the year before 1 is -1.
+    /// The year; the year before 1 is -1, and 0 is in place of the open side of a range.
     pub year: i64,
     /// The month, from 1.
     pub month: Option<u16>,

@@ -15,7 +15,7 @@ pub fn variables_are_found()
         ≡ Some (content_json f.content)) (item_of_entry entry).fields }
 {}
 
-/// States that the JSON of the item of an entry has the key of the entry as `id`, and the name of the item's type as `type`.
+/// States that the JSON of the item of an entry has the entry's key as `id`, and the name of the item's type as `type`.
 pub fn key_and_type_are_found()
     ensures key { (entry : AnEntry) → get (codes "id") (json_of (item_of_entry entry)) ≡ Some (string entry.key) }
     ensures type_of { (entry : AnEntry) → get (codes "type") (json_of (item_of_entry entry))

@@ -55,7 +55,7 @@ fn braced_in_title(alloc: Global, chunk: &Spanned<Chunk>, text: Text) -> Result<
     keeping_case(alloc, text)
 }
 
-// Returns the text of a chunk, in a tag that keeps its case if it must.
+// Returns the text of a chunk; if it is in braces in a title, as `braced_in_title` returns it.
 #[tactic(auto, unfolding(crate::specs::Texts::keeping_its_case))]
 fn keeping_its_case(
     alloc: Global,
@@ -71,7 +71,7 @@ fn keeping_its_case(
     }
 }
 
-// Returns the text of a chunk without commands, with HTML tags or without them. Math is unchanged.
+// Returns the text of a chunk with its commands replaced, with HTML tags or without them. Math is unchanged.
 #[tactic(auto, unfolding(crate::specs::Texts::tagged))]
 fn tagged(alloc: Global, has_tags: bool, chunk: &Spanned<Chunk>) -> Result<Text, AllocError>
     ensures { IfOk result (λ tagged_text. tagged_text ≡ tagged has_tags chunk.now.v (text (chunk.now ∷ []))) }
@@ -120,7 +120,8 @@ pub(crate) fn marked_chunks(
     Ok(out)
 }
 
-/// Returns the text of chunks without LaTeX commands, as an item has it, but without HTML tags. The only error is out of memory.
+/// Returns the text of chunks with its LaTeX commands replaced, as an item has it, but without HTML tags. An unknown command without an
+/// argument is kept. The only error is out of memory.
 #[tactic(auto, unfolding(crate::specs::Texts::bare_text))]
 pub fn bare_text(alloc: Global, chunks: ChunksRef<'_>) -> Result<Text, AllocError>
     ensures { IfOk result (λ text. text ≡ bare_text chunks.now) }

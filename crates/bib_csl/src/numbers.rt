@@ -63,8 +63,8 @@ fn is_dash(c: char) -> bool
     matches!(c, '-' | '–' | '—')
 }
 
-// Appends the text for a character of ranges of pages: nothing for white space, an en dash for the first of several dashes, and a space after
-// a comma.
+// Appends the text for a character of ranges of pages: nothing for white space, and nothing for a dash after a dash. Any other dash becomes
+// an en dash, and a comma becomes a comma and a space. Any other character is unchanged.
 #[tactic(auto, unfolding(crate::specs::Numbers::page_sign))]
 fn push_page_sign(out: &mut Text, follows_dash: bool, c: char) -> Result<(), AllocError>
     ensures { OnOk result (out.new ≡ out.old ++ spec.page_sign follows_dash c) }

@@ -15,7 +15,7 @@ use std::alloc::{AllocError, Global};
 // The texts of most items have fewer bytes.
 const USUAL_LENGTH: usize = 1024;
 
-/// Returns the content of a variable as JSON without white space. The only error is out of memory.
+/// Returns the content of a variable as JSON without white space between tokens. The only error is out of memory.
 pub fn content_text(alloc: Global, content: &Content) -> Result<String, AllocError>
     ensures { IfOk result (λ text. string_bytes text ≡ compact_text (spec.content_json content.now)) }
 {
@@ -24,7 +24,7 @@ pub fn content_text(alloc: Global, content: &Content) -> Result<String, AllocErr
     Ok(text_written(out))
 }
 
-/// Returns the item of an entry as an object of CSL-JSON without white space. The only error is out of memory.
+/// Returns the item of an entry as an object of CSL-JSON without white space between tokens. The only error is out of memory.
 pub fn item_text(alloc: Global, entry: &Entry) -> Result<String, AllocError>
     ensures { IfOk result (λ text. string_bytes text ≡ compact_text (spec.json_of (Items.item_of_entry entry.now))) }
 {

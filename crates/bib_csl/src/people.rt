@@ -88,8 +88,8 @@ fn is_literal(alloc: Global, chunks: ChunksRef<'_>) -> Result<bool, AllocError>
     says_others(alloc, chunks)
 }
 
-/// Returns the name in `chunks`. `uses_prefix` says whether a prefix is part of the family name, unless the name itself says so in the
-/// extended name format. The only error is out of memory.
+/// Returns the name in `chunks`. `uses_prefix` says whether a prefix is part of the family name. If the name has the key `useprefix` of the
+/// extended name format, that key decides instead. The only error is out of memory.
 #[tactic(auto, unfolding(crate::specs::People::name_said))]
 pub fn name_said(
     alloc: Global,
@@ -203,7 +203,7 @@ fn uses_prefix(alloc: Global, entry: &Entry) -> Result<bool, AllocError>
     uses_prefix_in(alloc, entry.get("options"))
 }
 
-// Returns the variable of editors with this role: `editor` for a role that CSL doesn't have.
+// Returns the variable of editors with this role: `compiler`, `director` or `organizer` for these roles, and `editor` for any other.
 fn variable_of_role(role: &EditorType) -> Variable
     ensures { result ≡ spec.variable_of_role role.now }
 {

@@ -25,7 +25,8 @@ pub(crate) fn named_publisher(alloc: Global, entry: &Entry) -> Result<Text, Allo
     Ok(either(list_text(alloc, entry, "publisher")?, other))
 }
 
-/// Returns the publisher of an entry, or else the field `howpublished`, with HTML tags. The only error is out of memory.
+/// Returns the publisher of an entry, or else the field `howpublished`, unless that begins with an address. The text has HTML tags.
+/// The only error is out of memory.
 #[tactic(auto, unfolding(crate::specs::Publishing::publisher_of))]
 pub fn publisher_of(alloc: Global, entry: &Entry) -> Result<Text, AllocError>
     ensures { IfOk result (λ text. text ≡ spec.publisher_of entry.now) }

@@ -1,4 +1,4 @@
-//! Texts without LaTeX commands, with HTML tags for some or without tags.
+//! Texts with LaTeX commands replaced: some by HTML tags, if these are requested. An unknown command without an argument is kept.
 //!
 //! A text is read once, character by character. `names` is a stack with the name of the command of each open brace, empty if the brace has
 //! no command. `name` is the start of the name of a command, if one is being read. Most texts contain no commands and are copied.
@@ -122,7 +122,7 @@ fn is_address(names: &[Text]) -> bool
     }
 }
 
-// Appends a character, or a no-break space for a tilde outside of `\url`.
+// Appends a character, or a no-break space for a tilde, unless the innermost open brace is that of `\url`.
 #[tactic(auto, unfolding(crate::specs::Markup::shown_in))]
 fn push_shown(out: &mut Text, names: &[Text], c: char) -> Result<(), AllocError>
     ensures { OnOk result (out.new ≡ out.old ++ spec.shown_in (reverse names.now) c) }
@@ -211,7 +211,8 @@ fn push_after(
     }
 }
 
-// Appends the text for a backslash and a space, and for the character after it: one space, or the backslash if that isn't another space.
+// Appends the text for a backslash, a space and the character after them: one space if that is another space. Otherwise, appends the
+// backslash, the space and the text for the character.
 #[tactic(auto, unfolding(crate::specs::Markup::said_after_space))]
 fn push_after_space(
     out: &mut Text,
@@ -278,7 +279,7 @@ fn push_said(
     push_at_end(out, has_tags, names, name.as_str(), c)
 }
 
-// Opens or closes a brace, given the name of the command before it, if there is one.
+// Opens or closes a brace. `name` is the name of the command before it, if there is one.
 #[tactic(auto, unfolding(crate::specs::Markup::open_after))]
 fn open_after(
     alloc: Global,
@@ -340,7 +341,7 @@ fn push_all_ended(out: &mut Text, has_tags: bool, names: Items<Text>) -> Result<
     Ok(())
 }
 
-// Appends the text at the end: the command that is being read, and the closing tags of all open braces.
+// Appends the text at the end: that for the command that is being read, and the closing tags of all open braces.
 #[tactic(auto, unfolding(crate::specs::Markup::said_last))]
 fn push_last(
     out: &mut Text,
@@ -360,7 +361,7 @@ fn push_last(
     push_all_ended(out, has_tags, names)
 }
 
-// Returns the text without commands, with HTML tags or without them, character by character.
+// Returns the text with its commands replaced, with HTML tags or without them, character by character.
 #[tactic(auto, unfolding(crate::specs::Markup::marked_text))]
 fn without_commands(alloc: Global, has_tags: bool, text: &str) -> Result<Text, AllocError>
     ensures { IfOk result (λ out. out ≡ spec.marked_text has_tags (chars text.now)) }
@@ -378,7 +379,7 @@ fn without_commands(alloc: Global, has_tags: bool, text: &str) -> Result<Text, A
     Ok(out)
 }
 
-// Returns the text without commands, with HTML tags or without them.
+// Returns the text with its commands replaced, with HTML tags or without them.
 pub(crate) fn marked_text(alloc: Global, has_tags: bool, text: Text) -> Result<Text, AllocError>
     ensures { IfOk result (λ out. out ≡ spec.marked_text has_tags (chars text)) }
 {

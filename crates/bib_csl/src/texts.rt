@@ -42,7 +42,8 @@ pub fn plain_text(alloc: Global, entry: &Entry, name: &str) -> Result<Text, Allo
     shown_field(alloc, entry.get(name))
 }
 
-// Returns the text of the field `name`, a title, with HTML tags. Verbatim text in it keeps its case.
+// Returns the text of the field `name`, a title, with HTML tags. Verbatim text is in a tag that keeps its case, unless it is only a
+// letter that is written by a command.
 #[tactic(auto, unfolding(crate::specs::Texts::title_text))]
 pub(crate) fn title_text(alloc: Global, entry: &Entry, name: &str) -> Result<Text, AllocError>
     ensures { IfOk result (λ shown. shown ≡ title_text entry.now name.now) }
@@ -111,7 +112,7 @@ fn ends_with_plain_mark(text: &str) -> bool
     is_end | has_end(text, ",") | has_end(text, ":") | has_end(text, ";")
 }
 
-// Returns whether a text ends with such a mark in emphasis.
+// Returns whether a text ends with such a mark and then `</i>`.
 fn ends_with_emphasized_mark(text: &str) -> bool
     ensures { result ≡ ends_with_mark_before (codes "</i>") text.now }
 {
@@ -119,7 +120,7 @@ fn ends_with_emphasized_mark(text: &str) -> bool
     is_end | has_end(text, ",</i>") | has_end(text, ":</i>") | has_end(text, ";</i>")
 }
 
-// Returns whether a text ends with such a mark in a tag that keeps the case.
+// Returns whether a text ends with such a mark and then `</span>`.
 fn ends_with_mark_of_kept_case(text: &str) -> bool
     ensures { result ≡ ends_with_mark_before (codes "</span>") text.now }
 {
@@ -127,7 +128,7 @@ fn ends_with_mark_of_kept_case(text: &str) -> bool
     is_end | has_end(text, ",</span>") | has_end(text, ":</span>") | has_end(text, ";</span>")
 }
 
-// Returns whether a text ends with a mark after which no other mark is written, also in emphasis or in a tag that keeps the case.
+// Returns whether a text ends with a mark after which no other mark is written, or with one and then `</i>` or `</span>`.
 #[tactic(auto, unfolding(crate::specs::Texts::ends_with_mark))]
 fn ends_with_mark(text: &str) -> bool
     ensures { result ≡ ends_with_mark text.now }

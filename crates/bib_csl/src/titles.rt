@@ -66,7 +66,7 @@ fn journal_title(alloc: Global, entry: &Entry) -> Result<Text, AllocError>
     with_subtitle(alloc, entry, title, "journalsubtitle", "journaltitleaddon")
 }
 
-// Returns the title of a volume, or else the title of a book.
+// Returns the title of the work itself, or else that of the book that contains it.
 #[tactic(auto, unfolding(crate::specs::Titles::title_of_whole))]
 fn title_of_whole(alloc: Global, entry: &Entry) -> Result<Text, AllocError>
     ensures { IfOk result (λ text. text ≡ spec.title_of_whole entry.now) }
@@ -85,7 +85,8 @@ fn item_title(alloc: Global, kind: ItemType, entry: &Entry) -> Result<Text, Allo
     own_title(alloc, entry)
 }
 
-// Returns the title of the volume, if the work of several volumes has a title of its own.
+// Returns the title of the volume, if the item is a volume or a part of a book, and the work of several volumes has a title. Otherwise
+// returns an empty text.
 #[tactic(auto, unfolding(crate::specs::Titles::volume_title))]
 fn volume_title(alloc: Global, kind: ItemType, entry: &Entry) -> Result<Text, AllocError>
     ensures { IfOk result (λ text. text ≡ spec.volume_title kind entry.now) }
@@ -103,7 +104,8 @@ fn volume_title(alloc: Global, kind: ItemType, entry: &Entry) -> Result<Text, Al
     Ok(Text::new(alloc))
 }
 
-// Returns the title of the container: the work of several volumes, the book or the journal. A book is in no other book.
+// Returns the title of the container. For a part of a book, this is the work of several volumes, or else the book. For an article
+// or a volume, it is the journal. For any other item, it is the journal, or else the book.
 #[tactic(auto, unfolding(crate::specs::Titles::container_title))]
 fn container_title(alloc: Global, kind: ItemType, entry: &Entry) -> Result<Text, AllocError>
     ensures { IfOk result (λ text. text ≡ spec.container_title kind entry.now) }

@@ -17,7 +17,8 @@ fn type_of_article(subtype: &str) -> ItemType
     }
 }
 
-/// Returns the type of the item of an entry with the name of a type that only BibLaTeX's data model has, or of any other type.
+/// Returns the type of the item of an entry whose type is unknown and has this name: a type for some other types of BibLaTeX, such as
+/// `movie`, and `Document` for any other name.
 #[tactic(auto, unfolding(crate::specs::Types::item_type_named))]
 pub fn item_type_named(name: &str) -> ItemType
     ensures { result ≡ item_type_named name.now }
@@ -87,7 +88,7 @@ pub(crate) fn item_type_of(entry_type: &EntryType, subtype: &str, has_event: boo
     }
 }
 
-// Returns whether the item is an article.
+// Returns whether the item is an article or a review.
 pub(crate) fn is_article(kind: ItemType) -> bool
     ensures { result ≡ is_article kind }
 {

@@ -19,7 +19,7 @@ fn way_of(alloc: Global, entry: &Entry) -> Result<Text, AllocError>
     rich_text(alloc, entry, "howpublished")
 }
 
-// Returns whether a text begins with the address of a web page.
+// Returns whether a text begins with an address: with `http://` or `https://`.
 #[tactic(auto, unfolding(crate::specs::Ways::begins_with_address))]
 fn begins_with_address(text: &str) -> bool
     ensures { result ≡ spec.begins_with_address text.now }
@@ -27,7 +27,7 @@ fn begins_with_address(text: &str) -> bool
     text.starts_with("http://") || text.starts_with("https://")
 }
 
-// Returns whether a text contains white space or a tag.
+// Returns whether a text contains white space, or a less-than sign, as a tag does.
 #[tactic(auto, unfolding(crate::specs::Ways::has_gap))]
 fn has_gap(text: &str) -> bool
     ensures { result ≡ spec.has_gap text.now }
@@ -71,7 +71,8 @@ fn is_way_address(alloc: Global, entry: &Entry) -> Result<bool, AllocError>
     Ok(named.is_empty() || named.as_str() == way.as_str())
 }
 
-// Returns whether `howpublished` is the address or the publisher of the item.
+// Returns whether `howpublished` is the address of the item if it begins with an address; otherwise, whether the item has no other
+// publisher. `way` is the text of `howpublished`.
 #[tactic(auto, unfolding(crate::specs::Notes::is_way_printed))]
 fn is_way_printed(alloc: Global, entry: &Entry, way: &str) -> Result<bool, AllocError>
     requires { way.now ≡ spec.way_of entry.now }

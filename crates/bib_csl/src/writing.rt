@@ -89,7 +89,7 @@ fn write_names(out: &mut Writer, names: &[Name]) -> Result<(), AllocError>
     out.end_array()
 }
 
-// Writes a day of a month, if it is given.
+// Writes the day of a month, if there is one.
 fn write_day(out: &mut Writer, day: Option<u16>) -> Result<(), AllocError>
     ensures written { OnOk result (out.new.tokens ≡ out.old.tokens ++ spec.day_tokens day) }
     ensures before { out.new.before ≡ out.old.before }
@@ -100,7 +100,7 @@ fn write_day(out: &mut Writer, day: Option<u16>) -> Result<(), AllocError>
     }
 }
 
-// Writes a month, and its day if it is given. Writes nothing without a month.
+// Writes a month, and its day if there is one. Writes nothing without a month.
 fn write_month(out: &mut Writer, month: Option<u16>, day: Option<u16>) -> Result<(), AllocError>
     ensures written { OnOk result (out.new.tokens ≡ out.old.tokens ++ spec.month_tokens month day) }
     ensures before { out.new.before ≡ out.old.before }

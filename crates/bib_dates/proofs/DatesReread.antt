@@ -1,13 +1,14 @@
 -- Each kept date parses from its text.
 use Rattle.std.proofs.Common.{◌≡◌, ℕ, zero, suc, ◌+◌, ◌-◌, ◌<◌, ◌≤◌, Bool, true, false, ◌||◌, ◌==◌, not, List, [], ◌∷◌, ◌++◌, length, take, drop, get_or, refl, sym, ap, ◌∙◌, arith, length-append, take_at, drop_at, append-nil, append_assoc, Option, Some, None, ℤ, pos, negsuc}
 use Rattle.std.specs.Prelude.{codes, bytes_eq}
-use Rattle.std.specs.List.{prefix_len, list_all, list_any, before_first, after_first, position_or_len}
+use Rattle.std.specs.List.{list_all, list_any, before_first, after_first, position_or_len}
 use Rattle.std.specs.Char.{is_ascii_digit}
 use Rattle.std.proofs.lemmas.List.{get_or_at}
-use Rattle.std.proofs.lemmas.List.Folds.{list_all-append, list_any-append}
-use Rattle.std.proofs.lemmas.Bool.{and_parts, and_from}
+use Rattle.std.proofs.lemmas.List.Folds.{list_any-append}
+use Rattle.std.proofs.lemmas.Bool.{and_parts}
 use Rattle.std.proofs.lemmas.Int.{ints}
 use Rattle.std.proofs.lemmas.Bool.Decides.{nat_tests}
+use Rattle.bib_text.proofs.ListFacts.{passed_weaker, passed_append, passed_prefix}
 use Rattle.jiff_core.specs.Calendar.{IsYear}
 use Rattle.bib_dates.specs.declared.date.Date.{Date}
 use Rattle.bib_dates.specs.declared.date.DateValue.{DateValue}
@@ -35,11 +36,6 @@ pub record IsSide (d : Datetime) (text : List ℕ) : Type 0 where
   pub long : 4 ≤ length text
   pub read : side text ≡ says d
 
--- bytes that pass a test pass a weaker one
-pub all_more : (p q : ℕ → Bool) → ((b : ℕ) → p b ≡ true → q b ≡ true) → (xs : List ℕ) → list_all p xs ≡ true → list_all q xs ≡ true
-all_more p q f [] h = refl
-all_more p q f (x ∷ xs) h = let k = and_parts (p x) (list_all p xs) h in and_from _ _ (f x k.0) (all_more p q f xs k.1)
-
 -- if no byte that passes `p` passes `q`, bytes that all pass `p` contain none that passes `q`
 pub any_none : (p q : ℕ → Bool) → ((b : ℕ) → p b ≡ true → q b ≡ false) → (xs : List ℕ) → list_all p xs ≡ true → list_any q xs ≡ false
 any_none p q f [] h = refl
@@ -47,11 +43,7 @@ any_none p q f (x ∷ xs) h = let k = and_parts (p x) (list_all p xs) h in rw (f
 
 -- digits are bytes of a date
 pub digit_bytes : (xs : List ℕ) → list_all is_ascii_digit xs ≡ true → list_all is_date_byte xs ≡ true
-digit_bytes xs h = all_more is_ascii_digit is_date_byte (λ b k. rw k refl) xs h
-
--- if each byte of two texts passes a test, so does each byte of both together
-pub both : (p : ℕ → Bool) (xs ys : List ℕ) → list_all p xs ≡ true → list_all p ys ≡ true → list_all p (xs ++ ys) ≡ true
-both p xs ys h k = list_all-append p xs ys ∙ and_from _ _ h k
+digit_bytes xs h = passed_weaker is_ascii_digit is_date_byte (λ b k. rw k refl) xs h
 
 -- a written month and day consist of digits and hyphens
 number_bytes : (y : ℤ) (m d : Option ℕ) → IsKeptDay y m d → list_all is_date_byte (month_day_text m d) ≡ true
@@ -63,7 +55,7 @@ number_bytes y (Some m) (Some d) k =
     let few = month_short y (m + 1) in
     let is : IsNumber 2 (m + 1) (with_zeros 2 (m + 1)) = two_digits (m + 1) (omega (arith, k.0)) in
     let day : IsNumber 2 (d + 1) (with_zeros 2 (d + 1)) = two_digits (d + 1) (omega (arith, k.1)) in
-    both is_date_byte (with_zeros 2 (m + 1)) (45 ∷ with_zeros 2 (d + 1)) (digit_bytes (with_zeros 2 (m + 1)) is.digits)
+    passed_append is_date_byte (with_zeros 2 (m + 1)) (45 ∷ with_zeros 2 (d + 1)) (digit_bytes (with_zeros 2 (m + 1)) is.digits)
     (digit_bytes (with_zeros 2 (d + 1)) day.digits)
 
 -- a written year consists of digits and hyphens, and has at least four bytes
@@ -82,7 +74,9 @@ whole d e = ap (λ t. record { year = d.year; month = d.month; day = d.day; time
 pub is_side : (d : Datetime) → IsKeptDatetime d → IsSide d (datetime_text d)
 is_side d kept =
     let year = year_bytes d.year kept.year in record {
-      bytes = both is_date_byte (year_text d.year) (month_day_text d.month d.day) year.0 (number_bytes d.year d.month d.day kept.day);
+      bytes =
+          passed_append is_date_byte (year_text d.year) (month_day_text d.month d.day) year.0
+          (number_bytes d.year d.month d.day kept.day);
       long = omega (arith, year.1, length-append (year_text d.year) (month_day_text d.month d.day));
       read = side_reads d.year d.month d.day kept.year kept.day ∙ ap says (whole d kept.time);
     }
@@ -109,7 +103,7 @@ passes_slash b h = grind (arith, nat_tests)
 
 -- the text of a side is plain
 plain_side : (d : Datetime) (text : List ℕ) → IsSide d text → plain text ≡ true
-plain_side d text is = all_more is_date_byte is_plain date_plain text is.bytes
+plain_side d text is = passed_weaker is_date_byte is_plain date_plain text is.bytes
 
 not_points : (text : List ℕ) → list_all is_date_byte text ≡ true → 0 < length text → bytes_eq text (codes "..") ≡ false
 not_points [] h some = absurd (omega arith)
@@ -132,13 +126,9 @@ closed d text is =
 points_open : is_open (codes "..") ≡ true
 points_open = rw (trim_start-plain (codes "..") refl, trim_end-plain (codes "..") refl) refl
 
-prefix_run : (p : ℕ → Bool) (xs rest : List ℕ) → list_all p xs ≡ true → prefix_len p (xs ++ rest) ≡ length xs + prefix_len p rest
-prefix_run p [] rest h = omega arith
-prefix_run p (x ∷ xs) rest h = let q = and_parts (p x) (list_all p xs) h in rw (q.0, prefix_run p xs rest q.1) (omega arith)
-
 slash_at : (xs rest : List ℕ) → list_all is_date_byte xs ≡ true → position_or_len (λ b. b == 47) (xs ++ (47 ∷ rest)) ≡ length xs
 slash_at xs rest h =
-    prefix_run (λ b. not (b == 47)) xs (47 ∷ rest) (all_more is_date_byte (λ b. not (b == 47)) passes_slash xs h)
+    passed_prefix (λ b. not (b == 47)) xs (47 ∷ rest) (passed_weaker is_date_byte (λ b. not (b == 47)) passes_slash xs h)
     ∙ omega arith
 
 before_slash : (xs rest : List ℕ) → list_all is_date_byte xs ≡ true → before_first (λ b. b == 47) (xs ++ (47 ∷ rest)) ≡ xs
@@ -214,7 +204,7 @@ pub record IsValue (v : DateValue) (text : List ℕ) : Type 0 where
   pub read : date_value text ≡ says v
 
 value_bytes : (d : Datetime) (text : List ℕ) → IsSide d text → list_all is_value_byte text ≡ true
-value_bytes d text is = all_more is_date_byte is_value_byte (λ b k. rw k refl) text is.bytes
+value_bytes d text is = passed_weaker is_date_byte is_value_byte (λ b k. rw k refl) text is.bytes
 
 -- the text of a kept date or range is such a text
 pub is_value : (v : DateValue) → IsKeptValue v → IsValue v (value_text v [])
@@ -223,7 +213,7 @@ is_value (At d) k =
     rw append-nil (record { bytes = value_bytes d (datetime_text d) is; read = at_reads d (datetime_text d) is })
 is_value (After d) k =
     let is = is_side d k in record {
-      bytes = both is_value_byte (datetime_text d) (codes "/..") (value_bytes d (datetime_text d) is) refl;
+      bytes = passed_append is_value_byte (datetime_text d) (codes "/..") (value_bytes d (datetime_text d) is) refl;
       read = after_reads d (datetime_text d) is;
     }
 is_value (Before d) k =
@@ -234,7 +224,7 @@ is_value (Between a b) k =
     let too = is_side b k.1 in
     rw append-nil (record {
       bytes =
-          both is_value_byte (datetime_text a) (47 ∷ datetime_text b) (value_bytes a (datetime_text a) is)
+          passed_append is_value_byte (datetime_text a) (47 ∷ datetime_text b) (value_bytes a (datetime_text a) is)
           (value_bytes b (datetime_text b) too);
       read = between_reads a b (datetime_text a) (datetime_text b) is too;
     })
@@ -268,7 +258,7 @@ last_bare : (text : List ℕ) → list_all is_value_byte text ≡ true → (is_u
 last_bare text h =
     let k =
     any_byte (λ b. is_value_byte b || b == 0) refl text
-    (all_more is_value_byte (λ b. is_value_byte b || b == 0) (λ b q. rw q refl) text h) (length text - 1) in
+    (passed_weaker is_value_byte (λ b. is_value_byte b || b == 0) (λ b q. rw q refl) text h) (length text - 1) in
     (not_uncertain (last text) k, not_approximate (last text) k)
 
 -- a date or a range with these marks
@@ -308,8 +298,8 @@ written_is_plain d kept =
     let is = is_value d.value kept in
     let mark = mark_text d.uncertain d.approximate in
     rw (mark_after d.value mark)
-    (both is_plain (value_text d.value []) mark
-    (all_more is_value_byte is_plain value_plain (value_text d.value []) is.bytes)
+    (passed_append is_plain (value_text d.value []) mark
+    (passed_weaker is_value_byte is_plain value_plain (value_text d.value []) is.bytes)
     (mark_plain d.uncertain d.approximate))
 
 -- the law on texts: each kept date parses from its text
@@ -326,5 +316,5 @@ plain_simple b h = grind (arith, nat_tests)
 pub date_survives : (d : Date) → IsKeptDate d → date_read (date_written d) ≡ Some d
 date_survives d kept =
     let whole : text (date_written d) ≡ date_text d =
-    simple_text (date_text d) (all_more is_plain is_simple plain_simple (date_text d) (written_is_plain d kept)) in
+    simple_text (date_text d) (passed_weaker is_plain is_simple plain_simple (date_text d) (written_is_plain d kept)) in
     ap readable_value (ap date_of whole ∙ text_survives d kept)

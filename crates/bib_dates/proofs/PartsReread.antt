@@ -1,9 +1,9 @@
 -- The year, the month and the day of a kept date parse from its text.
-use Rattle.std.proofs.Common.{◌≡◌, ℕ, zero, suc, ◌+◌, ◌-◌, ◌^◌, ◌<◌, ◌≤◌, Bool, true, false, ◌==◌, List, [], ◌∷◌, ◌++◌, length, replicate, refl, sym, ap, ◌∙◌, arith, lit<, length-append, take_at, drop_at, ne_eqb, append-nil}
+use Rattle.std.proofs.Common.{◌≡◌, ℕ, zero, suc, ◌+◌, ◌-◌, ◌^◌, ◌<◌, ◌≤◌, true, false, ◌==◌, List, [], ◌∷◌, ◌++◌, length, replicate, refl, sym, ap, ◌∙◌, arith, lit<, length-append, take_at, drop_at, ne_eqb, append-nil}
 use Rattle.std.specs.List.{prefix_len, list_all}
-use Rattle.std.specs.Char.{is_ascii_digit, digit_value}
+use Rattle.std.specs.Char.{is_ascii_digit}
 use Rattle.std.specs.Str.{trim_start}
-use Rattle.std.specs.Str.Parse.{AllDigits, digits_value}
+use Rattle.std.specs.Str.Parse.{digits_value}
 use Rattle.std.specs.Fmt.{decimal}
 use Rattle.std.proofs.lemmas.Fmt.{decimal_is_IsNumeral, length-decimal-le}
 use Rattle.std.proofs.lemmas.List.{length-replicate}
@@ -13,6 +13,8 @@ use Rattle.std.proofs.lemmas.Int.{ints}
 use Rattle.std.proofs.lemmas.Bool.Decides.{nat_tests}
 use Rattle.std.specs.Prelude.{ℤ, pos, negsuc, neg_ℤ, Option, Some, None}
 use Rattle.std.specs.Int.{is_negative}
+use Rattle.bib_text.proofs.DigitFacts.{all_digits}
+use Rattle.bib_text.proofs.ListFacts.{passed_prefix}
 use Rattle.jiff_core.specs.Calendar.{days_in_month, IsYear}
 use Rattle.bib_tables.specs.declared.type_error.TypeErrorKind.{TypeErrorKind}
 use Rattle.bib_tables.specs.declared.type_error.TypeErrorKind.TheVariants.{DayOutOfRange, MonthOutOfRange}
@@ -23,13 +25,6 @@ use Rattle.bib_dates.specs.Times.{after_day}
 use Rattle.bib_dates.specs.Dates.{datetime, after_month, after_year, side}
 use Rattle.bib_dates.specs.Written.{zeros, with_zeros, year_text, datetime_text}
 use Rattle.bib_dates.specs.Readings.Reading.{says}
-
-is_digit : (d : ℕ) → digit_value d < 10 → is_ascii_digit d ≡ true
-is_digit d h = grind (arith, nat_tests)
-
-all_digits : (ds : List ℕ) → AllDigits 10 ds → list_all is_ascii_digit ds ≡ true
-all_digits [] all = refl
-all_digits (d ∷ ds) all = and_from _ _ (is_digit d all.0) (all_digits ds all.1)
 
 all_zeros : (k : ℕ) → list_all is_ascii_digit (replicate k 48) ≡ true
 all_zeros zero = refl
@@ -71,14 +66,10 @@ digits_plain (d ∷ ds) h = let p = and_parts _ _ h in and_from _ _ (digit_plain
 pub plain-append : (xs ys : List ℕ) → plain xs ≡ true → plain ys ≡ true → plain (xs ++ ys) ≡ true
 plain-append xs ys h k = list_all-append is_plain xs ys ∙ and_from _ _ h k
 
-whole_run : (p : ℕ → Bool) (xs rest : List ℕ) → list_all p xs ≡ true → prefix_len p (xs ++ rest) ≡ length xs + prefix_len p rest
-whole_run p [] rest h = omega arith
-whole_run p (x ∷ xs) rest h = let q = and_parts (p x) (list_all p xs) h in rw (q.0, whole_run p xs rest q.1) (omega arith)
-
 -- the number of digits at the start of a text
 run_len : (width n : ℕ) (xs rest : List ℕ) → IsNumber width n xs → Ends rest → prefix_len is_ascii_digit (xs ++ rest) ≡ width
 run_len width n xs rest is ends =
-    let e = whole_run is_ascii_digit xs rest is.digits in let s = is.size in let z = ends.no_digit in omega arith
+    let e = passed_prefix is_ascii_digit xs rest is.digits in let s = is.size in let z = ends.no_digit in omega arith
 
 leading_run : (width n : ℕ) (xs rest : List ℕ) → IsNumber width n xs → Ends rest → run is_ascii_digit (xs ++ rest) ≡ xs
 leading_run width n xs rest is ends =

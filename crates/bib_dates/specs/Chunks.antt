@@ -41,7 +41,7 @@ date_written d = alone (Normal (date_text d))
 abbrev pub three_fields_reading : Value → Option Value → Option Value → Reading Date
 three_fields_reading year month day = three_fields_of (text year) (option_map text month) (option_map text day)
 
--- the span of an error of the month or the day, given the result of parsing the month. If that failed, it is the span
+-- the span of an error of the month or the day, by the result of parsing the month. If that failed, it is the span
 -- of the month's chunks. Otherwise it is that of the day's chunks or, without these, of the day after the month.
 abbrev pub day_error_place : Value → Option Value → Parsed (Option ℕ) → Range ℕ
 day_error_place month (Some day) (says read) = whole_span day
@@ -57,7 +57,7 @@ abbrev pub parts_error_place : Range ℕ → Option Value → Option Value → R
 parts_error_place nowhere None day = nowhere
 parts_error_place nowhere (Some month) day = month_error_place month day
 
--- the span of an error of three fields, given the result of parsing the year
+-- the span of an error of three fields, by the result of parsing the year
 abbrev pub year_error_place : Value → Option Value → Option Value → Reading ℤ → Range ℕ
 year_error_place year month day (says read) = parts_error_place (whole_span year) month day
 year_error_place year month day other = whole_span year

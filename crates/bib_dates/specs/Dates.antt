@@ -1,6 +1,6 @@
 -- Meaning: words of public contracts.
--- Dates as texts, after levels 0 and 1 of the Extended Date/Time Format as in the BibLaTeX manual, and as the Rust
--- crate `biblatex` parses them.
+-- Dates as texts, after levels 0 and 1 of the Extended Date/Time Format as in the BibLaTeX manual, and as the Rust crate
+-- `biblatex` parses them. White space may come before and after hyphens.
 use Rattle.std.specs.Prelude.{ℕ, ◌+◌, ◌-◌, ◌*◌, Bool, ◌&&◌, ◌||◌, ◌==◌, nat_lt, not, if◌then◌else◌, ℤ, pos, List, [], length, take, slice_index, codes, Option, Some, None, bytes_eq}
 use Rattle.std.specs.List.{prefix_len, before_first, after_first, list_any}
 use Rattle.std.specs.Char.{is_ascii_digit}
@@ -23,7 +23,7 @@ use Rattle.bib_text.specs.Characters as char
 abbrev pub datetime : ℤ → Option ℕ → Option ℕ → Option Time → Datetime
 datetime y m d t = record { year = y; month = m; day = d; time = t }
 
--- the date of a year and a month, which counts from 1, and of the text after them. That is empty, or a day of that
+-- the date of a year and a month, which counts from 1, and of the text after them. That is empty, or hyphens, a day of that
 -- month and an optional time.
 unfoldable pub after_month : ℤ → ℕ → List ℕ → Reading Datetime
 after_month y m [] = says (datetime y (Some (m - 1)) None None)
@@ -33,7 +33,7 @@ after_month y m text = do
   clock ← after_day (trim_start day.1)
   says (datetime y (Some (m - 1)) (Some (day.0 - 1)) clock)
 
--- the date of a year and of the text after it. That is empty, or a month, and an optional day and time.
+-- the date of a year and of the text after it. That is empty, or hyphens, a month, and an optional day and time.
 unfoldable pub after_year : ℤ → List ℕ → Reading Datetime
 after_year y [] = says (datetime y None None None)
 after_year y text = do
@@ -67,7 +67,7 @@ unknowns text = prefix_len (λ b. b == char.upper_x) text
 abbrev pub after_unknowns : List ℕ → List ℕ
 after_unknowns text = after_run (λ b. b == char.upper_x) text
 
--- all months of a year, given the text after `XX` for the month. That is empty or only white space, or hyphens, `XX`
+-- all months of a year; `text` is the text after `XX` for the month. It is empty or only white space, or it is hyphens, `XX`
 -- and a text that doesn't begin with `X`.
 unfoldable pub all_months : ℕ → List ℕ → Reading DateValue
 all_months y text =
@@ -89,11 +89,11 @@ unknown_month y text =
     if unknowns text == 2 then all_months y (after_unknowns text)
     else if unknowns text == 0 then all_days y text else unread
 
--- the years of a century, given its two digits and the text after them
+-- the years of a century; `n` is the number of its two digits, and `text` is the text after them
 unfoldable pub century : ℕ → List ℕ → Reading DateValue
 century n text = if unknowns text == 2 then says (years (100 * n) 99) else unread
 
--- the years of a decade, given its three digits and the text after them
+-- the years of a decade; `n` is the number of its three digits, and `text` is the text after them
 unfoldable pub decade : ℕ → List ℕ → Reading DateValue
 decade n text = if unknowns text == 1 then says (years (10 * n) 9) else unread
 
@@ -104,7 +104,7 @@ after_four_digits y text =
     if begins_with char.upper_x text then error WrongNumberOfDigits
     else after_hyphens text >>= (λ rest. unknown_month y (trim_start rest))
 
--- a date with unknown digits, which are written `X`: the years of a century or a decade, the months of a year or the
+-- a date with unknown digits, which are written `X`. It is the years of a century or a decade, the months of a year or the
 -- days of a month
 unfoldable pub unknown : List ℕ → Reading DateValue
 unknown text =
@@ -122,7 +122,7 @@ unknown text =
 abbrev pub is_open : List ℕ → Bool
 is_open text = (length (trim text) == 0) || bytes_eq text (codes "..")
 
--- a range, given the texts of its sides
+-- a range, from the texts of its sides
 unfoldable pub range : List ℕ → List ℕ → Reading DateValue
 range from to =
     if is_open from then

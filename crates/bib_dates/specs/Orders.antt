@@ -1,5 +1,5 @@
 -- Meaning: words of public contracts.
--- Times, and the orders of times and of dates, as in the Rust crate `biblatex`, except that two unequal times of the
+-- Times, and the orders of times and of dates, as in the Rust crate `biblatex`. One rule differs: two unequal times of the
 -- same moment are not comparable.
 use Rattle.std.specs.Prelude.{ℕ, ◌+◌, ◌*◌, ℤ, pos, ◌-ℤ◌, unsigned_abs, Bool, true, false, not, ◌&&◌, nat_lt, if◌then◌else◌, Option, Some, None, is_some, nat_eq}
 use Rattle.std.specs.Int.{is_negative}
@@ -22,7 +22,7 @@ abbrev pub clock : ℕ → ℕ → ℕ → Option TimeOffset → Option Time
 clock hour minute second offset =
     if is_clock hour minute second then Some (record { hour = hour; minute = minute; second = second; offset = offset }) else None
 
--- the seconds of an offset ahead of UTC
+-- the seconds by which an offset is ahead of UTC; negative if it is behind UTC
 abbrev pub offset_seconds : TimeOffset → ℤ
 offset_seconds Utc = pos 0
 offset_seconds (Offset positive hours minutes) =

@@ -12,11 +12,11 @@ use Rattle.bib_dates.specs.Readings.{Reading, ◌>>=◌, Parsed}
 use Rattle.bib_dates.specs.Readings.Reading.{says, error, unread}
 use Rattle.bib_text.specs.Characters as char
 
--- the longest run of such bytes at the start of a text
+-- the longest run of bytes that pass `test` at the start of a text
 abbrev pub run : (ℕ → Bool) → List ℕ → List ℕ
 run test text = take (prefix_len test text) text
 
--- the text after the longest run of such bytes at the start
+-- the text after the longest run of bytes that pass `test` at the start
 abbrev pub after_run : (ℕ → Bool) → List ℕ → List ℕ
 after_run test text = drop (prefix_len test text) text
 
@@ -42,7 +42,7 @@ small_number low high kind text = do
 abbrev pub begins_with : ℕ → List ℕ → Bool
 begins_with byte text = slice_index text 0 == byte
 
--- the text after this byte at the start
+-- the text after this byte; it is unread if the text doesn't begin with the byte
 abbrev pub after_byte : ℕ → List ℕ → Reading (List ℕ)
 after_byte byte text = if begins_with byte text then says (drop 1 text) else unread
 
@@ -70,7 +70,7 @@ with_sign is_minus n = if is_minus then neg_ℤ (pos n) else pos n
 abbrev pub of_century : ℤ → ℤ
 of_century y = if is_lt (int_cmp y (pos 50)) then y +ℤ pos 2000 else y +ℤ pos 1900
 
--- a year of two or four digits, with an optional sign, which white space may follow
+-- a year of two or four digits after white space, with an optional sign, which white space may follow
 unfoldable pub year : List ℕ → Parsed ℤ
 year text =
     let here = sign (trim_start text) in

@@ -1,6 +1,6 @@
 -- Meaning: words of public contracts.
--- Results of parsing a text where some kinds of errors are specified and others aren't, as for the dates of the Rust
--- crate `biblatex`.
+-- Results of parsing a text. Some kinds of errors are specified and others aren't, as for the dates of the Rust crate
+-- `biblatex`.
 use Rattle.std.specs.Prelude.{◌≡◌, ℕ, List, Option, Some, None, ⊤}
 use Rattle.bib_tables.specs.declared.type_error.TypeErrorKind.{TypeErrorKind}
 use Rattle.bib_tables.specs.declared.type_error.TypeErrorKind.TheVariants.{UndefinedRange, DayOutOfRange, MonthOutOfRange, InvalidNumber, MissingNumber, WrongNumberOfDigits, InvalidFormat, YearZeroCE}
@@ -40,8 +40,9 @@ IsDateKind InvalidFormat = ⊤
 IsDateKind YearZeroCE = ⊤
 IsDateKind other = ⊥
 
--- the kinds that a date's error may have if the definition specifies none: a number or the format is wrong. So the
--- error is never one of the other four: a range open on both sides, a month or a day out of range, or the year 0
+-- the kinds that a date's error may have if the definition specifies none: a number is invalid, missing or has a wrong
+-- number of digits, or the format is invalid. The error is never a range open on both sides, a month or a day out of range,
+-- or the year 0
 abbrev pub IsUnreadKind : TypeErrorKind → Type 0
 IsUnreadKind InvalidNumber = ⊤
 IsUnreadKind MissingNumber = ⊤

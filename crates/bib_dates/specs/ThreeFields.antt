@@ -46,8 +46,8 @@ abbrev pub after_word : List ℕ → List ℕ → List ℕ
 after_word [] text = text
 after_word (b ∷ word) text = after_word word (drop 1 text)
 
--- the year of an era, given the text after the era, which must not begin with a letter or a number. The year has no
--- sign and isn't 0.
+-- the year of an era. `rest_after` is the text after the era, which must not begin with a letter or a number. The year has
+-- no sign and isn't 0.
 unfoldable pub of_era : Bool → ℕ → ℤ → List ℕ → Reading ℤ
 of_era has_sign n year rest_after =
     if starts_word rest_after then unread
@@ -55,7 +55,8 @@ of_era has_sign n year rest_after =
     else if n == 0 then error YearZeroCE
     else says year
 
--- the year of a number, with an era after it or with its sign; any other text may come after it
+-- the year of a number, with an era after it or with its sign. Any other text may come after it, except a letter or a number
+-- directly after an era
 unfoldable pub with_era : Bool → Bool → ℕ → List ℕ → Reading ℤ
 with_era has_sign is_minus n text =
     if stands (codes "AD") text then of_era has_sign n (pos n) (after_word (codes "AD") text)
@@ -64,7 +65,8 @@ with_era has_sign is_minus n text =
     else if stands (codes "BC") text then of_era has_sign n (pos 1 -ℤ pos n) (after_word (codes "BC") text)
     else says (with_sign is_minus n)
 
--- the year field: an optional sign, one to four digits, and an optional era
+-- the year field: an optional sign, one to four digits, and an optional era. Other text may come after them, as in
+-- `with_era`
 unfoldable pub year_field : List ℕ → Reading ℤ
 year_field text =
     let here = trim_start text in
@@ -75,16 +77,16 @@ year_field text =
     then with_era has_sign (sign here).0 (digits_value 10 (run is_ascii_digit digits)) (trim_start (after_run is_ascii_digit digits))
     else unread
 
--- the index of the month, from 0, whose English name or abbreviation a word is, in any ASCII case
+-- the index, from 0, of the month that has a word as its English name or abbreviation, in any ASCII case
 abbrev pub month_named : List ℕ → Option ℕ
 month_named word = option_map month_index (month_of_word word)
 
--- the month that the letters at the start of a text name, or `None`, and the text after these letters
+-- the month that the ASCII letters at the start of a text name, or `None`, and the text after these letters
 abbrev pub named_month : List ℕ → Parsed (Option ℕ)
 named_month text = says (month_named (run is_ascii_alphabetic text), after_run is_ascii_alphabetic text)
 
--- the month field: one or two digits, otherwise the letters after any number of digits; and the text after it. Letters
--- that name no month aren't an error.
+-- the month field: one or two digits, otherwise the ASCII letters after any other number of digits; and the text after it.
+-- Letters that name no month aren't an error.
 unfoldable pub month_field : List ℕ → Parsed (Option ℕ)
 month_field text =
     let here = trim_start text in
@@ -93,11 +95,11 @@ month_field text =
     if lies 1 2 (prefix_len is_ascii_digit here) then (if lies 1 12 n then says (Some (n - 1), rest_after) else error MonthOutOfRange)
     else named_month rest_after
 
--- white space, no-break spaces too, and hyphens
+-- whether a character is white space, such as a no-break space, or a hyphen
 abbrev pub is_separator : ℕ → Bool
 is_separator c = is_whitespace c || c == char.hyphen
 
--- a text without the longest run of these at its start
+-- a text without the white space and hyphens at its start
 abbrev pub after_gap : List ℕ → List ℕ
 after_gap text = encode_utf8_all (rest_after is_separator (chars text))
 
@@ -118,21 +120,21 @@ day_after text =
     else if prefix_len is_ascii_digit here == 0 then unread
     else reported_day (day_number (run is_ascii_digit here))
 
--- the span of the digits of a day after a month, in bytes of the month's text, given the text after the month
+-- the span of the digits of a day after a month, in bytes of the month's text; `following` is the text after the month
 abbrev pub day_place : List ℕ → List ℕ → Range ℕ
 day_place month following = record {
   start = length month - length (after_gap following);
   end = length month - length (after_run is_ascii_digit (after_gap following));
 }
 
--- a day that consists of digits only and is a number of at most 255
+-- a day from 1 to 31 in a text of digits only; the error is `DayOutOfRange` only for another number of at most 255
 unfoldable pub only_day : List ℕ → Reading (Option ℕ)
 only_day text =
     if length (after_run is_ascii_digit text) == 0
     && (not (prefix_len is_ascii_digit text == 0) && not (nat_lt 255 (digits_value 10 (run is_ascii_digit text))))
     then reported_day (day_number (run is_ascii_digit text)) else unread
 
--- the day field: a decimal number from 1 to 31, with an optional plus
+-- the day field: a decimal number from 1 to 31, maybe after a plus, and with white space around them
 unfoldable pub day_field : List ℕ → Reading (Option ℕ)
 day_field text = if begins_with char.plus (trim text) then only_day (drop 1 (trim text)) else only_day (trim text)
 

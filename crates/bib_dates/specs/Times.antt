@@ -11,7 +11,7 @@ use Rattle.bib_dates.specs.Readings.Reading.{says, unread}
 use Rattle.bib_dates.specs.Parts.{small_number, begins_with, after_byte, after_colon}
 use Rattle.bib_text.specs.Characters as char
 
--- the minutes of an offset, given the text after its hours: 0 if that is empty. Text after the minutes is ignored.
+-- the minutes of an offset, from the text after its hours: 0 if that is empty. Text after the minutes is ignored.
 unfoldable pub offset_minute : List ℕ → Reading ℕ
 offset_minute [] = says 0
 offset_minute text = do

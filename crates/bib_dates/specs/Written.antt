@@ -36,7 +36,7 @@ month_day_text (Some m) (Some d) = (char.hyphen ∷ count_text m) ++ (char.hyphe
 abbrev pub datetime_text : Datetime → List ℕ
 datetime_text d = year_text d.year ++ month_day_text d.month d.day
 
--- the mark of a date, given whether it is uncertain and whether it is approximate
+-- the mark of a date; the flags say whether it is uncertain and whether it is approximate
 abbrev pub mark_text : Bool → Bool → List ℕ
 mark_text true true = codes "%"
 mark_text true false = codes "?"

@@ -64,17 +64,17 @@ impl Date {
         with_span(marked_date(text.as_str().trim_end()), whole_span(chunks))
     }
 
-    /// Parses the formatted texts of a year, a month and a day as a date. An era may come after the year, and the month
-    /// may be a name. Text that is neither a number of one or two digits nor such a name isn't an error: the month is
-    /// then `None`. If there is no day field, the day may come after the month. Without a month field, the day field is
-    /// ignored.
+    /// Parses the formatted texts of a year, a month and a day as a date. An era may come after the year. The month is a
+    /// number of one or two digits, or an English name or abbreviation after any other number of digits. If there is no
+    /// such name, the month is `None`, without an error. If there is no day field, the day may come after the month.
+    /// Without a month field, the day field is ignored.
     ///
     /// An error other than out of memory has the span of its field. For a day after the month, it has that of the
     /// digits, in bytes of the month's text. The kind is `MonthOutOfRange` if there is no such month. It is
     /// `DayOutOfRange` if no month has the day, which in its own field is a number of at most 255. It is `YearZeroCE`
-    /// if the year 0 has an era. It is `InvalidFormat` if a year with a sign has an era, or white space comes after the
-    /// sign. Otherwise the kind isn't specified: it is `InvalidNumber`, `MissingNumber`, `WrongNumberOfDigits` or
-    /// `InvalidFormat`.
+    /// if the year 0 has an era and no sign. It is `InvalidFormat` if a year with a sign has an era, or white space comes
+    /// after the sign. Otherwise the kind isn't specified: it is `InvalidNumber`, `MissingNumber`, `WrongNumberOfDigits`
+    /// or `InvalidFormat`.
     pub fn parse_three_fields(
         alloc: Global,
         year: ChunksRef<'_>,

@@ -72,7 +72,7 @@ fn of_era(has_sign: bool, n: u16, year: i32, following: &str) -> Result<i32, Rea
     Ok(year)
 }
 
-// Returns the year of this number and sign, and of the era that may come after it.
+// Returns the year of this number and sign, and of the era that may be at the start of `text`.
 #[tactic(auto, unfolding(crate::specs::ThreeFields::with_era))]
 fn with_era(has_sign: bool, is_minus: bool, n: u16, text: &str) -> Result<i32, ReadError>
     requires { n < 10000 }
@@ -93,7 +93,8 @@ fn with_era(has_sign: bool, is_minus: bool, n: u16, text: &str) -> Result<i32, R
     Ok(with_sign(is_minus, n))
 }
 
-// Parses the year field: an optional sign, one to four digits and an optional era. Other text after them is ignored.
+// Parses the year field: an optional sign, one to four digits and an optional era. Other text after them is ignored, except that
+// a letter or a number directly after an era is an error.
 #[tactic(auto, unfolding(crate::specs::ThreeFields::year_field))]
 pub(crate) fn year_field(text: &str) -> Result<i32, ReadError>
     ensures { reading result ≡ Spec.year_field text.now }
@@ -111,7 +112,7 @@ pub(crate) fn year_field(text: &str) -> Result<i32, ReadError>
     with_era(has_sign, is_minus, value(digits), following.trim_start())
 }
 
-// Returns the index of the month that a word names, from 0.
+// Returns the index, from 0, of the month that a word names, or `None` if it names no month.
 fn month_named(word: &str) -> Option<u8>
     ensures { result ≡ Spec.month_named word.now }
 {
@@ -136,7 +137,7 @@ fn letters(text: &str) -> (&str, &str)
     text.split_at(letters_len(text))
 }
 
-// Returns the month that the letters at the start name, and the text after them.
+// Returns the month that the ASCII letters at the start name, or `None`, and the text after these letters.
 fn named_month(text: &str) -> (Option<u8>, &str)
     ensures { says (result.0, result.1.now) ≡ Spec.named_month text.now }
 {
@@ -193,7 +194,7 @@ fn day_number(digits: &str) -> Option<u8>
     Some(day - 1)
 }
 
-// Parses the day after a month. Returns `None` if no gap comes after the month.
+// Parses the day after a month. Returns `Ok(None)` if the text doesn't begin with white space or a hyphen.
 #[tactic(auto, unfolding(crate::specs::ThreeFields::day_after))]
 pub(crate) fn day_after(text: &str) -> Result<Option<u8>, ReadError>
     ensures { reading result ≡ Spec.day_after text.now }

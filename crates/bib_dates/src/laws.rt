@@ -52,7 +52,7 @@ pub fn times_are_ordered()
     ensures equal { (a b : ATime) → (time_cmp a b ≡ Some Equal) ↔ (a ≡ b) }
 {}
 
-/// States for dates what `times_are_ordered` states for times.
+/// States for dates the same as `times_are_ordered` for times.
 pub fn dates_are_ordered()
     ensures itself { (a : ADatetime) → datetime_cmp a a ≢ Some Less }
     ensures through { (a b c : ADatetime) → datetime_cmp a b ≡ Some Less →

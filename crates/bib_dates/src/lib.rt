@@ -2,13 +2,13 @@
 //! are ordered.
 //!
 //! The definition of a date is a function from the bytes of a text to a value or an error. The kind of the error is
-//! specified or not. The function consists of small ones, each of which parses a part at the start of a text and
-//! returns it with the rest. The program has one function on a `&str` for each of them, whose contract says that both
-//! return the same. So few of them need a proof file.
+//! specified or not. The function consists of small ones, each of which parses a part at the start of a text and returns it
+//! with the rest. For most of them the program has one function on a `&str`, whose contract says that both return the same.
+//! So few of them need a proof file.
 //!
-//! The text of a date is formatted once, put into upper case in place, and parsed in one pass. An error of a text is a
-//! `ReadError`, which has no variant for out of memory. `Specified` contains a kind that the definition specifies,
-//! `Unspecified` another one. The functions on chunks turn it into a type error with a span.
+//! The text of a date in one field is formatted once, put into upper case in place, and parsed without copying it. An error
+//! of a text is a `ReadError`, which has no variant for out of memory. `Specified` contains a kind that the definition
+//! specifies, `Unspecified` one that it leaves open. The functions on chunks turn it into a type error with a span.
 //!
 //! `parts` parses numbers, signs and hyphens, `times` the time after a day, `read` the sides of ranges, unknown digits
 //! and marks, `fields` the three fields. The proof that a kept date parses from its text speaks of the definitions

@@ -254,7 +254,7 @@ fn unknown(text: &str) -> Result<DateValue, ReadError>
     decade(n, following)
 }
 
-// Returns whether a side of a range is open.
+// Returns whether a side of a range is open: it is blank or two dots.
 fn is_open(text: &str) -> bool
     ensures { result ≡ Spec.is_open text.now }
 {

@@ -17,8 +17,8 @@ fn no_sign(s: &Scanner<'_>, start: usize) -> TypeError
     }
 }
 
-/// Consumes white space and the hyphens after it. At least one hyphen is required; if there is none, the error has the
-/// kind `InvalidFormat` and the span of the white space, and only that is consumed.
+/// Consumes white space and the hyphens after it. At least one hyphen is required. If there is none, the error has the kind
+/// `InvalidFormat` and the span of the white space, and only that is consumed.
 pub fn parse_hyphen(s: &mut Scanner<'_>) -> Result<(), TypeError>
     ensures { MatchResult result
         (λ _. IsHyphens s.old s.new)

@@ -49,9 +49,9 @@ IsNoYear (Err (Missing reported)) = reported ≡ codes "year"
 IsNoYear (Err (TypeError e)) = ⊥
 IsNoYear (Err OutOfMemory) = ⊤
 
--- the result of getting a date, given its field and the field of its year. If there is a date field, the result is that field
--- as a date, or else its chunks. If there is only a year, it is the date of the three fields. Otherwise the error is
--- `Missing` with the name `year`, for any prefix
+-- the result of getting a date, from its field and the field of its year. If there is a date field, the result is that field
+-- as a date, or else its chunks. If there is a year but no date field, it is the result of parsing the three fields.
+-- Otherwise the error is `Missing` with the name `year`, for any prefix. Any result may be out of memory instead
 abbrev pub IsDateOf : Ghosts (PermissiveType Date) → List ℕ → Entry → Option Value → Option Value
     → Result (PermissiveType Date) RetrievalError → Type 0
 IsDateOf type prefix entry (Some chunks) year result = IsRetrieved type (Some chunks) (prefix ++ codes "date") result
@@ -74,8 +74,8 @@ with_date prefix entry chunks =
     (without_part prefix (codes "month")
     (without_part prefix (codes "year") (with_field entry (prefix ++ codes "date") chunks)))
 
--- the date is set to the chunks that a value of this meaning is written as; its year, month and day are removed, and no other
--- field changes. If the type keeps the value, the field parses back to that value. If memory runs out, nothing changes
+-- the date is set to the chunks that a value of this meaning is written as. Its year, month and day are removed, and no
+-- other field changes. If the type keeps the value, the field parses back to that value. If memory runs out, nothing changes
 pub record SetsDate (type : Ghosts (PermissiveType Date)) (m : type.Meaning) (prefix : List ℕ) (old new : Entry)
     (result : Result (Unit {0}) AllocError) : Type 0 where
   pub set : OnOk result (new ≡ with_date prefix old (type.writes m))

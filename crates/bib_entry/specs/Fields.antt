@@ -20,16 +20,17 @@ abbrev pub field_or : Entry → List ℕ → List ℕ → Option Value
 field_or entry name other = one_or_other entry.fields name other
 
 -- `result` is the result of parsing the field of the first name, or else of the second. If both are missing, the error
--- contains the first name
+-- contains the first name, or is out of memory
 pub record GetsEitherValue {V : Type 0} (type : Ghosts V) (entry : Entry) (name other : List ℕ)
     (result : Result V RetrievalError) : Type 0 where
   pub retrieved : IsRetrieved type (field_or entry name other) name result
 
--- `result` contains the chunks of the field of this name. If the field is missing, the error contains the name
+-- `result` contains the chunks of the field of this name. If the field is missing, the error contains the name, or is out of
+-- memory
 pub record GetsChunks (entry : Entry) (name : List ℕ) (result : Result (Bor Value) RetrievalError) : Type 0 where
   pub chunks : AreChunksOf (by_name.get entry.fields name) name result
 
--- `result` is the chunks of the field of the first name, or else of the second
+-- the same for the field of the first name, or else of the second; the error contains the first name
 pub record GetsEitherChunks (entry : Entry) (name other : List ℕ) (result : Result (Bor Value) RetrievalError) : Type 0 where
   pub chunks : AreChunksOf (field_or entry name other) name result
 

@@ -1,6 +1,7 @@
 -- Meaning: words of public contracts.
--- Reports on entries: the fields that the type requires and the entry lacks, those that the type forbids and the entry has,
--- and those whose chunks can't be parsed. The rules are those of the Rust crate `biblatex` for verifying entries.
+-- Reports on entries: the fields that the type requires and the entry lacks, and those that the type forbids and the entry
+-- has. A report also contains the fields of `field_verdicts` and `date_verdicts` that can't be parsed. The rules are those
+-- of the Rust crate `biblatex` for verifying entries.
 use Rattle.std.specs.Prelude.{◌≡◌, ℕ, Bool, true, false, not, ◌&&◌, ◌||◌, List, [], ◌∷◌, ◌++◌, codes, Option, Some, None, is_some}
 use Rattle.std.specs.List.{filter, AllZip}
 use Rattle.std.specs.FinMap as by_name
@@ -53,7 +54,7 @@ has_other entry (Some name) = has_chunks entry name
 abbrev pub lacks : Entry → List ℕ → Bool
 lacks entry name = not (has_chunks entry name || has_other entry (value_named other_required_names name))
 
--- whether an entry has editors in any role
+-- whether an entry has one of the four fields of editors
 abbrev pub has_editor : Entry → Bool
 has_editor entry =
     has_field entry (codes "editor")
@@ -66,7 +67,7 @@ abbrev pub only_if : Bool → List ℕ → Names
 only_if true name = name ∷ []
 only_if false name = []
 
--- the missing people under a rule, given whether the entry has an author and whether it has an editor
+-- the missing people under a rule; the flags say whether the entry has an author and whether it has an editor
 abbrev pub missing_people : AuthorMode → Bool → Bool → Names
 missing_people author.NoneRequired has_author has_editor = []
 missing_people author.OneRequired has_author has_editor = only_if (not (has_author || has_editor)) (codes "author")
@@ -76,7 +77,7 @@ missing_people author.AuthorRequired has_author has_editor = only_if (not has_au
 missing_people author.AuthorRequiredEditorOptional has_author has_editor = only_if (not has_author) (codes "author")
 missing_people author.EditorRequiredAuthorForbidden has_author has_editor = only_if (not has_editor) (codes "editor")
 
--- the missing pages under a rule, given whether the entry has pages and whether it has a chapter
+-- the missing pages under a rule; the flags say whether the entry has pages and whether it has a chapter
 abbrev pub missing_pages : PagesChapterMode → Bool → Bool → Names
 missing_pages pages.OneRequired has_pages has_chapter = only_if (not (has_pages || has_chapter)) (codes "pages")
 missing_pages pages.PagesRequired has_pages has_chapter = only_if (not has_pages) (codes "pages")
@@ -114,19 +115,19 @@ superfluous_of entry =
     ++ superfluous_people (rules_of entry.entry_type).author entry)
     ++ superfluous_pages (rules_of entry.entry_type).pages entry
 
--- the verdict on a field: it is missing or can be parsed (`fine`); it has an error of this kind at this span (`refused`); or
--- it has an error of an unspecified kind at this span (`unread`)
+-- the verdict on a field. It is `fine` if the field is missing or can be parsed, and `refused` for an error of this kind at
+-- this span. It is `unread` for an error of an unspecified kind at this span
 pub data Verdict : Type 0 where
   fine : Verdict
   refused : TypeErrorKind → Range ℕ → Verdict
   unread : Range ℕ → Verdict
 
--- the verdict on chunks, given their value if they can be parsed, and the kind and the span of the error otherwise
+-- the verdict on chunks: fine if they can be parsed as a value, and otherwise an error with this kind and this span
 abbrev pub read_or : {M : Type 0} → Option M → TypeErrorKind → Range ℕ → Verdict
 read_or (Some m) kind place = fine
 read_or None kind place = refused kind place
 
--- the verdict on a field, given how it is parsed and the kind of its error; the error is at the span of all its chunks
+-- the verdict on a field, if there is one; `reads` parses it, and `reason` is the kind of its error, at the span of all its chunks
 abbrev pub verdict : {M : Type 0} → (Value → Option M) → (Value → TypeErrorKind) → Option Value → Verdict
 verdict reads reason None = fine
 verdict reads reason (Some chunks) = read_or (reads chunks) (reason chunks) (whole_span chunks)
@@ -141,13 +142,13 @@ field_verdicts entry =
     (codes "volume", verdict number_read number_error (by_name.get entry.fields (codes "volume"))) ∷
     (codes "volumes", verdict number_read number_error (by_name.get entry.fields (codes "volumes"))) ∷ []
 
--- the verdict on the result of parsing a date, given the span of its error
+-- the verdict on the result of parsing a date; `place` is the span of its error
 abbrev pub date_verdict : {A : Type 0} → Reading A → Range ℕ → Verdict
 date_verdict (says a) place = fine
 date_verdict (error kind) place = refused kind place
 date_verdict not_read place = unread place
 
--- the verdict on a date, given its field and those of its year, month and day. A date in one field is always fine, and so is
+-- the verdict on a date, from its field and those of its year, month and day. A date in one field is always fine, and so is
 -- a date without a year. Otherwise the three fields must be a date
 abbrev pub fields_verdict : Option Value → Option Value → Option Value → Option Value → Verdict
 fields_verdict (Some date) year month day = fine

@@ -27,7 +27,7 @@ value_bytes name chunks = encode_utf8_all (written_value chunks (is_verbatim_fie
 abbrev pub written_line : List ℕ → List ℕ → List ℕ
 written_line name value = name ++ (codes " = " ++ (value ++ codes ",\n"))
 
--- the text of an entry, given the name of its type, its key and the lines of its fields
+-- the text of an entry, from the name of its type, its key and the lines of its fields
 abbrev pub entry_text : List ℕ → List ℕ → List ℕ → List ℕ
 entry_text kind key lines = codes "@" ++ (kind ++ (codes "{" ++ (key ++ (codes ",\n" ++ (lines ++ codes "}")))))
 
@@ -44,7 +44,7 @@ abbrev pub part_line : List ℕ → Option (List ℕ) → List ℕ
 part_line name None = []
 part_line name (Some text) = written_line name (codes "{" ++ (text ++ codes "}"))
 
--- the lines of one side of a date, with `prefix` before their names: a year, and a month and a day if it has them
+-- the lines of one side of a date, with `prefix` before their names: a year, a month if it has one, and a day if it has both
 abbrev pub side_lines : List ℕ → Datetime → List ℕ
 side_lines prefix d =
     part_line (prefix ++ codes "year") (Some (year_text d.year))
@@ -85,7 +85,7 @@ abbrev pub entry_in : Dialect → Entry → List ℕ
 entry_in Biblatex = biblatex_entry
 entry_in Bibtex = bibtex_entry
 
--- the text of entries, given the text of each: a line feed after each, and an empty line between two. Without entries it is
+-- the text of entries, from the text of each: a line feed after each, and an empty line between two. Without entries it is
 -- empty
 abbrev pub entries_text : (Entry → List ℕ) → List Entry → List ℕ
 entries_text written [] = []

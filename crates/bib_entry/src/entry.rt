@@ -43,8 +43,8 @@ impl Entry {
         reading::get(&self.fields, name)
     }
 
-    /// Sets the field whose name is `name` in lowercase ASCII letters, and returns its previous chunks. If memory runs out,
-    /// the entry stays unchanged, and the error contains `chunks`.
+    /// Sets the field whose name is `name` with ASCII letters in lowercase, and returns its previous chunks. If memory runs
+    /// out, the entry stays unchanged, and the error contains `chunks`.
     pub fn set(&mut self, name: &str, chunks: Chunks) -> Result<Option<Chunks>, SetError>
         ensures had { IfOk result (λ had. had ≡ by_name.get self.old.fields
             (map to_ascii_lowercase name.now)) }

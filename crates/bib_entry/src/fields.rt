@@ -62,8 +62,8 @@ impl Entry {
         reading::chunks_of_either(&self.fields, alloc, name, other)
     }
 
-    /// Sets the field whose name is `name` in lowercase ASCII letters to the chunks that `value` is written as. If memory
-    /// runs out, the entry stays unchanged.
+    /// Sets the field whose name is `name` with ASCII letters in lowercase to the chunks that `value` is written as. If
+    /// memory runs out, the entry stays unchanged.
     pub fn set_as<T: Type>(&mut self, name: &str, value: &T) -> Result<(), AllocError>
         ensures { SetsValue T.Type (T.meaning value.now) (map to_ascii_lowercase name.now)
             self.old self.new result }

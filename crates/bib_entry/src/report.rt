@@ -12,14 +12,14 @@ use bib_tables::type_error::TypeError;
 use bib_text::text::Text;
 use std::alloc::{AllocError, Global};
 
-/// The problems of an entry.
+/// The problems of an entry, by the rules of [`Entry::verify`].
 #[derive(Debug, Drop)]
 pub struct Report {
     /// The fields that its type requires and the entry lacks.
     pub missing: Vec<&'static str>,
     /// The fields that its type forbids and the entry has.
     pub superfluous: Vec<&'static str>,
-    /// The fields whose chunks can't be parsed, each with its error.
+    /// The fields that can't be parsed as values of their types, each with its error.
     pub malformed: Vec<(Text, TypeError)>,
 }
 
@@ -36,8 +36,9 @@ impl Report {
 
 impl Entry {
     /// Reports the problems of the entry. `missing` contains the fields that its type requires and it lacks, and
-    /// `superfluous` those that its type forbids and it has. `malformed` contains the fields that can't be parsed as values
-    /// of their types. A date in three fields has the name of the single field there, such as `date`.
+    /// `superfluous` those that its type forbids and it has. `malformed` contains the fields and dates that can't be parsed
+    /// as values of their types. Only `bookpagination`, `gender`, `pages`, `pagination`, `volume`, `volumes` and dates in
+    /// three fields are checked. Such a date has the name of the single field, such as `date`.
     ///
     /// A required field without chunks is missing. It may also occur under its other name: `journal` for `journaltitle`,
     /// `address` for `location`, and `institution` for `school`. Authors, editors, pages, a chapter and a date aren't missing

@@ -193,9 +193,9 @@ pub fn write_entry(
 }
 
 impl Entry {
-    /// Returns the entry as a text with escapes, in BibLaTeX's types and fields. An unknown command was parsed as plain text,
-    /// so it is escaped: `\emph{x}` is written `\\emph\{x\}`. Outside verbatim fields `~` is written `\textasciitilde{}`. The
-    /// edits and `convert` of `bibkit` preserve the source of a file instead.
+    /// Returns the entry as a text with escapes, in BibLaTeX's types and fields. An unknown command was parsed as plain
+    /// text, so it is escaped: `\emph{x}` is written `\\emph\{x\}`. Outside verbatim fields and math, `~` is written
+    /// `\textasciitilde{}`. The edits of `bibkit` and its `convert --to biblatex` keep such commands.
     ///
     /// `journal`, `address` and `school` become `journaltitle`, `location` and `institution`. The fields are in the order of
     /// the bytes of their names in the entry. The only error is out of memory.
@@ -208,8 +208,8 @@ impl Entry {
     }
 
     /// Returns the entry as a text with escapes, in BibTeX's types and fields. An unknown command was parsed as plain text,
-    /// so it is escaped: `\emph{x}` is written `\\emph\{x\}`. Outside verbatim fields `~` is written `\textasciitilde{}`. The
-    /// edits and `convert` of `bibkit` preserve the source of a file instead.
+    /// so it is escaped: `\emph{x}` is written `\\emph\{x\}`. Outside verbatim fields and math, `~` is written
+    /// `\textasciitilde{}`. The edits of `bibkit` and its `convert --to bibtex` keep such commands.
     ///
     /// `journaltitle` and `location` become `journal` and `address`, and the `institution` of a thesis becomes `school`. A
     /// `date` that can be parsed becomes `year`, `month` and `day`, and a range with two sides also `endyear`, `endmonth` and

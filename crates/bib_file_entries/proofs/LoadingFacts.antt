@@ -1,5 +1,5 @@
 -- Loading entries from raw entries.
-use Rattle.std.proofs.Common.{◌≡◌, ℕ, ◌<◌, Bool, true, false, cond, List, [], ◌∷◌, ◌++◌, length, reverse, take, drop, get_or, Option, Some, None, refl, inl, inr, ◌⊎◌, ◌+◌, sym, ap, subst, ◌∙◌, suc}
+use Rattle.std.proofs.Common.{◌≡◌, ℕ, ◌<◌, true, false, cond, List, [], ◌∷◌, ◌++◌, length, reverse, take, drop, get_or, Option, Some, None, refl, inl, inr, ◌⊎◌, ◌+◌, sym, ap, subst, ◌∙◌, suc}
 use Rattle.std.proofs.Math.Seq.{drop-cons}
 use mathlib.Core.List.{reverse_aux}
 use Rattle.std.specs.Prelude.{find, bytes_eq, option_map, MatchOption}
@@ -13,6 +13,7 @@ use Rattle.std.proofs.lemmas.List.{reverse-append, take_more, take-append-drop}
 use Rattle.std.proofs.lemmas.Map.Text.{is_eq-slice_cmp}
 use Rattle.bib_chunks.specs.declared.chunk.Chunk.{Chunk}
 use Rattle.bib_text.specs.declared.spanned.Spanned.{Spanned}
+use Rattle.bib_text.proofs.OptionFacts.{mapped_cond}
 use Rattle.bib_abbreviations.specs.Abbreviations.{Definitions}
 use Rattle.bib_syntax.specs.Errors.{out_of_memory}
 use Rattle.bib_syntax.specs.Reading.{Piece}
@@ -32,11 +33,6 @@ last_definition-push pairs p name =
     option_map pieces_of (cond b (Some p) (find (λ q. bytes_eq name q.key.v.now) (reverse pairs)))
     ≡ cond b (Some (pieces_of p)) (last_definition pairs name)) [ true ↦ refl | false ↦ refl ]
 
-chosen : {A B : Type 0} (f : A → B) (b : Bool) (a : A) (o : Option A)
-    → option_map f (cond b (Some a) o) ≡ cond b (Some (f a)) (option_map f o)
-chosen f true a o = refl
-chosen f false a o = refl
-
 -- inserting the next definition into the map of the last definitions so far gives the last definitions with it
 pub defined_more : {F : Type 0} (f : F → List Piece) (pairs : List Pair) (i : ℕ) (p : Pair) (field : F) (name : List ℕ)
     (before after : Option F)
@@ -44,7 +40,7 @@ pub defined_more : {F : Type 0} (f : F → List Piece) (pairs : List Pair) (i : 
     → after ≡ cond (bytes_eq p.key.v.now name) (Some field) before → option_map f after ≡ last_definition (take (i + 1) pairs) name
 defined_more f pairs i p field name before after within here same so_far updated =
     ap (option_map f) updated
-    ∙ chosen f (bytes_eq p.key.v.now name) field before
+    ∙ mapped_cond f (bytes_eq p.key.v.now name) field before
     ∙ ap (λ b. cond b (Some (f field)) (option_map f before)) (nat_list_eq_equiv.symm p.key.v.now name)
     ∙ ap (λ a. cond (bytes_eq name p.key.v.now) (Some a) (option_map f before)) same
     ∙ ap (cond (bytes_eq name p.key.v.now) (Some (pieces_of p))) so_far

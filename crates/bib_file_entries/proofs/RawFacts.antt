@@ -1,11 +1,11 @@
 -- Entries in terms of the data structures are entries in terms of the grammar.
 use Rattle.std.proofs.Common.{◌≡◌, ℕ, Bool, List, [], ◌∷◌, map, refl, sym, ap, ◌∙◌, subst, Option, None, Some, MatchOption, inl, inr}
 use Rattle.std.specs.Prelude.{reverse, find, bytes_eq, option_map}
-use mathlib.Core.List.{reverse_aux}
 use Rattle.std.specs.FinMap as by_name
 use Rattle.std.proofs.lemmas.Bool.{cases_Bool}
 use Rattle.bib_chunks.specs.declared.chunk.Chunk.{Chunk}
 use Rattle.bib_text.specs.declared.spanned.Spanned.{Spanned}
+use Rattle.bib_text.proofs.ReverseFacts.{reverse_of_map}
 use Rattle.bib_abbreviations.specs.Abbreviations.{Definitions}
 use Rattle.bib_syntax.specs.Reading.{FieldReading}
 use Rattle.bib_syntax.specs.Views.{field_of, entry_reading_of}
@@ -25,13 +25,6 @@ find_map test f (x ∷ xs) =
       | inr other ↦ rw other (find_map test f xs)
     ]
 
-turned_map : {A B : Type 0} (f : A → B) (xs ys : List A) → reverse_aux (map f xs) (map f ys) ≡ map f (reverse_aux xs ys)
-turned_map f [] ys = refl
-turned_map f (x ∷ xs) ys = turned_map f xs (x ∷ ys)
-
-reverse_map : {A B : Type 0} (f : A → B) (xs : List A) → reverse (map f xs) ≡ map f (reverse xs)
-reverse_map f xs = turned_map f xs []
-
 found_map : {A B C : Type 0} (g : B → C) (f : A → B) (o : Option A) → option_map g (option_map f o) ≡ option_map (λ x. g (f x)) o
 found_map g f None = refl
 found_map g f (Some x) = refl
@@ -40,7 +33,7 @@ found_map g f (Some x) = refl
 pub definition_same : (pairs : List Pair) (name : List ℕ) → last_definition pairs name ≡ definition_in (map field_of pairs) name
 definition_same pairs name =
     sym (
-    ap (λ fs. option_map (λ (f : FieldReading). f.value.pieces) (find (λ f. bytes_eq name f.name.text) fs)) (reverse_map field_of pairs)
+    ap (λ fs. option_map (λ (f : FieldReading). f.value.pieces) (find (λ f. bytes_eq name f.name.text) fs)) (reverse_of_map field_of pairs)
     ∙ ap (option_map (λ (f : FieldReading). f.value.pieces)) (find_map (λ f. bytes_eq name f.name.text) field_of (reverse pairs))
     ∙ found_map (λ (f : FieldReading). f.value.pieces) field_of (find (λ p. bytes_eq name p.key.v.now) (reverse pairs))
     )
@@ -73,7 +66,7 @@ pub found_same : (definitions : Definitions) (fields : List Pair) (name : List �
     (λ f. (chunks : List (Spanned Chunk)) × (at ≡ Some chunks) × FieldSays definitions f chunks)
 found_same definitions fields name at found =
     let same : field_in (map field_of fields) name ≡ option_map field_of (last_field fields name) =
-    ap (find (λ f. bytes_eq name (name_of f))) (reverse_map field_of fields)
+    ap (find (λ f. bytes_eq name (name_of f))) (reverse_of_map field_of fields)
     ∙ find_map (λ f. bytes_eq name (name_of f)) field_of (reverse fields) in
     subst
     (λ o.

@@ -12,7 +12,7 @@ use Rattle.bib_collections.specs.Sorted.{ByText}
 use Rattle.bib_collections.specs.Names.{with_claims, claims_for, without_index}
 use Rattle.bib_chunks.specs.Lists.{comma_texts}
 
--- entries in order, and names, each pointing to the index of an entry
+-- entries in order, and names, each pointing to an index
 pub record Bibliography : Type 0 where
   pub entries : List Entry
   pub names : ByText ℕ

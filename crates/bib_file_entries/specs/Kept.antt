@@ -1,7 +1,7 @@
 -- Meaning: words of public contracts.
--- The entries that are kept of a file with errors. An entry is left out if its key was claimed before, and a field if it
--- can't be parsed. An undefined abbreviation is one that is neither defined in the file nor a month; it is kept as text, like
--- a literal. Each of these adds an error.
+-- The entries that are kept of a file with errors. An entry is left out if an earlier kept entry claimed its key, and a
+-- field if it can't be parsed. An abbreviation in a field is undefined if it is neither defined in the file nor that of a
+-- month. It is kept as text, like a literal. Each of these adds an error.
 use Rattle.std.specs.Prelude.{◌≡◌, true, false, List, [], ◌∷◌, ◌++◌, ℕ, map, slice_get, Some, if◌then◌else◌}
 use Rattle.bib_abbreviations.specs.Abbreviations.{Definitions, IsFirstError, error_at, is_known}
 use Rattle.bib_entry.specs.declared.entry.Entry.{Entry}

@@ -20,7 +20,7 @@ use Rattle.bib_file_entries.specs.Bibliography.{Bibliography, claims, with_last_
 abbrev pub definition_in : List FieldReading → Definitions
 definition_in abbreviations name = option_map (λ f. f.value.pieces) (find (λ f. bytes_eq name f.name.text) (reverse abbreviations))
 
--- the name of a raw field, in lowercase ASCII letters
+-- the name of a raw field, with ASCII letters in lowercase
 abbrev pub name_of : FieldReading → List ℕ
 name_of f = map to_ascii_lowercase f.name.text
 
@@ -41,8 +41,8 @@ abbrev pub AllCanBeRead : Definitions → List FieldReading → Type 0
 AllCanBeRead definitions [] = Unit {0}
 AllCanBeRead definitions (f ∷ rest) = CanBeRead definitions f × AllCanBeRead definitions rest
 
--- `entry` is the entry of a raw entry: it has its key, its type, and for each name the contents of the last field with the
--- name, in any case of letters. Each field can be parsed
+-- `entry` is the entry of a raw entry: it has its key and its type. Under each name in ASCII lowercase it has the contents
+-- of the last field with this name in any ASCII case. Each field can be parsed.
 pub record IsEntry (definitions : Definitions) (said : EntryReading) (entry : Entry) : Type 0 where
   pub key : entry.key ≡ said.key.text
   pub kind : entry.entry_type ≡ entry_type_of said.kind.text

@@ -23,7 +23,7 @@ pieces_of p = map piece_of p.value.v.items
 abbrev pub last_definition : List Pair → Definitions
 last_definition pairs name = option_map pieces_of (find (λ p. bytes_eq name p.key.v.now) (reverse pairs))
 
--- the name of a field, in lowercase ASCII letters
+-- the name of a field, with ASCII letters in lowercase
 abbrev pub field_name : Pair → List ℕ
 field_name p = map to_ascii_lowercase p.key.v.now
 
@@ -50,8 +50,8 @@ abbrev pub AreReadable : Definitions → List Pair → Type 0
 AreReadable definitions [] = Unit {0}
 AreReadable definitions (p ∷ rest) = IsFieldReadable definitions p × AreReadable definitions rest
 
--- `entry` is the entry of a raw entry: it has its key, its type, and for each name the contents of the last field with the
--- name
+-- `entry` is the entry of a raw entry: it has its key and its type. For each name it has the contents of the last field with
+-- the name
 pub record IsEntryOf (definitions : Definitions) (raw : RawEntry) (entry : Entry) : Type 0 where
   pub key : entry.key ≡ raw.key.v.now
   pub kind : entry.entry_type ≡ entry_type_of raw.kind.v.now

@@ -39,8 +39,9 @@ pub struct KeptEntries {
     pub spans: Vec<Span>,
     /// The index of each entry among the raw entries of the file.
     pub origins: Vec<usize>,
-    /// The errors, in the order of the entries and of their fields: one for each undefined abbreviation, and one for each
-    /// field and entry that is left out. For a field that is left out, those of its abbreviations come first.
+    /// The errors, in the order of the entries and of their fields. There is one for each undefined abbreviation in a field
+    /// of a kept entry, and one for each field and entry that is left out. For a field that is left out, the errors of its
+    /// abbreviations come first.
     pub errors: Vec<ParseError>,
 }
 
@@ -145,7 +146,7 @@ fn mend_field<'s>(
     }))
 }
 
-// Parses a field with undefined abbreviations replaced by text. Returns `None` if it can't be parsed even so, and appends the
+// Parses a field with undefined abbreviations replaced by text. Returns `None` if it can't be parsed even so. Appends the
 // errors.
 fn keep_field<'s>(
     alloc: Global,
@@ -247,8 +248,8 @@ fn keep_entries<'f, 's>(
 }
 
 /// Loads the entries of a file as far as possible. An entry is left out if its key was claimed by an earlier entry that was
-/// kept, and a field if it can't be parsed. An undefined abbreviation is replaced by its name as text. Each of these adds an
-/// error. Each name points to the last kept entry that claims it. The only returned error is out of memory.
+/// kept, and a field if it can't be parsed. An undefined abbreviation in a field is replaced by its name as text. Each of
+/// these adds an error. Each name points to the last kept entry that claims it. The only returned error is out of memory.
 pub fn keep(alloc: Global, raw: &RawBibliography<'_>) -> Result<KeptEntries, AllocError>
     ensures kept { IfOk result (λ found. IsKeptSoFar (definition_in (file_of raw.now).abbreviations)
         (file_of raw.now).entries found.entries.items found.names found.spans.items

@@ -35,8 +35,8 @@ pub(crate) fn definitions<'f, 's>(
     Ok(definitions)
 }
 
-// Converts a raw entry to an entry, parsing its fields in order. Field names are converted to lowercase. If two fields have
-// the same name, the last one counts.
+// Converts a raw entry to an entry, parsing its fields in order. ASCII letters in field names are converted to lowercase. If
+// two fields then have the same name, the last one counts.
 pub(crate) fn read_entry<'f, 's>(
     alloc: Global,
     raw: &RawEntry<'s>,
@@ -76,7 +76,7 @@ pub(crate) fn entry_with(
     })
 }
 
-// Parses a field: returns its name in lowercase, and the chunks of its value.
+// Parses a field: returns its name with ASCII letters in lowercase, and the chunks of its value.
 pub(crate) fn read_field<'f, 's>(
     alloc: Global,
     field: &Pair<'s>,

@@ -76,8 +76,8 @@ pub fn spans(alloc: Global, raw: &[Spanned<RawEntry<'_>>]) -> Result<Vec<Span>, 
 /// Loads the entries of a raw bibliography. Returns the entries with their own fields, and the names that they claim. Each
 /// name points to the last entry that claims it.
 ///
-/// The error is the first in the order of the file: a key that an earlier entry claimed (`DuplicateKey`, at the entry), or a
-/// field that can't be parsed. The only other error is out of memory.
+/// The error is the first in the order of the file. It is a key that an earlier entry claimed (`DuplicateKey`, at the
+/// entry), or a field that can't be parsed. The only other error is out of memory.
 pub fn load(alloc: Global, raw: RawBibliography<'_>) -> Result<(Vec<Entry>, Names), ParseError>
     ensures loaded { IfOk result (λ all. IsLoadedSoFar
         (definition_in (file_of raw.entry).abbreviations)

@@ -22,6 +22,8 @@ use Rattle.bib_findings.specs.Duplicates.{duplicates, entries_at}
 use Rattle.bib_findings.specs.Findings.{AreBetween, AreFindingsIn, AreOfEntry, AreOfKept, AreSortedByPlace, single_findings}
 use Rattle.bib_findings.specs.Foreign.{foreign_findings}
 use Rattle.bib_findings.specs.KeyCases.{case_findings}
+use Rattle.bib_findings.specs.ParentOrder.{early_findings}
+use Rattle.bib_findings.specs.Stray.{stray_findings}
 use Rattle.bib_findings.specs.References.{AreReferences}
 use Rattle.bib_collections.specs.Sorted.{ByText}
 use Rattle.bib_findings.specs.Errors.{block_finding, error_finding}
@@ -189,25 +191,40 @@ added_in_order none one two three new a b c d empty first second third fourth =
     let start : one ≡ a = first ∙ ap (λ l. l ++ a) empty in
     added_thrice one two three new b c d second third fourth ∙ ap (λ l. l ++ (b ++ (c ++ d))) start
 
--- appending the findings of references, of likely duplicates, of keys and of foreign fields in turn to an empty list makes those between
--- entries
-pub between_are : (skipped : List SkippedBlock) (names : ByText ℕ) (said : List EntryReading) (origins : List ℕ) (own : List Entry)
-    (whole : List EntryReading) (none one two three new : List Finding)
+-- six lists joined in turn, and from the last to the first
+joined_in_order : (a b c d e f : List Finding) → ((a ++ (b ++ (c ++ d))) ++ e) ++ f ≡ a ++ (b ++ (c ++ (d ++ (e ++ f))))
+joined_in_order a b c d e f = simp append_assoc
+
+-- appending the findings of references, of likely duplicates, of stray fields, of keys, of parents and of foreign fields in turn to an
+-- empty list makes those between entries
+pub between_are : (text : List ℕ) (skipped : List SkippedBlock) (names : ByText ℕ) (said : List EntryReading) (origins : List ℕ)
+    (own : List Entry) (whole : List EntryReading) (none one two three four five new : List Finding)
     → whole ≡ whole_among skipped (entries_at said origins)
     → none ≡ [] → Adds (AreOfEach (AreReferences names) said origins own) none one → two ≡ one ++ duplicates whole
-    → three ≡ two ++ case_findings (entries_at said origins) → new ≡ three ++ foreign_findings (entries_at said origins)
-    → AreBetween skipped names said origins own new
-between_are skipped names said origins own whole none one two three new are_whole empty references alike cases foreign = record {
-  of_keys = references.added;
-  keys = references.are;
-  are =
-      added_in_order none one two three new references.added (duplicates whole) (case_findings (entries_at said origins))
-      (foreign_findings (entries_at said origins)) empty references.new_is alike cases foreign
-      ∙ ap
-      (λ l.
-      references.added ++ (duplicates l ++ (case_findings (entries_at said origins) ++ foreign_findings (entries_at said origins))))
-      are_whole;
-}
+    → three ≡ two ++ stray_findings text whole → four ≡ three ++ case_findings (entries_at said origins)
+    → five ≡ four ++ early_findings (entries_at said origins) → new ≡ five ++ foreign_findings (entries_at said origins)
+    → AreBetween text skipped names said origins own new
+between_are text skipped names said origins own whole none one two three four five new are_whole empty references alike strays cases early
+    foreign = record {
+      of_keys = references.added;
+      keys = references.are;
+      are =
+          foreign
+          ∙ ap (λ l. l ++ foreign_findings entries) early
+          ∙ ap (λ l. (l ++ early_findings entries) ++ foreign_findings entries)
+          (added_in_order none one two three four references.added (duplicates whole) (stray_findings text whole) (case_findings entries)
+          empty references.new_is alike strays cases)
+          ∙ joined_in_order references.added (duplicates whole) (stray_findings text whole) (case_findings entries) (early_findings entries)
+          (foreign_findings entries)
+          ∙ ap
+          (λ l.
+          references.added
+          ++ (duplicates l
+          ++ (stray_findings text l ++ (case_findings entries ++ (early_findings entries ++ foreign_findings entries)))))
+          are_whole;
+    } where
+      entries : List EntryReading
+      entries = entries_at said origins
 
 -- the sorted findings of all parts are the findings of the recovered file
 pub sorted_are : {E : Type 0} (skipped : List SkippedBlock) (names : ByText ℕ) (errors : List ParseError) (said : List EntryReading)

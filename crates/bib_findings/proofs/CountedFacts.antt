@@ -1,11 +1,13 @@
 -- Fields counted by name.
-use Rattle.std.proofs.Common.{◌≡◌, ℕ, Bool, true, false, ◌||◌, List, [], ◌∷◌, ◌++◌, ◌+◌, ◌-◌, ◌<◌, length, get_or, set, map, take, Some, refl, sym, ap, ◌∙◌, append_assoc, append-nil, subst, arith, cond, suc, zero}
+use Rattle.std.proofs.Common.{◌≡◌, ℕ, Bool, true, false, ◌||◌, List, [], ◌∷◌, ◌++◌, ◌+◌, ◌-◌, ◌<◌, length, get_or, set, map, take, refl, sym, ap, ◌∙◌, append_assoc, append-nil, subst, arith, cond, suc, zero}
 use Rattle.std.specs.Prelude.{bytes_eq, count_by, min}
 use Rattle.std.specs.List.{list_any, swap_remove}
 use Rattle.std.proofs.lemmas.List.{get_or_push, length-append, length-set, map-append, set-append_left, take_at}
 use Rattle.std.proofs.lemmas.List.Folds.{list_any-append}
 use Rattle.std.proofs.lemmas.List.Sums.{sum_by-append}
 use Rattle.std.proofs.lemmas.Slice.Eq.{bytes_eq-Decides}
+use Rattle.std.proofs.Math.Bool.{or-true}
+use Rattle.bib_text.proofs.BoolFacts.{or_false_left, or_false_right}
 use Rattle.bib_syntax.specs.Reading.{FieldReading}
 use Rattle.bib_findings.specs.After.{each_after}
 use Rattle.bib_findings.specs.Counted.{count_of, counts, lowercase_name, one_field_more}
@@ -20,20 +22,6 @@ firsts_after = each_after if_first
 abbrev pub raised : FieldReading → FieldReading × ℕ → FieldReading × ℕ
 raised g c = (c.0, cond (have_one_name c.0 g) (one_field_more c.1) c.1)
 
--- if neither of two tests is passed, the first isn't
-or_first : (a b : Bool) → (a || b) ≡ false → a ≡ false
-or_first true b is = cc
-or_first false b is = refl
-
--- if neither of two tests is passed, the second isn't
-or_second : (a b : Bool) → (a || b) ≡ false → b ≡ false
-or_second true b is = cc
-or_second false b is = is
-
--- equal values in `Some` are equal
-pub some_same : {A : Type 0} {x y : A} → Some x ≡ Some y → x ≡ y
-some_same e = cc
-
 -- the number of items that pass a test among some items and one more
 pub count_more : {A : Type 0} (p : A → Bool) (items : List A) (one : A)
     → count_by p (items ++ one ∷ []) ≡ count_by p items + cond (p one) 1 0
@@ -43,12 +31,12 @@ count_more p items one = omega (arith, sum_by-append (λ x. cond (p x) 1 0) item
 pub count_none : {A : Type 0} (p : A → Bool) (items : List A) → list_any p items ≡ false → count_by p items ≡ 0
 count_none p [] none = refl
 count_none p (one ∷ items) none =
-    let here : ◌≡◌ {A = ℕ} (cond (p one) 1 0) 0 = ap {B = ℕ} (λ b. cond b 1 0) (or_first (p one) (list_any p items) none) in
+    let here : ◌≡◌ {A = ℕ} (cond (p one) 1 0) 0 = ap {B = ℕ} (λ b. cond b 1 0) (or_false_left (p one) (list_any p items) none) in
     omega (
       arith,
       sum_by-append (λ x. cond (p x) 1 0) (one ∷ []) items,
       here,
-      count_none p items (or_second (p one) (list_any p items) none),
+      count_none p items (or_false_right (p one) (list_any p items) none),
     )
 
 -- the names of two fields are the same in either order
@@ -67,11 +55,6 @@ name_turned f g = by (have_one_name f g) (have_one_name g f) refl refl where
 name_alike : (g f e : FieldReading) → have_one_name f e ≡ true → have_one_name g f ≡ have_one_name g e
 name_alike g f e same = ap (λ n. bytes_eq (lowercase_name g) n) ((bytes_eq-Decides (lowercase_name f) (lowercase_name e)).0 same)
 
--- a test that is passed or another is passed
-or_true : (b : Bool) → (b || true) ≡ true
-or_true true = refl
-or_true false = refl
-
 -- if a field has a name and an earlier one has its name, an earlier one has the name
 earlier_alike : (g f : FieldReading) (earlier : List FieldReading) → list_any (have_one_name f) earlier ≡ true
     → have_one_name g f ≡ true → list_any (have_one_name g) earlier ≡ true
@@ -85,12 +68,12 @@ earlier_alike g f (e ∷ earlier) there is =
     by true same there rest = ap (λ b. b || list_any (have_one_name g) earlier) (sym (name_alike g f e same) ∙ is)
     by false differs there rest =
         ap (λ b. have_one_name g e || b) (rest (sym (ap (λ b. b || list_any (have_one_name f) earlier) differs) ∙ there))
-        ∙ or_true (have_one_name g e)
+        ∙ or-true (have_one_name g e)
 
 -- if a test is passed among `x` or `y` alike, so is it with a test that is passed only if an earlier one is
 skipped : (x y e h : Bool) → (h ≡ true → e ≡ true) → (x || (e || (h || false))) ≡ (y || (e || (h || false)))
     → (x || e) ≡ ((h || y) || e)
-skipped x y true h follows same = or_true x ∙ sym (or_true (h || y))
+skipped x y true h follows same = or-true x ∙ sym (or-true (h || y))
 skipped x y false true follows same = absurd (let clash : false ≡ true = follows refl in cc)
 skipped x y false false follows same = same
 

@@ -114,7 +114,7 @@ pairs_found : (counted : List Counted)
 pairs_found [] = refl
 pairs_found (c ∷ counted) = ap (λ l. counted_finding (counted_of c) ∷ l) (pairs_found counted)
 
--- the findings of the counts of all fields of other programs are those of the entries
+-- the findings made from the counts of all fields that other programs write are the `foreign_findings` of the entries
 pub findings_of_counts : (entries : List EntryReading) (counted : List Counted) → AreFieldsCounted counted (foreign_among entries)
     → map (λ c. counted_finding (counted_of c)) counted ≡ foreign_findings entries
 findings_of_counts entries counted are =

@@ -8,13 +8,11 @@ use Rattle.std.specs.Option.{option_map_or}
 use Rattle.std.specs.Ordering.{nat_cmp}
 use Rattle.std.proofs.lemmas.Bool.Decides.{nat_tests}
 use Rattle.std.proofs.lemmas.Slice.Eq.{bytes_eq-Decides}
+use Rattle.bib_text.proofs.BytesFacts.{bytes_turned}
 use Rattle.bib_syntax.specs.Reading.{EntryReading}
 use Rattle.bib_findings.specs.Cuts.{entry_from}
 use Rattle.bib_findings.specs.FirstKeys.{AreFirstKeys, lowercase_key}
-use Rattle.bib_findings.specs.KeyCases.{case_after, case_finding, case_findings, have_one_key}
-use Rattle.bib_findings.specs.declared.finding.Finding.{Finding}
-use Rattle.bib_findings.proofs.AfterFacts.{after_more}
-use Rattle.bib_findings.proofs.RepeatedFacts.{bytes_turned}
+use Rattle.bib_findings.specs.KeyCases.{case_after, case_finding, have_one_key}
 use Rattle.bib_findings.proofs.SharedFacts.{numbers_alike}
 
 -- the first value, or the other one if there is none
@@ -125,11 +123,3 @@ case_none firsts earlier said are none =
         → option_map_or (λ e. case_finding said e.key.text ∷ []) first [] ≡ []
     by None is = refl
     by (Some e) is = absurd (let clash : Some (key_text e) ≡ None = is in cc)
-
--- appending the finding of the next entry extends those of the entries before it
-pub case_next : (entries earlier : List EntryReading) (said : EntryReading) (old mid new : List Finding)
-    → entries ≡ earlier ++ said ∷ [] → mid ≡ old ++ case_findings earlier → new ≡ mid ++ case_after earlier said
-    → new ≡ old ++ case_findings entries
-case_next entries earlier said old mid new is before more =
-    more ∙ ap (λ l. l ++ case_after earlier said) before ∙ append_assoc old (case_findings earlier) (case_after earlier said)
-    ∙ ap (λ l. old ++ l) (sym (after_more case_after [] earlier said)) ∙ ap (λ l. old ++ case_findings l) (sym is)

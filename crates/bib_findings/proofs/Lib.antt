@@ -9,9 +9,11 @@ mod MarkFacts
 mod NameFacts
 mod NearestFacts
 mod NotedFacts
+mod OutsideFacts
 mod SeenFacts
 mod RecoveredFacts
 mod SharedFacts
+mod SpecialFacts
 mod StartFacts
 mod TypeFacts
 mod WordFacts

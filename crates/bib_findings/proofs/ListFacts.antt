@@ -9,13 +9,6 @@ pub more : {A : Type 0} (items : List A) (index : ℕ) (item : A) → index < le
     → take (index + 1) items ≡ take index items ++ item ∷ []
 more items index item within is = take_more items index item within ∙ ap (λ one. take index items ++ one ∷ []) (sym is)
 
--- looking up an index in range returns the item at it
-pub get_there : {A : Type 0} (items : List A) (index : ℕ) (other : A) → index < length items
-    → slice_get items index ≡ Some (get_or items index other)
-get_there [] index other within = absurd (omega arith)
-get_there (item ∷ items) zero other within = refl
-get_there (item ∷ items) (suc index) other within = get_there items index other (omega arith)
-
 -- looking up an index in range of mapped items returns the image of the item at it
 pub get_mapped : {A B : Type 0} (f : A → B) (items : List A) (index : ℕ) (other : A) → index < length items
     → slice_get (map f items) index ≡ Some (f (get_or items index other))

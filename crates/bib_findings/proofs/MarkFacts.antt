@@ -1,4 +1,4 @@
--- The entries with a mark that occurs more than once have the findings of all entries.
+-- The findings of likely duplicates depend only on the entries with a mark that occurs more than once.
 use Rattle.std.proofs.Common.{◌≡◌, ℕ, Bool, true, false, not, List, [], ◌∷◌, ◌++◌, ◌+◌, ◌<◌, ◌≤◌, ◌||◌, refl, sym, ap, ◌∙◌, append_assoc, append-nil, subst, arith, cond, nat_eq}
 use mathlib.Core.Logic.{⊎_elim}
 use Rattle.std.specs.Prelude.{count_by, find, slice_get, take}
@@ -14,8 +14,8 @@ use Rattle.bib_findings.specs.Duplicates.{duplicate_after, duplicate_finding, du
 use Rattle.bib_findings.specs.Identities.{are_told_apart, has_identity, identities}
 use Rattle.bib_findings.specs.Marks.{has_repeated, is_repeated, listed, listed_all, marks_of, may_share}
 use Rattle.bib_findings.specs.declared.finding.Finding.{Finding}
-use Rattle.std.proofs.lemmas.Bool.{or_cases}
-use Rattle.bib_findings.proofs.SharedFacts.{numbers_alike, or_left, or_right, HasMark, share_mark}
+use Rattle.std.proofs.lemmas.Bool.{or_cases, or_right, or_left}
+use Rattle.bib_findings.proofs.SharedFacts.{numbers_alike, HasMark, share_mark}
 
 pub count_next : (test : ℕ → Bool) (one : ℕ) (all : List ℕ) → count_by test (one ∷ all) ≡ cond (test one) 1 0 + count_by test all
 count_next test one all = sum_by-cons (λ n. cond (test n) 1 0) one all
@@ -170,7 +170,7 @@ same_none said (id ∷ ids) earlier none =
     (filter_none (has_identity id) earlier (of_first (λ one. true ≡ false) id ids earlier none))
     ∙ same_none said ids earlier (of_others (λ one. true ≡ false) id ids earlier none)
 
--- the findings of the entries with a mark that occurs more than once are the findings of all entries
+-- the findings of likely duplicates don't change if entries without a mark that occurs more than once are left out
 kept_duplicates : (all : List ℕ) (earlier rest : List EntryReading) → all ≡ listed_all (earlier ++ rest)
     → duplicates_after (filter (λ said. has_repeated all (marks_of said)) earlier)
     (filter (λ said. has_repeated all (marks_of said)) rest) ≡ duplicates_after earlier rest

@@ -1,6 +1,6 @@
 -- Marks as they are noted in a map, and the entries that are chosen by them.
-use Rattle.std.proofs.Common.{◌≡◌, ℕ, Bool, true, false, List, [], ◌∷◌, ◌++◌, ◌+◌, ◌<◌, ◌≤◌, ◌||◌, length, map, Some, None, refl, sym, ap, ◌∙◌, append_assoc, append-nil, subst, arith, cond, suc, zero, nat_eq, get_or, take, Result, Ok, Err, OnOk, IfOk}
-use Rattle.std.specs.Prelude.{count_by, is_some, nat_lt, slice_get, unwrap_or}
+use Rattle.std.proofs.Common.{◌≡◌, ℕ, Bool, true, false, List, [], ◌∷◌, ◌++◌, ◌+◌, ◌<◌, ◌≤◌, ◌||◌, length, map, Some, None, refl, sym, ap, ◌∙◌, append_assoc, append-nil, subst, arith, cond, suc, nat_eq, get_or, take, Result, Ok, Err, OnOk, IfOk}
+use Rattle.std.specs.Prelude.{count_by, is_some, nat_lt, unwrap_or}
 use Rattle.std.specs.List.{All, cons_option, filter, flat_map, list_any}
 use Rattle.std.specs.BTreeMap.{BTreeMap, IsEmpty, Updates, get, is_at}
 use Rattle.std.specs.Ordering.{nat_cmp}
@@ -9,14 +9,16 @@ use Rattle.std.proofs.lemmas.Grind.{flat_map-append}
 use Rattle.std.proofs.lemmas.List.Elements.{All-cons, All-head, All-nil, All-tail}
 use Rattle.std.proofs.lemmas.List.{length-map, length-take-le, take_more}
 use Rattle.std.proofs.lemmas.List.Folds.{list_any-append}
+use Rattle.std.proofs.lemmas.Bool.{or_right, or_left}
 use Rattle.bib_syntax.specs.Reading.{EntryReading}
 use Rattle.bib_syntax.specs.Views.{entry_reading_of}
 use Rattle.bib_syntax.specs.declared.raw.RawEntry.{RawEntry}
 use Rattle.bib_text.specs.declared.spanned.Spanned.{Spanned}
+use Rattle.bib_text.proofs.ListFacts.{element_at}
 use Rattle.bib_findings.specs.Duplicates.{entries_at}
 use Rattle.bib_findings.specs.Marks.{AreMetMarks, chosen, has_repeated, is_repeated, listed, listed_all, marks_of, met_mark}
 use Rattle.bib_findings.specs.declared.marks.Marks.{Marks}
-use Rattle.bib_findings.proofs.SharedFacts.{same_number, numbers_alike, or_left, or_right}
+use Rattle.bib_findings.proofs.SharedFacts.{same_number, numbers_alike}
 use Rattle.bib_findings.proofs.MarkFacts.{count_next, count_last, any_counts}
 
 -- the marks of each entry, listed, are all marks of the entries
@@ -40,18 +42,13 @@ chosen_more all (first ∷ marks) (other ∷ indices) one index same =
     ++ cond (has_repeated all one) (index ∷ []) [])
     [ true ↦ refl | false ↦ refl ]
 
-one_there : {A : Type 0} (items : List A) (index : ℕ) → index < length items → (item : A) × (slice_get items index ≡ Some item)
-one_there [] index within = absurd (omega (arith, within))
-one_there (item ∷ items) zero within = (item, refl)
-one_there (item ∷ items) (suc index) within = one_there items index (omega (arith, within))
-
 -- the entries at the selected indices are the selected entries
 pub chosen_entries : (all : List ℕ) (said : List EntryReading) (indices : List ℕ) → All (λ index. index < length said) indices
     → entries_at said (chosen all (map marks_of (entries_at said indices)) indices)
     ≡ filter (λ one. has_repeated all (marks_of one)) (entries_at said indices)
 chosen_entries all said [] there = refl
 chosen_entries all said (index ∷ indices) there =
-    let one = one_there said index (All-head (λ i. i < length said) index indices there) in
+    let one = element_at said index (All-head (λ i. i < length said) index indices there) in
     let later_there : All (λ i. i < length said) indices = All-tail (λ i. i < length said) index indices there in
     let rest : List EntryReading = entries_at said indices in
     let later : List ℕ = chosen all (map marks_of rest) indices in
@@ -155,7 +152,8 @@ noted_by met new all one is_there noted is here others other = by (nat_eq other 
         (here ∙ times_here all one is_there (is ∙ ap is_some (noted one) ∙ is_some_times (list_any (nat_eq one) all) (is_repeated all one)))
     by false differs = others other differs ∙ noted other ∙ sym (times_other all one other differs)
 
-apart : (one other : ℕ) → nat_eq other one ≡ false → is_at (nat_cmp one) other ≡ false
+-- numbers that differ are not at the same place of the order
+pub apart : (one other : ℕ) → nat_eq other one ≡ false → is_at (nat_cmp one) other ≡ false
 apart one other differs = grind (arith, nat_tests, differs)
 
 -- if a mark is new and gets the value `false`, the map contains the marks with this one appended
@@ -218,7 +216,7 @@ pub as_many_entries : (said : List EntryReading) (indices : List ℕ) → All (�
     → length (entries_at said indices) ≡ length indices
 as_many_entries said [] there = refl
 as_many_entries said (index ∷ indices) there =
-    let one = one_there said index (All-head (λ i. i < length said) index indices there) in
+    let one = element_at said index (All-head (λ i. i < length said) index indices there) in
     ap (λ o. length (cons_option o (entries_at said indices))) one.1
     ∙ ap suc (as_many_entries said indices (All-tail (λ i. i < length said) index indices there))
 

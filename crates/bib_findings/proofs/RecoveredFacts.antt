@@ -75,13 +75,14 @@ findings_of skipped skipped' names errors errors' said said' origins origins' en
     (subst (λ x. AreFindingsIn x names errors said origins entries between found) a are))))
 
 -- the findings between entries are those for equal lists
-pub between_of : (skipped skipped' : List SkippedBlock) (names : ByText ℕ) (said said' : List EntryReading) (origins origins' : List ℕ)
-    (own own' : List Entry) (found : List Finding) → skipped ≡ skipped' → said ≡ said' → origins ≡ origins' → own ≡ own'
-    → AreBetween skipped names said origins own found → AreBetween skipped' names said' origins' own' found
-between_of skipped skipped' names said said' origins origins' own own' found a b c d are =
-    subst (λ x. AreBetween skipped' names said' origins' x found) d
-    (subst (λ x. AreBetween skipped' names said' x own found) c
-    (subst (λ x. AreBetween skipped' names x origins own found) b (subst (λ x. AreBetween x names said origins own found) a are)))
+pub between_of : (text : List ℕ) (skipped skipped' : List SkippedBlock) (names : ByText ℕ) (said said' : List EntryReading)
+    (origins origins' : List ℕ) (own own' : List Entry) (found : List Finding) → skipped ≡ skipped' → said ≡ said'
+    → origins ≡ origins' → own ≡ own'
+    → AreBetween text skipped names said origins own found → AreBetween text skipped' names said' origins' own' found
+between_of text skipped skipped' names said said' origins origins' own own' found a b c d are =
+    subst (λ x. AreBetween text skipped' names said' origins' x found) d
+    (subst (λ x. AreBetween text skipped' names said' x own found) c
+    (subst (λ x. AreBetween text skipped' names x origins own found) b (subst (λ x. AreBetween text x names said origins own found) a are)))
 
 -- if the value of an Ok satisfies `P`, it satisfies each `Q` that follows from `P`
 pub if_ok_more : {A E : Type 0} (P Q : A → Type 0) (r : Result A E) → ((a : A) → P a → Q a) → IfOk r P → IfOk r Q

@@ -3,7 +3,7 @@ use Rattle.std.proofs.Common.{◌≡◌, ℕ, Bool, true, false, not, ◌||◌, 
 use Rattle.std.specs.Prelude.{bytes_eq}
 use Rattle.std.specs.List.{list_any}
 use Rattle.std.proofs.lemmas.List.Folds.{list_any-append}
-use Rattle.std.proofs.lemmas.Slice.Eq.{bytes_eq-Decides}
+use Rattle.bib_text.proofs.BytesFacts.{bytes_turned}
 use Rattle.bib_syntax.specs.Reading.{FieldReading}
 use Rattle.bib_findings.specs.After.{each_after}
 use Rattle.bib_findings.specs.Counted.{lowercase_name}
@@ -16,33 +16,23 @@ use Rattle.bib_findings.proofs.AfterFacts.{after_more}
 abbrev pub AreSeen : (List ℕ → Bool) → List FieldReading → Type 0
 AreSeen seen fields = (name : List ℕ) → seen name ≡ list_any (λ f. bytes_eq name (lowercase_name f)) fields
 
--- equality of texts is symmetric
-pub bytes_turned : (x y : List ℕ) → bytes_eq x y ≡ bytes_eq y x
-bytes_turned x y = by (bytes_eq x y) (bytes_eq y x) refl refl where
-  turned : (x y : List ℕ) → bytes_eq x y ≡ true → bytes_eq y x ≡ true
-  turned x y same = (bytes_eq-Decides y x).1 (sym ((bytes_eq-Decides x y).0 same))
-
-  by : (a b : Bool) → bytes_eq x y ≡ a → bytes_eq y x ≡ b → bytes_eq x y ≡ bytes_eq y x
-  by true true one other = one ∙ sym other
-  by false false one other = one ∙ sym other
-  by true false one other = one ∙ sym (turned x y one)
-  by false true one other = turned y x other ∙ sym other
-
 either : (a b : Bool) → cond a true b ≡ (b || (a || false))
 either true true = refl
 either true false = refl
 either false true = refl
 either false false = refl
 
--- storing the name of a field extends the seen names by it
-pub seen_more : (old new : List ℕ → Bool) (fields : List FieldReading) (f : FieldReading) (key : List ℕ) → key ≡ lowercase_name f
-    → AreSeen old fields → ((name : List ℕ) → new name ≡ cond (bytes_eq key name) true (old name)) → AreSeen new (fields ++ f ∷ [])
-seen_more old new fields f key is are updates name =
+-- storing the name of an item extends the seen names by it
+pub seen_more : {A : Type 0} (name_of : A → List ℕ) (old new : List ℕ → Bool) (items : List A) (item : A) (key : List ℕ)
+    → key ≡ name_of item → ((name : List ℕ) → old name ≡ list_any (λ i. bytes_eq name (name_of i)) items)
+    → ((name : List ℕ) → new name ≡ cond (bytes_eq key name) true (old name))
+    → (name : List ℕ) → new name ≡ list_any (λ i. bytes_eq name (name_of i)) (items ++ item ∷ [])
+seen_more name_of old new items item key is are updates name =
     updates name ∙ ap (λ k. cond (bytes_eq k name) true (old name)) is
-    ∙ ap (λ b. cond b true (old name)) (bytes_turned (lowercase_name f) name)
-    ∙ ap (cond (bytes_eq name (lowercase_name f)) true) (are name)
-    ∙ either (bytes_eq name (lowercase_name f)) (list_any (λ g. bytes_eq name (lowercase_name g)) fields)
-    ∙ sym (list_any-append (λ g. bytes_eq name (lowercase_name g)) fields (f ∷ []))
+    ∙ ap (λ b. cond b true (old name)) (bytes_turned (name_of item) name)
+    ∙ ap (cond (bytes_eq name (name_of item)) true) (are name)
+    ∙ either (bytes_eq name (name_of item)) (list_any (λ i. bytes_eq name (name_of i)) items)
+    ∙ sym (list_any-append (λ i. bytes_eq name (name_of i)) items (item ∷ []))
 
 turned_choice : {A : Type 0} (b : Bool) (item : A) → cond (not b) [] (item ∷ []) ≡ cond b (item ∷ []) []
 turned_choice true item = refl

@@ -2,7 +2,6 @@
 use Rattle.std.proofs.Common.{◌≡◌, ℕ, Bool, true, false, not, List, [], ◌∷◌, ◌++◌, ◌+◌, ◌<◌, ◌==◌, ◌||◌, ◌≤◌, length, get_or, take, drop, map, suc, min, codes, Option, Some, None, Result, Ok, Err, OnOk, refl, sym, ap, ◌∙◌, append_assoc, append-nil, subst, arith, cond}
 use Rattle.std.specs.Prelude.{IfSome, String, bytes_eq, find, is_some, nat_lt, option_and_then, slice_get}
 use Rattle.std.specs.Global.{Global}
-use Rattle.std.specs.Bool.{one_answer}
 use Rattle.std.specs.Option.{UnwrapsOrElse}
 use Rattle.std.specs.Vec.{vec_len}
 use Rattle.std.specs.Map.{update}
@@ -17,6 +16,7 @@ use Rattle.std.proofs.lemmas.List.Folds.{list_any-append}
 use Rattle.std.proofs.lemmas.Slice.Eq.{bytes_eq-Decides}
 use Rattle.bib_tables.specs.Requirements.{Names}
 use Rattle.bib_text.specs.declared.spanned.Spanned.{Spanned}
+use Rattle.bib_text.proofs.BytesFacts.{bytes_turned}
 use Rattle.bib_syntax.specs.Reading.{EntryReading}
 use Rattle.bib_syntax.specs.Views.{entry_reading_of}
 use Rattle.bib_syntax.specs.declared.raw.RawEntry.{RawEntry}
@@ -171,12 +171,6 @@ given_agree given other (item ∷ items) same =
     ap (λ o. cons_option o (filter_map given items)) (same item)
     ∙ ap (cons_option (other item)) (given_agree given other items same)
 
--- it doesn't matter which of two texts is compared with the other
-swapped : (one other : List ℕ) → bytes_eq one other ≡ bytes_eq other one
-swapped one other =
-    one_answer (bytes_eq one other) (bytes_eq other one) (bytes_eq-Decides one other)
-    (λ e. sym ((bytes_eq-Decides other one).0 e), λ e. (bytes_eq-Decides other one).1 (sym e))
-
 -- the indices that are lent for an identity, which are empty if it had none
 lent_items : (had : Option (Vec ℕ Global)) (lent : Vec ℕ Global)
     → UnwrapsOrElse had (λ indices. (indices.items ≡ []) × (vec_len indices ≡ 0)) lent → lent.items ≡ stored_indices had
@@ -197,11 +191,11 @@ stored_one old new key had lent kept index finds lends adds writes id = by (byte
         ∙ ap (λ l. with_entry_index l index)
         (lent_items had lent lends ∙ ap stored_indices finds ∙ ap (λ k. stored_indices (old k)) ((bytes_eq-Decides key id).0 here))
         ∙ sym
-        (ap (λ b. cond b (with_entry_index (stored_indices (old id)) index) (stored_indices (old id))) (swapped id key ∙ here))
+        (ap (λ b. cond b (with_entry_index (stored_indices (old id)) index) (stored_indices (old id))) (bytes_turned id key ∙ here))
     by false other =
         ap stored_indices (writes id ∙ ap (λ b. cond b (Some kept) (old id)) other)
         ∙ sym
-        (ap (λ b. cond b (with_entry_index (stored_indices (old id)) index) (stored_indices (old id))) (swapped id key ∙ other))
+        (ap (λ b. cond b (with_entry_index (stored_indices (old id)) index) (stored_indices (old id))) (bytes_turned id key ∙ other))
 
 -- an index that is stored for two lists of identities in turn is stored for both
 pub remembered_both : (ids more : Names) (index : ℕ) (id : List ℕ) (had : List ℕ)
@@ -237,7 +231,7 @@ kinds_apart : (id kind text other more : List ℕ) → (get_or (kind ++ text) 0 
 kinds_apart id kind text other more differ one two =
     differ (ap (λ l. get_or l 0 0) (sym (of_kind id kind text one) ∙ of_kind id other more two))
 
--- adding an index to the same list for each of three tests of which at most one passes
+-- if at most one of three tests passes, adding an index to a list for each test that passes adds it once if any of them passes
 one_of_three : (a b c : Bool) (had more : List ℕ) (add : List ℕ → List ℕ) → add had ≡ more
     → (a ≡ true → b ≡ true → ⊥) → (a ≡ true → c ≡ true → ⊥) → (b ≡ true → c ≡ true → ⊥)
     → cond c (add (cond b (add (cond a (add had) had)) (cond a (add had) had))) (cond b (add (cond a (add had) had)) (cond a (add had) had))

@@ -13,20 +13,13 @@ use Rattle.bib_syntax.specs.Reading.{EntryReading}
 use Rattle.bib_text.specs.Characters as char
 use Rattle.bib_findings.specs.Identities.{doi_of, has_identity, identities, identity, isbn_of, title_of, work_of, work_text}
 use Rattle.bib_findings.specs.Marks.{before_brace, listed, mark, marks_of}
-use Rattle.std.proofs.lemmas.Bool.{or_cases}
+use Rattle.std.proofs.lemmas.Bool.{or_cases, or_right, or_left}
 
 pub same_number : (one : ℕ) → nat_eq one one ≡ true
 same_number one = grind (arith, nat_tests)
 
 pub numbers_alike : (one other : ℕ) → nat_eq one other ≡ true → one ≡ other
 numbers_alike one other is = grind (arith, nat_tests, is)
-
-pub or_left : (p q : Bool) → p ≡ true → (p || q) ≡ true
-or_left p q is = ap (λ b. b || q) is
-
-pub or_right : (p q : Bool) → q ≡ true → (p || q) ≡ true
-or_right true q is = refl
-or_right false q is = is
 
 -- a brace and the text after it don't change the text before the first brace
 before_cut : (text rest : List ℕ) → before_brace (text ++ char.open_brace ∷ rest) ≡ before_brace text

@@ -1,10 +1,9 @@
 -- Raw entries by the offsets at which they begin.
-use Rattle.std.proofs.Common.{◌≡◌, ℕ, Bool, true, false, List, [], ◌∷◌, ◌++◌, Option, Some, None, refl, sym, ap, ◌∙◌, arith, cond, nat_eq}
+use Rattle.std.proofs.Common.{◌≡◌, ℕ, Bool, true, false, List, [], ◌∷◌, ◌++◌, Option, Some, None, refl, sym, ap, ◌∙◌, cond, nat_eq}
 use Rattle.std.specs.Prelude.{is_some, option_map}
 use Rattle.std.specs.Borrow.{Bor}
-use Rattle.std.specs.BTreeMap.{BTreeMap, Updates, get, is_at}
+use Rattle.std.specs.BTreeMap.{BTreeMap, Updates, get}
 use Rattle.std.specs.Ordering.{nat_cmp}
-use Rattle.std.proofs.lemmas.Bool.Decides.{nat_tests}
 use Rattle.bib_syntax.specs.Reading.{EntryReading}
 use Rattle.bib_syntax.specs.Views.{entry_reading_of}
 use Rattle.bib_syntax.specs.declared.raw.RawEntry.{RawEntry}
@@ -13,6 +12,7 @@ use Rattle.bib_findings.specs.Cuts.{entry_from}
 use Rattle.bib_findings.specs.Starts.{AreEntriesByStart}
 use Rattle.bib_findings.proofs.KeyFacts.{find_more, or_none, or_other}
 use Rattle.bib_findings.proofs.SharedFacts.{numbers_alike}
+use Rattle.bib_findings.proofs.NotedFacts.{apart}
 
 -- the reading of a stored entry
 abbrev seen : Bor (Spanned RawEntry) → EntryReading
@@ -45,9 +45,6 @@ starts_same entries earlier said are known start =
         sym
         (ap (λ b. or_other (entry_from earlier start) (cond b (Some said) None)) other
         ∙ or_none (entry_from earlier start))
-
-apart : (one other : ℕ) → nat_eq other one ≡ false → is_at (nat_cmp one) other ≡ false
-apart one other differs = grind (arith, nat_tests, differs)
 
 -- storing an entry at a new start adds it
 pub starts_more : (old new : BTreeMap ℕ (Bor (Spanned RawEntry))) (earlier : List EntryReading) (said : EntryReading)

@@ -1,10 +1,9 @@
 -- The words of a list of characters, written one after another.
-use Rattle.std.proofs.Common.{◌≡◌, ℕ, Bool, true, false, not, List, [], ◌∷◌, ◌++◌, ◌+◌, ◌<◌, ◌≤◌, ◌==◌, ◌&&◌, length, get_or, drop, refl, sym, ap, ◌∙◌, append_assoc, append-nil, length-append, arith, cond, suc}
+use Rattle.std.proofs.Common.{◌≡◌, ℕ, Bool, true, false, not, List, [], ◌∷◌, ◌++◌, ◌+◌, ◌<◌, ◌≤◌, ◌==◌, ◌&&◌, length, get_or, drop, refl, sym, ap, ◌∙◌, append_assoc, append-nil, length-append, arith, cond}
 use Rattle.std.specs.Prelude.{IsUtf8, bytes_eq, codes, encode_utf8, encode_utf8_all}
 use Rattle.std.specs.Bool.{one_answer}
 use Rattle.std.specs.Char.{is_whitespace}
 use Rattle.std.specs.List.{filter, onto_first, slice_split, take_while}
-use Rattle.std.proofs.Math.Seq.{drop-cons}
 use Rattle.std.proofs.lemmas.List.{drop_all}
 use Rattle.std.proofs.lemmas.List.Sums.{take_while-cons}
 use Rattle.std.proofs.lemmas.List.Splits.{slice_split-cons_yes, slice_split-cons_no}
@@ -12,6 +11,7 @@ use Rattle.std.proofs.lemmas.Bool.Decides.{nat_tests}
 use Rattle.std.proofs.lemmas.Slice.Eq.{bytes_eq-Decides}
 use Rattle.std.proofs.lemmas.Str.{encodes-append, length-encode, len_utf8_bounds}
 use Rattle.bib_text.proofs.TextFacts.{chars_whole}
+use Rattle.bib_text.proofs.ListFacts.{drop_is}
 use Rattle.bib_findings.specs.Identities.{is_brace, spaced_words}
 use Rattle.bib_findings.specs.Words.{ends_before, spaced_word, words_text}
 
@@ -73,12 +73,6 @@ goes_on is_first word c rest isnt =
     ap (λ parts. spaced_words (words_before is_first (words_among (after_word word parts)))) (slice_split-cons_no is_whitespace c rest isnt)
     ∙ ap (λ parts. spaced_words (words_before is_first (words_among parts))) (after_more word c (slice_split is_whitespace rest))
 
--- an empty part adds nothing to the text
-no_word : (is_first : Bool) (parts : List (List ℕ))
-    → spaced_words (words_before is_first (words_among ([] ∷ parts)))
-    ≡ spaced_words (words_before is_first (words_among parts))
-no_word is_first parts = refl
-
 -- the state after `count` characters: the result is `text`, followed by the text of the remaining characters after `word`
 pub record AreWordsLeft (is_first : Bool) (characters : List ℕ) (count : ℕ) (text word : List ℕ) : Type 0 where
   pub begun : List ℕ
@@ -92,18 +86,9 @@ words_begin is_first characters = record {
   left = sym (none_begun is_first (kept characters));
 }
 
--- the characters from `count` on are the next character and those after it
-drop_next : (characters : List ℕ) (count c : ℕ) → count < length characters → c ≡ get_or characters count c
-    → drop count characters ≡ c ∷ drop (count + 1) characters
-drop_next characters count c within is =
-    drop-cons characters count c within
-    ∙ ap (λ n. get_or characters count c ∷ drop n characters)
-    (let same : suc count ≡ count + 1 = omega arith in same)
-    ∙ ap (λ d. d ∷ drop (count + 1) characters) (sym is)
-
 kept_next : (characters : List ℕ) (count c : ℕ) → count < length characters → c ≡ get_or characters count c
     → kept (drop count characters) ≡ cond (not (is_brace c)) (c ∷ kept (drop (count + 1) characters)) (kept (drop (count + 1) characters))
-kept_next characters count c within is = ap kept (drop_next characters count c within is)
+kept_next characters count c within is = ap kept (drop_is characters count c within is)
 
 -- the words end before a word, given by its bytes, exactly if they end before it, given by its characters
 ends_same : (is_first : Bool) (word begun : List ℕ) → IsUtf8 word → word ≡ encode_utf8_all begun

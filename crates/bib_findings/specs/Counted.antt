@@ -16,11 +16,11 @@ use Rattle.bib_findings.specs.declared.foreign.Counted.{Counted}
 abbrev pub counted_of : Counted → FieldReading × ℕ
 counted_of c = (field_of c.first.now, c.count)
 
--- the name of a field in lowercase
+-- the name of a field in ASCII lowercase
 abbrev pub lowercase_name : FieldReading → List ℕ
 lowercase_name f = str_to_ascii_lowercase f.name.text
 
--- the names of counts in lowercase
+-- the names of counts in ASCII lowercase
 abbrev pub counted_names : List Counted → Names
 counted_names = map (λ c. lowercase_name (field_of c.first.now))
 

@@ -15,6 +15,6 @@ demand_texts = map (λ demand. texts demand.now)
 abbrev pub demand_row : Row → Names × List Names
 demand_row row = (texts row.types.now, demand_texts row.demands.now)
 
--- the requirements in the first row with a type, or none
+-- the requirements in the first row with this type, or none
 abbrev pub demands_in : List Row → List ℕ → List Names
 demands_in rows entry_type = option_map_or (λ row. row.1) (find (λ row. is_known_name row.0 entry_type) (map demand_row rows)) []

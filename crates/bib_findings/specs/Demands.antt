@@ -11,8 +11,8 @@ use Rattle.bib_syntax.specs.Reading.{EntryReading}
 use Rattle.bib_findings.specs.Entries.{is_empty_value, has_own_field, last_named}
 use Rattle.bib_findings.specs.Nearest.{is_known_name}
 
--- The fields of which an entry needs one. Findings name the first. The others replace it: BibTeX's names, and for the author of a whole
--- book its editor, whom BibLaTeX prints in the author's place.
+-- The fields of which an entry needs one. A finding names the first that is in the file but empty, or else the first. The others replace
+-- the first: BibTeX's names, and for the author of a whole book its editor, whom BibLaTeX prints in the author's place.
 abbrev pub Demand : Type 0
 Demand = Names
 
@@ -49,7 +49,8 @@ demands_of entry_type = option_map_or (λ row. row.1) (find (λ row. is_known_na
 abbrev pub date_demand : List ℕ → List Demand
 date_demand entry_type = if is_known_name dated_types entry_type then fields "year date" ∷ [] else []
 
--- whether an entry has a value of a field: one in the file that isn't empty and may be unreadable, or an inherited one
+-- whether an entry has a value of a field: its last field of this name in the file isn't empty, or it has none there and inherits the
+-- field. The field in the file may be unreadable.
 abbrev pub has_value : EntryReading → Entry → List ℕ → Bool
 has_value said entry name = option_map_or (λ f. not (is_empty_value f)) (last_named said.fields name) (has_field entry name)
 
@@ -66,7 +67,7 @@ abbrev pub leading_field : Demand → List ℕ
 leading_field [] = []
 leading_field (name ∷ others) = name
 
--- the field that a finding names for a requirement: the first that the entry has in the file, where it is empty, or else the first
+-- the field that a finding names for a requirement: the first that the entry has in the file, or else the first
 abbrev pub demanded_field : EntryReading → Demand → List ℕ
 demanded_field said demand = option_map_or (λ name. name) (find (has_own_field said) demand) (leading_field demand)
 
@@ -74,6 +75,6 @@ demanded_field said demand = option_map_or (λ name. name) (find (has_own_field 
 abbrev pub unmet_fields : EntryReading → Entry → List Demand → Names
 unmet_fields said entry demands = map (demanded_field said) (filter (λ demand. not (is_met said entry demand)) demands)
 
--- the fields that are required of an entry and that it lacks
+-- the fields that findings name for the requirements that an entry doesn't meet
 abbrev pub missing_fields : EntryReading → Entry → Names
 missing_fields said entry = unmet_fields said entry (all_demands said.kind.text)

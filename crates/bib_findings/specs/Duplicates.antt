@@ -27,7 +27,7 @@ duplicate_finding said first = finding_at LikelyDuplicate (part_range said.key) 
 abbrev pub most_compared : ℕ
 most_compared = 16
 
--- the first of the earlier entries with an identity that no field tells apart from an entry
+-- among the first `most_compared` earlier entries with an identity, the first that no field tells apart from an entry
 abbrev pub same_by : List EntryReading → EntryReading → List ℕ → Option EntryReading
 same_by earlier said id = find (λ other. not (are_told_apart said other)) (take most_compared (filter (has_identity id) earlier))
 

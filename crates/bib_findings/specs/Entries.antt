@@ -42,11 +42,11 @@ is_empty_value f = list_all is_blank_piece f.value.pieces
 abbrev pub has_own_field : EntryReading → List ℕ → Bool
 has_own_field said name = is_some (last_named said.fields name)
 
--- the message about a field of the entry with this key: the key, what is wrong, and the field's name
+-- the message about a field of the entry with this key: the key, the problem, and the field's name
 abbrev pub field_message : List ℕ → List ℕ → List ℕ → List ℕ
 field_message key wrong name = entry_name key ++ (codes ": " ++ (wrong ++ (codes " " ++ name)))
 
--- the finding of a field of an entry, with a code and the word for what is wrong
+-- the finding of a field of an entry, with a code and the word for the problem
 abbrev pub field_finding : EntryReading → Code → List ℕ → List ℕ → Finding
 field_finding said c wrong name = finding_at c (field_place said name) (field_message said.key.text wrong name)
 

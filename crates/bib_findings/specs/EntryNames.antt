@@ -1,5 +1,5 @@
 -- Meaning: words of public contracts.
--- How messages name an entry.
+-- The name of an entry in messages.
 use Rattle.std.specs.Prelude.{ℕ, ◌==◌, List, codes, if◌then◌else◌, length}
 
 -- the name of an entry in messages: its key, or words for an empty key

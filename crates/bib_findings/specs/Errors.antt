@@ -1,5 +1,5 @@
 -- Meaning: words of public contracts.
--- The findings of what recovery reports: skipped blocks and errors.
+-- The findings of the skipped blocks and errors that recovery reports.
 use Rattle.std.specs.Prelude.{ℕ, Bool, ◌&&◌, not, nat_lt, List, ◌++◌, codes, if◌then◌else◌}
 use Rattle.std.specs.Option.{option_map_or}
 use Rattle.std.specs.declared.ops.Range.{Range}
@@ -54,12 +54,12 @@ error_finding e = finding_at (error_code e.kind) e.span (error_message e.kind)
 abbrev pub is_endless : SkippedBlock → Bool
 is_endless block = not (nat_lt block.error.span.start block.span.end)
 
--- whether a field after the complete ones of a skipped block never ends
+-- whether a skipped block ends within a field after its complete ones
 abbrev pub is_unclosed : SkippedBlock → EntryReading → Bool
 is_unclosed block e = is_endless block && nat_lt e.end block.span.end
 
--- the finding of a skipped block of which the entry `e` is kept. It names the entry. It is at the place of the error or, if a field never
--- ends, at the start of this field
+-- the finding of a skipped block of which the entry `e` is kept. It names the entry. It is at the place of the error or, if the block ends
+-- within a field, at the start of this field
 abbrev pub kept_finding : SkippedBlock → EntryReading → Finding
 kept_finding block e =
     if is_unclosed block e

@@ -1,5 +1,5 @@
 -- Meaning: words of public contracts.
--- The findings of fields that are repeated or empty, of empty keys, and of DOIs with an address.
+-- The findings of fields that are repeated or empty, of empty keys, and of DOIs with an address or a scheme.
 use Rattle.std.specs.Prelude.{ℕ, not, ◌==◌, ◌&&◌, List, [], ◌∷◌, ◌++◌, codes, if◌then◌else◌, length}
 use Rattle.std.specs.List.{flat_map, list_any}
 use Rattle.bib_tables.specs.Requirements.{Names, fields}
@@ -41,7 +41,7 @@ empty_finding key f = finding_at EmptyField (part_range f.name) (named_message k
 abbrev pub empty_of : List ℕ → Names → FieldReading → List Finding
 empty_of key missing f = if is_empty_value f && not (is_known_name missing f.name.text) then empty_finding key f ∷ [] else []
 
--- the findings of the empty fields of an entry, except of those that are reported as missing
+-- the findings of the empty fields of an entry, except those that are reported as missing
 abbrev pub empty_findings : Names → EntryReading → List Finding
 empty_findings missing said = flat_map (empty_of said.key.text missing) said.fields
 
@@ -49,8 +49,8 @@ empty_findings missing said = flat_map (empty_of said.key.text missing) said.fie
 abbrev pub address_starts : Names
 address_starts = fields "http:// https:// doi:"
 
--- the finding of a DOI with an address or a scheme, in any ASCII case: BibLaTeX puts an address before the field (biblatex.def, the format
--- of the field `doi`), so the link leads nowhere
+-- the finding of a DOI that is one literal and begins with an address or a scheme, in any ASCII case. BibLaTeX puts an address before the
+-- field (biblatex.def, the format of the field `doi`), so the link is wrong
 abbrev pub address_findings : EntryReading → List Finding
 address_findings said =
     if list_any (λ start. begins_in_any_case start (own_literal said (codes "doi"))) address_starts

@@ -1,5 +1,6 @@
 -- Meaning: words of public contracts.
--- All findings of a file: those of what recovery reports, and those of each entry that it keeps.
+-- All findings of the text of a file: those of the skipped blocks and errors of recovery, those of each kept entry, and those between
+-- entries. Findings about the bytes of the file or about documents aren't among them.
 use Rattle.std.specs.Prelude.{◌≡◌, ℕ, List, ◌++◌, map}
 use Rattle.std.specs.declared.ops.Range.{Range}
 use Rattle.std.specs.List.Sorted.{IsPermutation, IsSortedByKey, IsStableByKey}
@@ -28,25 +29,38 @@ use Rattle.bib_findings.specs.KeyCases.{case_findings}
 use Rattle.bib_findings.specs.Lacking.{may_lack}
 use Rattle.bib_findings.specs.MalformedDates.{date_findings}
 use Rattle.bib_findings.specs.Names.{AreOfUnknown}
+use Rattle.bib_findings.specs.ParentOrder.{early_findings}
+use Rattle.bib_findings.specs.People.{name_findings}
 use Rattle.bib_findings.specs.References.{AreReferences}
 use Rattle.bib_findings.specs.Reported.{AreOfReport, reported_missing}
+use Rattle.bib_findings.specs.SpecialCharacters.{special_findings}
+use Rattle.bib_findings.specs.Stray.{stray_findings}
 use Rattle.bib_findings.specs.Types.{AreOfType}
+use Rattle.bib_findings.specs.Years.{year_findings}
 use Rattle.bib_findings.specs.declared.finding.Finding.{Finding}
 
 -- the raw entries of a file, in order
 abbrev pub entries_said : List (Spanned RawEntry) → List EntryReading
 entries_said = map entry_reading_of
 
--- the findings of an empty key and of single fields of an entry with these missing fields: repeated and empty ones, wrong numbers, DOIs
--- with an address, and dates that aren't one
-abbrev pub single_findings : Names → EntryReading → Entry → List Finding
-single_findings missing said entry =
+-- the findings of an empty key, repeated and empty fields, wrong numbers, a DOI with an address or a scheme, and malformed dates of an
+-- entry with these missing fields
+abbrev pub own_findings : Names → EntryReading → Entry → List Finding
+own_findings missing said entry =
     key_findings said
     ++ (repeated_findings said
     ++ (empty_findings missing said ++ (number_findings said ++ (address_findings said ++ date_findings said entry))))
 
--- whether these are the findings of an entry, with its raw form `said` and these missing fields: that of its type, then those of its
--- report, then those of unknown field names, then those of its key and its single fields
+-- the findings of two different years, malformed names and special characters of an entry
+abbrev pub text_findings : EntryReading → Entry → List Finding
+text_findings said entry = year_findings said entry ++ (name_findings said ++ special_findings said)
+
+-- the findings of a key and of single fields of an entry with these missing fields
+abbrev pub single_findings : Names → EntryReading → Entry → List Finding
+single_findings missing said entry = own_findings missing said entry ++ text_findings said entry
+
+-- whether these are the findings of an entry, with its raw form `said` and these missing fields. First comes that of its type, then those
+-- of its report, of unknown field names, and of its key and its single fields
 pub record AreOfEntry (missing : Names) (said : EntryReading) (entry : Entry) (found : List Finding) : Type 0 where
   pub of_type : List Finding
   pub type : AreOfType said of_type
@@ -68,18 +82,22 @@ pub record AreSortedByPlace (all found : List Finding) : Type 0 where
   pub sorted : IsSortedByKey (λ f. f.span.start) nat_cmp found
   pub stable : IsStableByKey (λ f. f.span.start) nat_cmp all found
 
--- whether these are the findings between entries: first of keys that no entry has, then of entries that are likely the same work, then of
--- keys that differ only in case, then of fields that other programs write for themselves; a cut entry is no likely duplicate
-pub record AreBetween (skipped : List SkippedBlock) (names : ByText ℕ) (said : List EntryReading) (origins : List ℕ) (own : List Entry)
-    (found : List Finding) : Type 0 where
+-- whether these are the findings between entries, in this order: keys that no kept entry has; entries that are likely the same work; text
+-- after an entry that reads as a field; keys that differ only in ASCII case; parents that come before their children; fields that other
+-- programs write for themselves. A cut entry is no likely duplicate, and the text after it isn't
+-- tested.
+pub record AreBetween (text : List ℕ) (skipped : List SkippedBlock) (names : ByText ℕ) (said : List EntryReading) (origins : List ℕ)
+    (own : List Entry) (found : List Finding) : Type 0 where
   pub of_keys : List Finding
   pub keys : AreOfEach (AreReferences names) said origins own of_keys
   pub are : found
       ≡ of_keys
       ++ (duplicates (whole_among skipped (entries_at said origins))
-      ++ (case_findings (entries_at said origins) ++ foreign_findings (entries_at said origins)))
+      ++ (stray_findings text (whole_among skipped (entries_at said origins))
+      ++ (case_findings (entries_at said origins)
+      ++ (early_findings (entries_at said origins) ++ foreign_findings (entries_at said origins)))))
 
--- whether these are the findings of a recovered file, sorted by where they start: those of skipped blocks, of errors, of each kept
+-- whether these are the findings of a recovered file, sorted by their starts: those of skipped blocks, of errors, of each kept
 -- entry, and those between entries
 pub record AreFindingsIn (skipped : List SkippedBlock) (names : ByText ℕ) (errors : List ParseError) (said : List EntryReading)
     (origins : List ℕ) (entries : List Entry) (between found : List Finding) : Type 0 where
@@ -87,8 +105,8 @@ pub record AreFindingsIn (skipped : List SkippedBlock) (names : ByText ℕ) (err
   pub reports : AreOfEach (AreOfKept skipped names said origins) said origins entries of_entries
   pub sorted : AreSortedByPlace (map (block_finding said) skipped ++ (map error_finding errors ++ (of_entries ++ between))) found
 
--- whether these are all findings of a file with this text, with the complete parts of its skipped blocks. Each kept entry is reported with
--- the fields that it inherits. The findings between entries use only the fields that each entry has itself.
+-- whether these are all findings of a file with this text, with the complete parts of its skipped blocks. The findings of a kept entry also
+-- use the fields that it inherits. The findings between entries use only the fields that each entry has itself.
 pub record AreFindings (text : List ℕ) (found : List Finding) : Type 0 where
   pub says : FileReading
   pub skipped : List SkippedBlock
@@ -103,5 +121,5 @@ pub record AreFindings (text : List ℕ) (found : List Finding) : Type 0 where
   pub of_references : List ParseError
   pub resolved : AreRecovered places names own entries of_references
   pub between : List Finding
-  pub are_between : AreBetween skipped names says.entries origins own between
+  pub are_between : AreBetween text skipped names says.entries origins own between
   pub are : AreFindingsIn skipped names (of_entries ++ of_references) says.entries origins entries between found

@@ -59,7 +59,7 @@ foreign_message name count =
 abbrev pub most_counted : ℕ
 most_counted = 2 ^ 64 - 1
 
--- the finding of the fields with the name of this field, the first of them; the number of fields stays at its maximum
+-- the finding of the fields with the name of this field, the first of them; a number above `most_counted` is replaced by it
 abbrev pub foreign_finding : List FieldReading → FieldReading → Finding
 foreign_finding all f =
     finding_at ForeignField (part_range f.name) (foreign_message f.name.text (min (count_by (have_one_name f) all) most_counted))

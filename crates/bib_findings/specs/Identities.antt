@@ -1,6 +1,7 @@
 -- Meaning: words of public contracts.
--- What makes two entries likely the same work: the same DOI, the same ISBN of whole books, or the same title, first person and year. Case,
--- braces and white space don't count, nor do the hyphens of an ISBN and the address before a DOI.
+-- Entries are likely the same work if they have the same DOI, the same ISBN of whole books, or the same title, first person and year, and
+-- no field tells them apart. Case and braces don't count. White space only separates words, and doesn't count in a DOI or an ISBN. The
+-- hyphens of an ISBN and the link or the scheme before a DOI don't count either.
 use Rattle.std.specs.Prelude.{ℕ, Bool, not, ◌==◌, ◌&&◌, ◌||◌, List, [], ◌∷◌, ◌++◌, codes, chars, length, take, drop, filter, bytes_eq, nat_eq, encode_utf8_all, Option, Some, None, if◌then◌else◌}
 use Rattle.std.specs.Char.{is_whitespace}
 use Rattle.std.specs.List.{flat_map, list_any, slice_split, starts_with, take_while}
@@ -17,12 +18,12 @@ abbrev pub literal_text : List Piece → List ℕ
 literal_text (literal p ∷ []) = p.text
 literal_text _ = []
 
--- the text of a field, or the empty text if there is no field
+-- the text of a field whose value is one literal; the empty text for any other value, and if there is no field
 abbrev pub field_literal : Option FieldReading → List ℕ
 field_literal None = []
 field_literal (Some f) = literal_text f.value.pieces
 
--- the text of the last field of this name of an entry, or the empty text
+-- the text of the last field of this name of an entry, if its value is one literal, and otherwise the empty text
 abbrev pub own_literal : EntryReading → List ℕ → List ℕ
 own_literal said name = field_literal (last_named said.fields name)
 
@@ -76,7 +77,8 @@ without_prefixes text [] = text
 without_prefixes text (prefix ∷ prefixes) =
     if starts_with nat_eq text prefix then drop (length prefix) text else without_prefixes text prefixes
 
--- the DOI of an entry in lowercase, without braces, white space and the link before it; the empty text if it has none
+-- the DOI of an entry in lowercase, without braces, white space and a link or a scheme before it; the empty text if it has none as one
+-- literal
 abbrev pub doi_of : EntryReading → List ℕ
 doi_of said = without_prefixes (squeezed (own_literal said (codes "doi"))) doi_prefixes
 
@@ -92,15 +94,18 @@ is_whole_book said = is_known_name whole_types said.kind.text
 abbrev pub unhyphened : List ℕ → List ℕ
 unhyphened text = encode_utf8_all (filter (λ c. not (c == char.hyphen)) (chars (squeezed text)))
 
--- the ISBN of a whole book, without hyphens, braces and white space; the empty text if it has none, or isn't a whole book
+-- the ISBN of a whole book in lowercase, without hyphens, braces and white space; the empty text if it has none as one literal, or isn't a
+-- whole book
 abbrev pub isbn_of : EntryReading → List ℕ
 isbn_of said = if is_whole_book said then unhyphened (own_literal said (codes "isbn")) else []
 
--- the year of an entry: its field `year`, or else the first four characters of its date
+-- the year of an entry: its field `year`, or else the first four characters of its date. The words are in lowercase and without braces,
+-- each followed by a space. A field that isn't one literal counts as missing.
 abbrev pub year_of : EntryReading → List ℕ
 year_of said = plain_words (or_else (own_literal said (codes "year")) (first_four (own_literal said (codes "date"))))
 
--- the words of the title of an entry, each followed by a space
+-- the words of the title of an entry, in lowercase and without braces, each followed by a space. A title that isn't one literal counts
+-- as missing.
 abbrev pub title_of : EntryReading → List ℕ
 title_of said = plain_words (own_literal said (codes "title"))
 
@@ -109,7 +114,8 @@ abbrev pub work_text : List ℕ → List ℕ → List ℕ → List ℕ
 work_text title person year =
     if length title == 0 || length person == 0 || length year == 0 then [] else title ++ (codes "{" ++ (person ++ (codes "{" ++ year)))
 
--- the words of the first author of an entry, or else of its first editor, each followed by a space
+-- the words of the first author of an entry, or else of its first editor, in lowercase and without braces, each followed by a space. A
+-- field that isn't one literal counts as missing.
 abbrev pub first_person_of : EntryReading → List ℕ
 first_person_of said = first_person (or_else (own_literal said (codes "author")) (own_literal said (codes "editor")))
 
@@ -135,11 +141,11 @@ has_identity id said = list_any (bytes_eq id) (identities said)
 abbrev pub telling_fields : Names
 telling_fields = fields "volume number pages chapter part edition subtitle"
 
--- whether two texts aren't empty, and differ
+-- whether neither of two texts is empty, and they differ
 abbrev pub are_different : List ℕ → List ℕ → Bool
 are_different text other = not (length text == 0) && not (length other == 0) && not (bytes_eq text other)
 
--- whether two entries have a field of this name, with texts that differ in more than case, hyphens, braces and white space
+-- whether the texts of two entries in the field of this name are different, in lowercase and without hyphens, braces and white space
 abbrev pub differs_in : EntryReading → EntryReading → List ℕ → Bool
 differs_in said other name = are_different (unhyphened (own_literal said name)) (unhyphened (own_literal other name))
 

@@ -15,15 +15,15 @@ use Rattle.bib_findings.specs.declared.finding.Finding.{Finding}
 abbrev pub have_one_key : EntryReading → EntryReading → Bool
 have_one_key said other = str_eq_ignore_ascii_case said.key.text other.key.text
 
--- the finding of an entry whose key differs from that of `first` only in case, at its key
+-- the finding of an entry whose key differs from the key `first` only in ASCII case, at its key
 abbrev pub case_finding : EntryReading → List ℕ → Finding
 case_finding said first =
     finding_at KeyCase (part_range said.key) (named_message said.key.text (codes "key differs from ") first (codes " only in case"))
 
--- the finding of an entry if the key of an earlier one is the same except for case; it names the first of these keys
+-- the finding of an entry if the key of an earlier one is the same except for ASCII case; it names the first of these keys
 abbrev pub case_after : List EntryReading → EntryReading → List Finding
 case_after earlier said = option_map_or (λ first. case_finding said first.key.text ∷ []) (find (have_one_key said) earlier) []
 
--- the findings of the keys of entries that equal the key of an earlier one except for case; no two keys are the same
+-- the findings of the keys of entries that equal the key of an earlier one except for ASCII case; no two keys are the same
 abbrev pub case_findings : List EntryReading → List Finding
 case_findings entries = each_after case_after [] entries

@@ -16,15 +16,15 @@ abbrev pub is_cut_at : List SkippedBlock → List EntryReading → List ℕ → 
 is_cut_at skipped said origins index =
     option_map_or (λ origin. option_map_or (is_cut skipped) (slice_get said origin) false) (slice_get origins index) false
 
--- whether a key is that of a cut entry, or is in its field `ids`
+-- whether `names` points from a key to a cut entry
 abbrev pub names_cut : List SkippedBlock → ByText ℕ → List EntryReading → List ℕ → List ℕ → Bool
 names_cut skipped names said origins key = option_map_or (is_cut_at skipped said origins) (by_name.get names key) false
 
--- the keys of the entries from which an entry inherits
+-- the keys in the fields `crossref` and `xdata` of an entry
 abbrev pub parent_keys : Entry → List (List ℕ)
 parent_keys entry = keys_in entry (codes "crossref") ++ keys_in entry (codes "xdata")
 
--- whether fields of an entry, with its raw form `one`, may be lost: it is cut, or inherits from an entry that is cut
+-- whether fields of an entry, with its raw form `one`, may be lost: it is cut, or its `crossref` or `xdata` names an entry that is cut
 abbrev pub may_lack : List SkippedBlock → ByText ℕ → List EntryReading → List ℕ → EntryReading → Entry → Bool
 may_lack skipped names said origins one entry =
     is_cut skipped one || list_any (names_cut skipped names said origins) (parent_keys entry)

@@ -22,10 +22,16 @@ pub mod Met
 pub mod Names
 pub mod Near
 pub mod Nearest
+pub mod Outside
+pub mod ParentOrder
+pub mod People
 pub mod References
 pub mod Reported
 pub mod Seen
+pub mod SpecialCharacters
 pub mod StandardNumbers
 pub mod Starts
+pub mod Stray
 pub mod Types
 pub mod Words
+pub mod Years

@@ -63,7 +63,8 @@ abbrev pub is_fraction : List ℕ → Bool
 is_fraction (a ∷ b ∷ c ∷ zone) = list_all is_ascii_digit (a ∷ b ∷ c ∷ []) && is_zone zone
 is_fraction _ = false
 
--- whether a text is a date and a time to the second, which has 19 bytes without a sign, with three decimals and maybe a zone
+-- whether a text is a date and a time to the second, with three decimals. A zone and a mark may follow. The date and the time have 19 bytes
+-- without a sign.
 abbrev pub has_decimals : List ℕ → Bool
 has_decimals side =
     is_fraction (without_mark (after_first (λ b. b == char.point) side))
@@ -94,14 +95,14 @@ is_edtf text =
 abbrev pub is_no_date : Value → Bool
 is_no_date chunks = is_none (date_read chunks) && not (length (trim (text chunks)) == 0 || is_edtf (text chunks))
 
--- whether a field of an entry isn't a date, and is written in the entry itself
+-- whether an entry itself has a field, and its value is neither blank nor a date
 abbrev pub has_no_date : EntryReading → Entry → List ℕ → Bool
 has_no_date said entry name = is_some (last_named said.fields name) && option_map_or is_no_date (by_name.get entry.fields name) false
 
--- the findings of those of these fields of an entry that aren't a date
+-- the findings of those of these fields of an entry whose value is neither blank nor a date
 abbrev pub dates_among : EntryReading → Entry → Names → List Finding
 dates_among said entry names = map (field_finding said MalformedDate (codes "malformed")) (filter (has_no_date said entry) names)
 
--- the findings of the fields of an entry that should be a date and aren't one
+-- the findings of the fields of an entry that should be a date, and whose value is neither blank nor a date
 abbrev pub date_findings : EntryReading → Entry → List Finding
 date_findings said entry = dates_among said entry fields_of_dates

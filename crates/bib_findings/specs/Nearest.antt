@@ -1,5 +1,5 @@
 -- Meaning: words of public contracts.
--- Suggestions: which known name may be meant by an unknown one.
+-- Suggestions: the known name that an unknown one may mean.
 use Rattle.std.specs.Prelude.{◌≡◌, ℕ, ◌<◌, ◌≤◌, ◌-◌, ◌==◌, Bool, false, not, ◌&&◌, List, ◌∷◌, ◌++◌, bytes_eq, codes, drop, length, nat_eq, nat_le, nat_lt, Option, Some, None, if◌then◌else◌}
 use Rattle.std.specs.List.{All, ends_with, filter, list_any, starts_with}
 use Rattle.std.specs.Str.{chars, str_eq_ignore_ascii_case}
@@ -29,8 +29,8 @@ begin_alike _ _ = false
 abbrev pub are_of_like_length : ℕ → List ℕ → List ℕ → Bool
 are_of_like_length most name known = nat_le (length name - length known) most && nat_le (length known - length name) most
 
--- whether a name is a known one with other characters before or after it, such as `fjournal`, and isn't its plural: someone's own name,
--- and no typing error
+-- whether a name is a known one, maybe with other characters before or after it, and isn't its plural. Such a name, for example `fjournal`,
+-- is someone's own and no typing error.
 abbrev pub is_extension : List ℕ → List ℕ → Bool
 is_extension name known =
     if starts_with nat_eq name known then not (bytes_eq (drop (length known) name) (codes "s")) else ends_with nat_eq name known

@@ -1,5 +1,5 @@
 -- Meaning: words of public contracts.
--- The keys that entries refer to, and the findings of those that no entry has.
+-- The keys that entries refer to, and the findings of those that no kept entry has.
 use Rattle.std.specs.Prelude.{◌≡◌, ℕ, Bool, not, ◌&&◌, List, [], ◌∷◌, ◌++◌, codes, map, filter, bytes_eq, is_none, length, ◌==◌, if◌then◌else◌}
 use Rattle.std.specs.List.{flat_map}
 use Rattle.std.specs.Option.{option_map_or}
@@ -29,11 +29,11 @@ keys_of field atoms = if bytes_eq field (codes "crossref") then plain atoms ∷ 
 abbrev pub keys_in : Entry → List ℕ → List (List ℕ)
 keys_in entry field = option_map_or (λ chunks. keys_of field (styled chunks)) (by_name.get entry.fields field) []
 
--- whether a key isn't empty, and no entry has it as its key or in its field `ids`
+-- whether a key isn't empty, and no kept entry has it as its key or in its field `ids`
 abbrev pub is_unknown : ByText ℕ → List ℕ → Bool
 is_unknown names key = not (length key == 0) && is_none (by_name.get names key)
 
--- the message for a key that no entry has and that this field of the entry with the key `key` refers to
+-- the message for a key that no kept entry has and that this field of the entry with the key `key` refers to
 abbrev pub reference_message : List ℕ → List ℕ → List ℕ → List ℕ
 reference_message key field named = entry_name key ++ (codes ": no entry \"" ++ (named ++ (codes "\" (" ++ (field ++ codes ")"))))
 
@@ -41,14 +41,14 @@ reference_message key field named = entry_name key ++ (codes ": no entry \"" ++ 
 abbrev pub reference_finding : EntryReading → List ℕ → List ℕ → Finding
 reference_finding said field named = finding_at UnknownReference (field_place said field) (reference_message said.key.text field named)
 
--- the findings of the keys that this field of an entry refers to and that no entry has
+-- the findings of the keys that this field of an entry refers to and that no kept entry has
 abbrev pub field_references : ByText ℕ → EntryReading → Entry → List ℕ → List Finding
 field_references names said entry field = map (reference_finding said field) (filter (is_unknown names) (keys_in entry field))
 
--- the findings of the keys that an entry refers to and that no entry has
+-- the findings of the keys that an entry refers to and that no kept entry has
 abbrev pub entry_references : ByText ℕ → EntryReading → Entry → List Finding
 entry_references names said entry = flat_map (field_references names said entry) reference_fields
 
--- whether these are the findings of the keys that an entry refers to and that no entry has
+-- whether these are the findings of the keys that an entry refers to and that no kept entry has
 abbrev pub AreReferences : ByText ℕ → EntryReading → Entry → List Finding → Type 0
 AreReferences names said entry found = found ≡ entry_references names said entry

@@ -19,13 +19,13 @@ use Rattle.bib_findings.specs.declared.codes.Code.{Code}
 use Rattle.bib_findings.specs.declared.codes.Code.TheVariants as code
 use Rattle.bib_findings.specs.declared.finding.Finding.{Finding}
 
--- the field that contains the year of this date, if the date is given by its parts; any other name is unchanged
+-- the field that contains the year of this date, if the date is in separate fields; any other name is unchanged
 abbrev pub year_name : List ℕ → List ℕ
 year_name name =
     if bytes_eq name (codes "date") then codes "year" else if bytes_eq name (codes "eventdate") then codes "eventyear"
     else if bytes_eq name (codes "origdate") then codes "origyear" else if bytes_eq name (codes "urldate") then codes "urlyear" else name
 
--- the place of a malformed field: its name, or its year if a date is given by its parts, or else the entry's key
+-- the place of a malformed field: its name, or the year if it is a date in separate fields, or else the entry's key
 abbrev pub malformed_place : EntryReading → List ℕ → Range ℕ
 malformed_place said name = range_or (field_place said (year_name name)) (last_named said.fields name)
 
@@ -74,7 +74,7 @@ superfluous_fields entry =
 abbrev pub reported_missing : Bool → EntryReading → Entry → Names
 reported_missing may_lack said entry = if may_lack then [] else missing_fields said entry
 
--- the word for what is wrong with a required field of which the entry has no value
+-- the word for the problem of a required field of which the entry has no value
 abbrev pub lacking_word : EntryReading → List ℕ → List ℕ
 lacking_word said name = if has_own_field said name then codes "empty" else codes "missing"
 

@@ -1,5 +1,5 @@
 -- Machinery: words of private contracts.
--- The identities of the entries so far, each with the indices of the first entries that have it.
+-- The identities of the entries so far, each with the indices of the first `most_compared` entries that have it.
 use Rattle.std.specs.Prelude.{◌≡◌, ◌<◌, ℕ, not, List, [], ◌∷◌, ◌++◌, All, bytes_eq, find, length, nat_lt, slice_get, take, Option, if◌then◌else◌}
 use Rattle.std.specs.Global.{Global}
 use Rattle.std.specs.List.{filter, filter_map}
@@ -28,7 +28,7 @@ remembered (one ∷ ids) index id had = remembered ids index id (if bytes_eq id 
 abbrev pub AreThere : (List ℕ → Option (Vec ℕ Global)) → ℕ → Type 0
 AreThere seen count = (id : List ℕ) → All (λ index. index < count) (stored_indices (seen id))
 
--- whether each identity has the indices of the first of the earlier entries that have it
+-- whether each identity has the indices of the first `most_compared` earlier entries that have it
 abbrev pub AreFirstWith : (List ℕ → Option (Vec ℕ Global)) → List EntryReading → List EntryReading → Type 0
 AreFirstWith seen said earlier =
     (id : List ℕ) → entries_at said (stored_indices (seen id)) ≡ take most_compared (filter (has_identity id) earlier)
@@ -45,6 +45,6 @@ alike_by seen said one id = first_alike one (entries_at said (stored_indices (se
 abbrev pub alike_among : (List ℕ → Option (Vec ℕ Global)) → List EntryReading → EntryReading → Names → Option EntryReading
 alike_among seen said one ids = slice_get (filter_map (alike_by seen said one) ids) 0
 
--- the finding of an entry that is likely the same work as this one, if there is one
+-- the finding that an entry is likely the same work as another, if there is another
 abbrev pub same_finding : EntryReading → Option EntryReading → List Finding
 same_finding said first = option_map_or (λ one. duplicate_finding said one ∷ []) first []

@@ -25,11 +25,11 @@ is_group_separator b = list_any (λ one. b == one) (codes "- ")
 abbrev pub is_digit_or_x : ℕ → Bool
 is_digit_or_x b = is_ascii_digit b || list_any (λ one. b == one) (codes "Xx")
 
--- the digits of a number, without hyphens and spaces
+-- the bytes of a text without hyphens and spaces: the digits of a number
 abbrev pub digits_of : List ℕ → List ℕ
 digits_of part = filter (λ b. not (is_group_separator b)) part
 
--- the parts of a text that commas, semicolons and the word `and` separate
+-- the parts of a text between commas, semicolons and the letters `a`, `n` and `d`: the word `and` separates numbers
 abbrev pub number_parts : List ℕ → List (List ℕ)
 number_parts text = slice_split is_number_separator text
 
@@ -37,7 +37,7 @@ number_parts text = slice_split is_number_separator text
 abbrev pub is_word_separator : ℕ → Bool
 is_word_separator b = b == char.space
 
--- the words of a part, which spaces separate
+-- the words of a part between spaces; a word may be empty
 abbrev pub number_words : List ℕ → List (List ℕ)
 number_words part = slice_split is_word_separator part
 
@@ -64,37 +64,37 @@ is_check_right_by_11 digits = list_all is_ascii_digit (take (length digits - 1) 
 abbrev pub is_check_right_by_10 : List ℕ → Bool
 is_check_right_by_10 digits = list_all is_ascii_digit digits && alternating_sum 1 digits % 10 == 0
 
--- whether digits are an ISBN
+-- whether digits have the length and the check digit of an ISBN
 abbrev pub is_isbn : List ℕ → Bool
 is_isbn digits = (nat_eq (length digits) 10 && is_check_right_by_11 digits) || (nat_eq (length digits) 13 && is_check_right_by_10 digits)
 
--- whether digits are an ISSN
+-- whether digits have the length and the check digit of an ISSN
 abbrev pub is_issn : List ℕ → Bool
 is_issn digits = length digits == 8 && is_check_right_by_11 digits
 
--- whether digits are a standard number: an ISSN if `is_serial` is true, or else an ISBN
+-- whether digits have the length and the check digit of an ISSN if `is_serial` is true, or else of an ISBN
 abbrev pub is_standard_number : Bool → List ℕ → Bool
 is_standard_number is_serial digits = if is_serial then is_issn digits else is_isbn digits
 
--- whether the digits of a text aren't a standard number; a text without digits isn't wrong
+-- whether a text without its hyphens and spaces is neither empty nor a standard number
 abbrev pub is_wrong_number : Bool → List ℕ → Bool
 is_wrong_number is_serial text =
     not (length (digits_of text) == 0) && not (is_standard_number is_serial (digits_of text))
 
--- whether a part is wrong: neither its digits are one number, nor those of each of its words
+-- whether a part and one of its words are neither blank nor a number; a text of only hyphens and spaces is blank
 abbrev pub is_wrong_part : Bool → List ℕ → Bool
 is_wrong_part is_serial part =
     is_wrong_number is_serial part && list_any (is_wrong_number is_serial) (number_words part)
 
--- whether a part contains only digits, `X`, hyphens and spaces
+-- whether a part contains only digits, `X` in either case, hyphens and spaces
 abbrev pub is_numeric : List ℕ → Bool
 is_numeric part = list_all is_digit_or_x (digits_of part)
 
--- whether these parts contain only numbers, and one of them is wrong
+-- whether all of these parts are numeric, and one of them is wrong
 abbrev pub has_wrong_among : Bool → List (List ℕ) → Bool
 has_wrong_among is_serial parts = list_all is_numeric parts && list_any (is_wrong_part is_serial) parts
 
--- whether a text contains only numbers, and one of them is wrong; a text with other words isn't tested
+-- whether all parts of a text are numeric, and one of them is wrong; a text with other words isn't tested
 abbrev pub has_wrong_number : Bool → List ℕ → Bool
 has_wrong_number is_serial text = has_wrong_among is_serial (number_parts text)
 
@@ -108,11 +108,12 @@ number_finding said is_serial name =
     finding_at (number_code is_serial) (field_place said name)
     (named_message said.key.text (codes "wrong length or check digit in ") name [])
 
--- the finding of the field of this name of an entry, if it contains a wrong number: an ISSN if `is_serial` is true, or else an ISBN
+-- the finding of the field of this name of an entry, if it is one literal that contains a wrong number: an ISSN if `is_serial` is true, or
+-- else an ISBN
 abbrev pub number_finding_of : EntryReading → Bool → List ℕ → List Finding
 number_finding_of said is_serial name =
     if has_wrong_number is_serial (own_literal said name) then number_finding said is_serial name ∷ [] else []
 
--- the findings of the wrong numbers of an entry
+-- the findings of the wrong numbers of an entry, in its fields `isbn` and `issn` if they are one literal
 abbrev pub number_findings : EntryReading → List Finding
 number_findings said = number_finding_of said false (codes "isbn") ++ number_finding_of said true (codes "issn")

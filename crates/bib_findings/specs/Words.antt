@@ -1,5 +1,5 @@
 -- Machinery: words of private contracts.
--- How words are written, one after another.
+-- The words of a text, one after another.
 use Rattle.std.specs.Prelude.{ℕ, Bool, not, ◌&&◌, ◌==◌, List, [], ◌++◌, chars, codes, filter, length, if◌then◌else◌}
 use Rattle.std.specs.List.{take_while}
 use Rattle.bib_findings.specs.Identities.{folded_words, is_between_people, is_brace, spaced_words}

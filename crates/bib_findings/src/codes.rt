@@ -3,12 +3,12 @@
 ghost use Rattle.std.specs.Prelude.{◌≡◌, bytes_eq, find};
 ghost use Rattle.bib_findings.specs.Codes.{all_codes, code_name, code_named, severity_of, severity_name};
 
-/// How severe a finding is.
+/// The severity of a finding.
 #[derive(Debug, Clone, Copy, PartialEq, Eq)]
 pub enum Severity {
     /// Part of the file isn't parsed as written, or a cited entry is missing.
     Error,
-    /// Everything is kept, but something may be wrong.
+    /// Each entry is kept as it is written, but something may be wrong.
     Warning,
     /// Nothing is wrong for BibLaTeX.
     Info,
@@ -27,7 +27,7 @@ impl Severity {
     }
 }
 
-/// What a finding is about.
+/// The code of a finding: the problem that it reports.
 #[derive(Debug, Clone, Copy, PartialEq, Eq)]
 pub enum Code {
     /// The first byte that isn't UTF-8; the whole file was decoded as Windows-1252.
@@ -36,19 +36,19 @@ pub enum Code {
     Syntax,
     /// A field whose value can't be parsed. It is removed.
     UnreadField,
-    /// A name that is neither an abbreviation of the file nor a month. It is parsed as text.
+    /// A name that is neither an abbreviation of the file nor a month (`jan` to `dec`). It is parsed as text.
     UnknownAbbreviation,
     /// An abbreviation whose definition uses itself, directly or through others. Fields that use it are removed.
     CircularAbbreviation,
-    /// An entry whose key belongs to an earlier entry, as its key or in its field `ids`. The later entry is removed.
+    /// An entry whose key belongs to an earlier kept entry, as its key or in its field `ids`. The later entry is removed.
     DuplicateKey,
-    /// An entry that refers to itself, directly or through others. It loses its references.
+    /// An entry that refers to itself by `crossref` or `xdata`, directly or through others. It loses both fields.
     CircularReference,
-    /// A date that an entry would inherit, but that can't be parsed.
+    /// A year, month and day that an entry would inherit, but that can't be parsed as a date.
     UnreadDate,
     /// An entry type that BibLaTeX doesn't know.
     UnknownType,
-    /// A field that the entry's type requires and the entry lacks.
+    /// A field that the entry's type requires, and that the entry lacks or has without a value.
     MissingField,
     /// A field that an entry of this type must not have.
     SuperfluousField,
@@ -58,11 +58,11 @@ pub enum Code {
     NotANumber,
     /// A field that should be a date and can't be parsed as one.
     MalformedDate,
-    /// A field whose name BibLaTeX doesn't know.
+    /// A field whose name neither BibLaTeX nor another program uses.
     UnknownField,
     /// A field that another program writes for itself.
     ForeignField,
-    /// A field whose name an earlier field of the entry has.
+    /// A field whose name an earlier field of the entry has, in any ASCII case.
     RepeatedField,
     /// A field whose value is empty or only white space.
     EmptyField,
@@ -72,23 +72,33 @@ pub enum Code {
     WrongIssn,
     /// A DOI that begins with an address or a scheme.
     DoiAddress,
+    /// A field with a name of a person that Biber or BibTeX can't read as it is meant.
+    MalformedName,
+    /// A printed field with a character that is special to LaTeX and has no backslash before it.
+    SpecialCharacter,
+    /// A date with another year than the field `year` has.
+    TwoYears,
     /// An entry with an empty key.
     EmptyKey,
-    /// A key that an entry refers to and no entry has.
+    /// Text after an entry that reads as a field.
+    StrayField,
+    /// A key that an entry refers to and no kept entry has, as its key or in its field `ids`.
     UnknownReference,
     /// An entry that is likely the same work as an earlier one.
     LikelyDuplicate,
-    /// An entry whose key equals that of an earlier one except for case.
+    /// An entry whose key equals that of an earlier one except for ASCII case.
     KeyCase,
-    /// A key that a document cites and no file has.
+    /// An entry whose `crossref` names an earlier entry.
+    EarlyParent,
+    /// A key that a document cites and no entry of the files has, as its key or in its field `ids`.
     MissingEntry,
     /// An entry that no document cites.
     UnusedEntry,
 }
 
-// The codes in the order of their listing: errors of parsing and of inheriting, then findings about an entry's type and fields, then about
-// references, duplicates and keys, then about documents.
-static CODES: [Code; 27] = [
+// The codes in the order of their listing. First come errors of parsing and of inheriting, then findings about an entry's type, fields and
+// key. Then come those about references, duplicates, the case of keys and the order of entries, and last those about documents.
+static CODES: [Code; 32] = [
     Code::UnreadBytes,
     Code::Syntax,
     Code::UnreadField,
@@ -110,10 +120,15 @@ static CODES: [Code; 27] = [
     Code::WrongIsbn,
     Code::WrongIssn,
     Code::DoiAddress,
+    Code::MalformedName,
+    Code::SpecialCharacter,
+    Code::TwoYears,
     Code::EmptyKey,
+    Code::StrayField,
     Code::UnknownReference,
     Code::LikelyDuplicate,
     Code::KeyCase,
+    Code::EarlyParent,
     Code::MissingEntry,
     Code::UnusedEntry,
 ];
@@ -152,10 +167,15 @@ impl Code {
             Self::WrongIsbn => "wrong-isbn",
             Self::WrongIssn => "wrong-issn",
             Self::DoiAddress => "doi-address",
+            Self::MalformedName => "malformed-name",
+            Self::SpecialCharacter => "special-character",
+            Self::TwoYears => "two-years",
             Self::EmptyKey => "empty-key",
+            Self::StrayField => "stray-field",
             Self::UnknownReference => "unknown-reference",
             Self::LikelyDuplicate => "likely-duplicate",
             Self::KeyCase => "key-case",
+            Self::EarlyParent => "early-parent",
             Self::MissingEntry => "missing-entry",
             Self::UnusedEntry => "unused-entry",
         }
@@ -181,7 +201,9 @@ impl Code {
             | Self::DuplicateKey
             | Self::CircularReference
             | Self::MissingEntry => Severity::Error,
-            Self::NotANumber | Self::ForeignField | Self::EmptyField => Severity::Info,
+            Self::NotANumber | Self::ForeignField | Self::EmptyField | Self::EarlyParent => {
+                Severity::Info
+            }
             Self::UnknownAbbreviation
             | Self::UnreadDate
             | Self::UnknownType
@@ -194,7 +216,11 @@ impl Code {
             | Self::WrongIsbn
             | Self::WrongIssn
             | Self::DoiAddress
+            | Self::MalformedName
+            | Self::SpecialCharacter
+            | Self::TwoYears
             | Self::EmptyKey
+            | Self::StrayField
             | Self::UnknownReference
             | Self::LikelyDuplicate
             | Self::KeyCase
@@ -202,7 +228,7 @@ impl Code {
         }
     }
 
-    /// Returns an explanation of what it means and what to do.
+    /// Returns an explanation: the meaning of the code, and advice.
     pub fn explanation(self) -> &'static str {
         match self {
             Self::UnreadBytes =>
@@ -220,7 +246,7 @@ impl Code {
             Self::CircularReference =>
                 "An entry refers to itself by crossref or xdata, directly or through others. It loses its references. Remove one of them.",
             Self::UnreadDate =>
-                "An entry would inherit a date that can't be parsed. It inherits none. Write the date as YYYY-MM-DD, YYYY-MM or YYYY in the entry that it refers to.",
+                "An entry would inherit a year, month and day that can't be parsed, so it doesn't inherit them. Write the date as YYYY-MM-DD, YYYY-MM or YYYY in the entry that it refers to.",
             Self::UnknownType =>
                 "BibLaTeX doesn't know this entry type. It treats the entry as `misc`. Correct the type. If a known one is nearly the same, the message names it. A type of a style of your own is also unknown; then ignore this code.",
             Self::MissingField =>
@@ -247,14 +273,24 @@ impl Code {
                 "A number in the field isn't an ISSN: its length or its last digit, which checks the others, is wrong. Copy the number again from the journal.",
             Self::DoiAddress =>
                 "The DOI begins with an address or with `doi:`. BibLaTeX puts `https://doi.org/` before the field, so the link is wrong. Keep only the DOI itself, which begins with `10.`.",
+            Self::MalformedName =>
+                "A name in this list of people is empty, has more than two commas, begins or ends with a comma, or contains a semicolon or `et al.`. Biber skips an entry with nothing between two of the words `and` or with more than two commas in a name. Separate names by ` and `, write `and others` at the end, and put the name of an organization in braces.",
+            Self::SpecialCharacter =>
+                "LaTeX reads the character `&`, `%`, `#`, `_` or `^` as a command, and stops or leaves out the rest of the line. Write a backslash before it, `\\textasciicircum{}` for `^`, or put math between dollar signs. Characters in braces, in math and in verbatim fields such as `url` aren't reported.",
+            Self::TwoYears =>
+                "The field `date` begins with another year than the field `year` has. Biber takes the year of `date`, and BibTeX that of `year`. Remove one of the two.",
             Self::EmptyKey =>
                 "The entry has no key, so no document can cite it. Biber skips it. Write a key and a comma after the opening brace.",
+            Self::StrayField =>
+                "The text after the closing brace of an entry reads as a field. BibTeX and Biber ignore it, so the field is lost. Most often a value before this brace has a closing brace too many.",
             Self::UnknownReference =>
                 "A field refers to a key that no entry of the file has as its key or in its field `ids`. Nothing is inherited from it. Correct the key, or add the entry.",
             Self::LikelyDuplicate =>
                 "An earlier entry has the same DOI, the same ISBN of a whole book, or the same title, first person and year, and no volume, number, pages, chapter, part, edition or subtitle differs. Keep one of the two, and name the key of the other in its field `ids`.",
             Self::KeyCase =>
                 "The key equals the key of an earlier entry except for case. BibTeX reports a repeated entry and skips this one. Biber keeps both and warns of a typing error. Give one of them another key.",
+            Self::EarlyParent =>
+                "The field `crossref` names an entry that comes earlier in the file. If the document doesn't cite this parent itself, BibTeX reports a bad cross reference, and the entry inherits nothing. Biber inherits as usual. `fmt --sort` puts children before their parents.",
             Self::MissingEntry =>
                 "A document cites a key that no entry of the files has as its key or in its field `ids`. Correct the key, or add the entry.",
             Self::UnusedEntry =>

@@ -133,7 +133,7 @@ static DATED_TYPES: [&str; 31] = [
     "unpublished",
 ];
 
-// Returns the requirements in the first of these rows with a type, or none.
+// Returns the requirements in the first of these rows with this type, or none.
 fn demands_in(rows: &[Row], entry_type: &str) -> &'static [&'static [&'static str]]
     ensures { demand_texts result.now ≡ demands_in rows.now entry_type.now }
 {
@@ -163,7 +163,8 @@ fn date_demand(entry_type: &str) -> &'static [&'static [&'static str]]
     }
 }
 
-// Returns whether an entry has a value of a field: one in the file that isn't empty, or an inherited one.
+// Returns whether an entry has a value of a field: its last field of this name in the file isn't empty, or it has none there and inherits
+// the field.
 fn has_value(said: &Spanned<RawEntry<'_>>, entry: &Entry, name: &str) -> bool
     ensures { result ≡ spec.has_value (entry_reading_of said.now) entry.now name.now }
 {
@@ -225,7 +226,7 @@ fn push_unmet(
     Ok(())
 }
 
-// Returns the fields that are required of an entry and that it lacks.
+// Returns the fields that findings name for the requirements that an entry doesn't meet.
 fn missing_fields(
     alloc: Global,
     said: &Spanned<RawEntry<'_>>,

@@ -43,7 +43,7 @@ fn first_alike(
 }
 
 // Returns the index of the first entry with this identity that no field tells apart from `one`. `seen` has the indices of the first
-// entries with each identity.
+// `MOST_COMPARED` entries with each identity; only these are compared.
 fn alike_by(
     alloc: Global,
     seen: &BTreeMap<String, Vec<usize>>,
@@ -62,8 +62,8 @@ fn alike_by(
     }
 }
 
-// Returns the index of the earlier entry that is likely the same work as `one`. `seen` has the indices of the first entries with each
-// identity.
+// Returns the index of the earlier entry that is likely the same work as `one`, by the first of `identities` for which there is one.
+// `seen` has the indices of the first `MOST_COMPARED` entries with each identity.
 fn same_work(
     alloc: Global,
     seen: &BTreeMap<String, Vec<usize>>,
@@ -108,7 +108,7 @@ fn store(
     Ok(())
 }
 
-// Adds the index of an entry to those of each of its identities, except to `MOST_COMPARED` indices.
+// Adds the index of an entry to those of each of its identities that doesn't have `MOST_COMPARED` indices yet.
 fn remember(
     seen: &mut BTreeMap<String, Vec<usize>>,
     identities: Vec<String>,
@@ -148,7 +148,7 @@ fn duplicate_finding(
     })
 }
 
-// Appends a finding if `one` is likely the same work as the entry at an index.
+// Appends the finding that `one` is likely the same work as the entry at the index `first`, if there is an index.
 fn add_same(
     alloc: Global,
     found: &mut Vec<Finding>,
@@ -167,7 +167,7 @@ fn add_same(
 }
 
 // Appends a finding if the entry at `index` is likely the same work as an earlier one, and stores its identities. `seen` has the
-// indices of the first earlier entries with each identity.
+// indices of the first `MOST_COMPARED` earlier entries with each identity.
 fn add_duplicate(
     alloc: Global,
     found: &mut Vec<Finding>,

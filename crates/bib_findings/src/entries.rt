@@ -24,7 +24,7 @@ use bib_text::spanned::Spanned;
 use bib_text::text::Text;
 use std::alloc::{AllocError, Global};
 
-// Returns the message about a field of the entry with this key: the key, what is wrong, and the field's name.
+// Returns the message about a field of the entry with this key: the key, the problem, and the field's name.
 fn field_message(alloc: Global, key: &str, wrong: &str, name: &str) -> Result<String, AllocError>
     ensures { IfOk result (λ text. string_bytes text ≡ field_message key.now wrong.now name.now) }
 {
@@ -32,7 +32,7 @@ fn field_message(alloc: Global, key: &str, wrong: &str, name: &str) -> Result<St
     format!(in alloc; "{entry}: {wrong} {name}")
 }
 
-// Returns the finding of a field of an entry, with `wrong`, the word for what is wrong.
+// Returns the finding of a field of an entry. `wrong` is the word for the problem.
 pub(crate) fn field_finding(
     alloc: Global,
     said: &Spanned<RawEntry<'_>>,
@@ -51,7 +51,7 @@ pub(crate) fn field_finding(
     })
 }
 
-// Returns the word for what is wrong with a required field of which the entry has no value.
+// Returns the word for the problem of a required field of which the entry has no value.
 fn lacking_word(said: &Spanned<RawEntry<'_>>, name: &str) -> &'static str
     ensures { result.now ≡ lacking_word (entry_reading_of said.now) name.now }
 {
@@ -100,7 +100,7 @@ fn malformed_code(name: &str) -> Code
     }
 }
 
-// Returns whether an error is reported: not that of the gender `pp`, which BibLaTeX knows.
+// Returns whether the error of this field is reported: each error except that of the gender `pp`, which BibLaTeX knows.
 fn is_reported(said: &Spanned<RawEntry<'_>>, name: &str) -> bool
     ensures { result ≡ is_reported_field (entry_reading_of said.now) name.now }
 {

@@ -1,4 +1,4 @@
-//! How messages name an entry.
+//! The name of an entry in messages.
 
 ghost use Rattle.std.specs.Prelude.{◌≡◌};
 ghost use Rattle.bib_findings.specs.EntryNames as spec;

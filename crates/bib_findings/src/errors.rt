@@ -74,14 +74,14 @@ fn error_finding(alloc: Global, error: &ParseError) -> Result<Finding, AllocErro
     })
 }
 
-// Returns whether a block has no end.
+// Returns whether a block has no end: its error begins at the end of the skipped text, or after it.
 fn is_endless(block: &SkippedBlock) -> bool
     ensures { result ≡ spec.is_endless block.now }
 {
     !(block.error.span.start < block.span.end)
 }
 
-// Returns whether a field after the complete ones of a skipped block never ends.
+// Returns whether a skipped block ends within a field after its complete ones.
 fn is_unclosed(block: &SkippedBlock, entry: &Spanned<RawEntry<'_>>) -> bool
     ensures { result ≡ spec.is_unclosed block.now (entry_reading_of entry.now) }
 {

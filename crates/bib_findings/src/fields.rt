@@ -1,4 +1,4 @@
-//! Findings of fields that are repeated or empty, of empty keys, and of DOIs with an address.
+//! Findings of fields that are repeated or empty, of empty keys, and of DOIs with an address or a scheme.
 
 ghost use Rattle.std.specs.Prelude.{◌≡◌, ◌++◌, [], ◌∷◌, codes, if◌then◌else◌, map, IfOk, OnOk};
 ghost use Rattle.std.specs.List.{flat_map, list_all};
@@ -135,7 +135,7 @@ fn add_if_empty(
     Ok(())
 }
 
-// Appends a finding for each of these fields of the entry with this key whose value is empty, except of the missing fields.
+// Appends a finding for each of `fields` whose value is empty, except those in `missing`. `key` is the key of the entry.
 fn add_empty_among(
     alloc: Global,
     found: &mut Vec<Finding>,
@@ -152,7 +152,7 @@ fn add_empty_among(
     Ok(())
 }
 
-/// Appends a finding for each field of an entry whose value is empty, except of those that are reported as missing.
+/// Appends a finding for each field of an entry whose value is empty, except those that are reported as missing.
 pub(crate) fn add_empty(
     alloc: Global,
     found: &mut Vec<Finding>,
@@ -188,7 +188,7 @@ pub(crate) fn add_empty_key(
 // The ways in which a DOI with an address or a scheme begins.
 static ADDRESS_STARTS: [&str; 3] = ["http://", "https://", "doi:"];
 
-/// Appends a finding if the DOI of an entry begins with an address or a scheme.
+/// Appends a finding if the DOI of an entry is one literal that begins with an address or a scheme, in any ASCII case.
 pub(crate) fn add_address(
     alloc: Global,
     found: &mut Vec<Finding>,

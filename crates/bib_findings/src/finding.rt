@@ -7,10 +7,10 @@ use bib_text::text::Text;
 /// An error or a likely mistake in a file.
 #[derive(Debug, Clone, PartialEq, Eq, Drop)]
 pub struct Finding {
-    /// What it is about.
+    /// The code of the problem.
     pub code: Code,
-    /// Its place, in bytes of the file.
+    /// Its place, in bytes of the text with the finding. For `UnreadBytes`, in bytes of the file.
     pub span: Span,
-    /// What is wrong, in one line.
+    /// The message. It is one line, unless it quotes a citation or a key of a reference field that contains a line break.
     pub message: Text,
 }

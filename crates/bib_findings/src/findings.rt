@@ -6,7 +6,7 @@ ghost use Rattle.bib_tables.specs.Requirements.{texts};
 ghost use Rattle.bib_syntax.specs.Views.{entry_reading_of};
 ghost use Rattle.bib_findings.specs.Adding.{Adds};
 ghost use Rattle.bib_findings.specs.Entries.{AreOfEach};
-ghost use Rattle.bib_findings.specs.Findings.{AreBetween, AreFindings, AreFindingsIn, AreOfEntry, AreOfKept, AreSortedByPlace, entries_said, single_findings};
+ghost use Rattle.bib_findings.specs.Findings.{AreBetween, AreFindings, AreFindingsIn, AreOfEntry, AreOfKept, AreSortedByPlace, entries_said, own_findings, single_findings, text_findings};
 ghost use Rattle.bib_findings.specs.Met.{AreFieldNames};
 
 use crate::cuts::{block_starts, whole_origins};
@@ -21,9 +21,14 @@ use crate::key_cases::add_cases;
 use crate::lacking::may_lack;
 use crate::malformed_dates::add_dates;
 use crate::names::{FieldName, add_unknown_fields};
+use crate::parent_order::add_early;
+use crate::people::add_names;
 use crate::references::add_references;
+use crate::special_characters::add_specials;
 use crate::standard_numbers::add_numbers;
+use crate::stray::add_strays;
 use crate::types::add_unknown_type;
+use crate::years::add_years;
 use bib_collections::names::Names;
 use bib_entry::entry::Entry;
 use bib_file_entries::keeping::{KeptEntries, keep};
@@ -33,8 +38,41 @@ use bib_text::spanned::Spanned;
 use std::alloc::{AllocError, Global};
 use std::collections::BTreeMap;
 
-// Appends the findings of an empty key and of single fields of an entry with these missing fields: repeated and empty ones, wrong numbers,
-// DOIs with an address, and dates that aren't one.
+// Appends the findings of an empty key, repeated and empty fields, wrong numbers, a DOI with an address or a scheme, and malformed dates.
+// `missing` has the missing fields of the entry.
+fn add_own(
+    alloc: Global,
+    found: &mut Vec<Finding>,
+    missing: &[&'static str],
+    said: &Spanned<RawEntry<'_>>,
+    entry: &Entry,
+) -> Result<(), AllocError>
+    ensures { OnOk result (found.new.items ≡ found.old.items ++
+        own_findings (texts missing.now) (entry_reading_of said.now) entry.now) }
+{
+    add_empty_key(alloc, found, said)?;
+    add_repeated(alloc, found, said)?;
+    add_empty(alloc, found, missing, said)?;
+    add_numbers(alloc, found, said)?;
+    add_address(alloc, found, said)?;
+    add_dates(alloc, found, said, entry)
+}
+
+// Appends the findings of two different years, malformed names and special characters of an entry.
+fn add_texts(
+    alloc: Global,
+    found: &mut Vec<Finding>,
+    said: &Spanned<RawEntry<'_>>,
+    entry: &Entry,
+) -> Result<(), AllocError>
+    ensures { OnOk result (found.new.items ≡ found.old.items ++ text_findings (entry_reading_of said.now) entry.now) }
+{
+    add_years(alloc, found, said, entry)?;
+    add_names(alloc, found, said)?;
+    add_specials(alloc, found, said)
+}
+
+// Appends the findings of a key and of single fields of an entry with these missing fields.
 fn add_single(
     alloc: Global,
     found: &mut Vec<Finding>,
@@ -45,12 +83,8 @@ fn add_single(
     ensures { OnOk result (found.new.items ≡ found.old.items ++
         single_findings (texts missing.now) (entry_reading_of said.now) entry.now) }
 {
-    add_empty_key(alloc, found, said)?;
-    add_repeated(alloc, found, said)?;
-    add_empty(alloc, found, missing, said)?;
-    add_numbers(alloc, found, said)?;
-    add_address(alloc, found, said)?;
-    add_dates(alloc, found, said, entry)
+    add_own(alloc, found, missing, said, entry)?;
+    add_texts(alloc, found, said, entry)
 }
 
 // Appends the findings of an entry, with its raw form `said` and these missing fields. `met` caches the field names.
@@ -101,13 +135,15 @@ fn add_entries(
     Ok(())
 }
 
-/// Returns the findings between entries, with only the fields that each entry has itself. They are keys that an entry
-/// refers to and no entry has, entries that are likely the same work as an earlier one, keys that differ only in case, and fields
-/// that other programs write for themselves. `origins` contains the index of each entry in `said`, the raw entries of the
-/// file, and `skipped` its skipped blocks. An entry that begins where a skipped block begins is no likely duplicate. Fails
-/// only if out of memory.
+/// Returns the findings between entries, with only the fields that each entry has itself. They are, in this order: keys that an
+/// entry refers to and no kept entry has; entries that are likely the same work as an earlier one; text after an entry that reads
+/// as a field; keys that differ only in ASCII case; parents that come before their children; fields that other programs write.
+/// `text` is the text of the file, and `skipped` contains its skipped blocks. `origins` contains the index of each entry in `said`,
+/// the raw entries of the file. An entry that begins where a skipped block begins is no likely duplicate, and the text after it isn't
+/// tested. Fails only if out of memory.
 pub fn between(
     alloc: Global,
+    text: &str,
     skipped: &[SkippedBlock],
     said: &[Spanned<RawEntry<'_>>],
     origins: &[usize],
@@ -116,18 +152,21 @@ pub fn between(
 ) -> Result<Vec<Finding>, AllocError>
     requires same_length { length origins.now ≡ length own.now }
     requires there { All (λ index. index < length said.now) origins.now }
-    ensures { IfOk result (λ found. AreBetween skipped.now names.now (entries_said said.now) origins.now own.now found.items) }
+    ensures { IfOk result (λ found. AreBetween text.now skipped.now names.now (entries_said said.now) origins.now own.now
+        found.items) }
 {
     let mut found = Vec::new(alloc);
     add_references(alloc, &mut found, names, said, origins, own)?;
     let whole = whole_origins(alloc, skipped, said, origins)?;
     add_duplicates(alloc, &mut found, said, &whole)?;
+    add_strays(alloc, &mut found, text, said, &whole)?;
     add_cases(alloc, &mut found, said, origins)?;
+    add_early(alloc, &mut found, said, origins)?;
     add_foreign_fields(alloc, &mut found, said, origins)?;
     Ok(found)
 }
 
-// Sorts findings by where they start.
+// Sorts findings by their starts. Findings with the same start keep their order.
 fn sorted_by_place(found: Vec<Finding>) -> Result<Vec<Finding>, AllocError>
     ensures { IfOk result (λ sorted. AreSortedByPlace found.items sorted.items) }
 {
@@ -136,7 +175,7 @@ fn sorted_by_place(found: Vec<Finding>) -> Result<Vec<Finding>, AllocError>
     Ok(found)
 }
 
-/// Returns all findings of a recovered file, sorted by where they start. `skipped` contains its skipped blocks,
+/// Returns all findings of a recovered file, sorted by their starts. `skipped` contains its skipped blocks,
 /// `errors` the errors, `entries` the kept entries, and `between` the findings between them. `names` points to the kept
 /// entries, and `origins` contains the index of each in `said`, the raw entries of the file. Fails only if out of memory.
 pub fn findings_in(
@@ -163,7 +202,7 @@ pub fn findings_in(
     sorted_by_place(found)
 }
 
-/// Returns all findings of the text of a bibliography file, sorted by where they start. Recovers the text as
+/// Returns all findings of the text of a bibliography file, sorted by their starts. Recovers the text as
 /// `Bibliography::recover` does, so the complete fields of an entry with a syntax error have findings too. Spans are in bytes of
 /// the text. The codes `UnreadBytes`, `MissingEntry` and `UnusedEntry` don't occur, because they are about the bytes of the file
 /// or about documents. Fails only if out of memory.
@@ -179,7 +218,7 @@ pub fn findings(alloc: Global, text: &str) -> Result<Vec<Finding>, AllocError>
         mut errors,
     } = keep(alloc, &raw)?;
     let said = &raw.entries;
-    let linked = between(alloc, &skipped, said, &origins, &names, &entries)?;
+    let linked = between(alloc, text, &skipped, said, &origins, &names, &entries)?;
     let mut unresolved = resolve_readable(alloc, &spans, &names, &mut entries)?;
     errors.append(&mut unresolved)?;
     findings_in(

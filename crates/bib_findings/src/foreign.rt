@@ -120,7 +120,7 @@ struct Counted<'f, 's> {
     count: usize,
 }
 
-// Sets the count at an index. The count is appended and takes the place of the one at the index: what `counted[index] = one` writes isn't
+// Sets the count at an index: appends the count, and moves it to the index. For the proof: the effect of `counted[index] = one` isn't
 // known, because a count contains references.
 fn put<'f, 's>(
     counted: &mut Vec<Counted<'f, 's>>,
@@ -135,8 +135,8 @@ fn put<'f, 's>(
     Ok(())
 }
 
-// Counts a field: adds 1 to the count of its name, or appends a count for its name. `indices` has the index of the count for each name in
-// lowercase.
+// Counts a field: adds 1 to the count of its name, or appends a count for its name. `indices` has the index of the count for each name
+// in ASCII lowercase.
 fn count_field<'f, 's>(
     alloc: Global,
     counted: &mut Vec<Counted<'f, 's>>,
@@ -166,7 +166,7 @@ fn count_field<'f, 's>(
     Ok(())
 }
 
-// Returns the word after a number of times.
+// Returns ` time` for the number 1, and ` times` for any other number.
 fn times(count: usize) -> &'static str
     ensures { result.now ≡ if count == 1 then codes " time" else codes " times" }
 {

@@ -1,4 +1,4 @@
-//! What makes entries likely the same work: a DOI, an ISBN, or a title with its first person and its year. And what tells them apart.
+//! The identities of entries: a DOI, an ISBN, or a title with its first person and its year. Also the fields that tell entries apart.
 
 ghost use Rattle.std.specs.Prelude.{◌≡◌, ◌++◌, map, IfOk, OnOk, [], encode_utf8_all};
 ghost use Rattle.std.specs.List.{list_any};
@@ -25,7 +25,7 @@ static DOI_PREFIXES: [&str; 5] = [
 
 // Returns the text of a value that is one literal (in braces, in quotes, or a number); for any other value, the empty
 // text.
-fn literal_text<'s>(pieces: &[Spanned<RawChunk<'s>>]) -> &'s str
+pub(crate) fn literal_text<'s>(pieces: &[Spanned<RawChunk<'s>>]) -> &'s str
     ensures { result.now ≡ literal_text (map piece_of pieces.now) }
 {
     match pieces {
@@ -37,7 +37,7 @@ fn literal_text<'s>(pieces: &[Spanned<RawChunk<'s>>]) -> &'s str
     }
 }
 
-// Returns the text of the last field of this name of an entry, or the empty text.
+// Returns the text of the last field of this name of an entry, if its value is one literal, and otherwise the empty text.
 pub(crate) fn own_literal<'s>(said: &Spanned<RawEntry<'s>>, name: &str) -> &'s str
     ensures { result.now ≡ own_literal (entry_reading_of said.now) name.now }
 {
@@ -109,7 +109,7 @@ fn words(alloc: Global, lowercase: &str, is_first: bool) -> Result<String, Alloc
 }
 
 // Returns the words of a text in lowercase and without braces, each followed by a space.
-fn plain_words(alloc: Global, text: &str) -> Result<String, AllocError>
+pub(crate) fn plain_words(alloc: Global, text: &str) -> Result<String, AllocError>
     ensures { IfOk result (λ plain. string_bytes plain ≡ plain_words text.now) }
 {
     let lowercase = text.to_lowercase(alloc)?;
@@ -152,8 +152,8 @@ fn without_prefixes<'t>(text: &'t str, prefixes: &[&'static str]) -> &'t str
     text
 }
 
-/// Returns the DOI of an entry in lowercase, without braces, white space and the link before it; the empty text if the entry
-/// has none.
+/// Returns the DOI of an entry in lowercase, without braces, white space and a link or a scheme before it; the empty text if the
+/// entry has none as one literal.
 pub(crate) fn doi(alloc: Global, said: &Spanned<RawEntry<'_>>) -> Result<String, AllocError>
     ensures { IfOk result (λ text. string_bytes text ≡ doi_of (entry_reading_of said.now)) }
 {
@@ -190,8 +190,8 @@ fn unhyphened(alloc: Global, text: &str) -> Result<String, AllocError>
     text.as_str().chars().filter(|c| *c != '-').collect(alloc)
 }
 
-/// Returns the ISBN of a whole book in lowercase, without hyphens, braces and white space. The text is empty if the entry has no ISBN, or
-/// isn't a whole book.
+/// Returns the ISBN of a whole book in lowercase, without hyphens, braces and white space. The text is empty if the entry has no ISBN as
+/// one literal, or isn't a whole book.
 pub(crate) fn isbn(alloc: Global, said: &Spanned<RawEntry<'_>>) -> Result<String, AllocError>
     ensures { IfOk result (λ text. string_bytes text ≡ isbn_of (entry_reading_of said.now)) }
 {
@@ -206,7 +206,7 @@ static TELLING_FIELDS: [&str; 7] = [
     "volume", "number", "pages", "chapter", "part", "edition", "subtitle",
 ];
 
-// Returns whether two texts aren't empty, and differ in more than case, hyphens, braces and white space.
+// Compares two texts in lowercase and without hyphens, braces and white space. Returns whether neither is empty then, and they differ.
 fn are_different(alloc: Global, text: &str, other: &str) -> Result<bool, AllocError>
     ensures { IfOk result (λ differ. differ ≡ are_different (unhyphened text.now) (unhyphened other.now)) }
 {
@@ -215,8 +215,7 @@ fn are_different(alloc: Global, text: &str, other: &str) -> Result<bool, AllocEr
     Ok(!text.is_empty() && !other.is_empty() && text.as_str() != other.as_str())
 }
 
-// Returns whether two entries have a field with one of these names, with texts that differ in more than case, hyphens, braces and white
-// space.
+// Returns whether the texts of two entries in the field of one of these names are different, as `are_different` compares them.
 fn differ_in(
     alloc: Global,
     said: &Spanned<RawEntry<'_>>,
@@ -246,7 +245,8 @@ pub(crate) fn are_told_apart(
 }
 
 /// Returns the year of an entry: its field `year`, or else the first four characters of its date. The words are in
-/// lowercase and without braces, each followed by a space. The text is empty if the entry has no year.
+/// lowercase and without braces, each followed by a space. A field that isn't one literal counts as missing. The text is empty if the
+/// entry has no year.
 pub fn year(alloc: Global, said: &Spanned<RawEntry<'_>>) -> Result<String, AllocError>
     ensures { IfOk result (λ text. string_bytes text ≡ year_of (entry_reading_of said.now)) }
 {
@@ -264,7 +264,8 @@ fn work_text(alloc: Global, title: &str, person: &str, year: &str) -> Result<Str
     format!(in alloc; "{title}{{{person}{{{year}")
 }
 
-/// Returns the words of the title of an entry in lowercase and without braces, each followed by a space.
+/// Returns the words of the title of an entry in lowercase and without braces, each followed by a space. A title that isn't one literal
+/// counts as missing.
 pub(crate) fn title(alloc: Global, said: &Spanned<RawEntry<'_>>) -> Result<String, AllocError>
     ensures { IfOk result (λ text. string_bytes text ≡ title_of (entry_reading_of said.now)) }
 {
@@ -272,7 +273,7 @@ pub(crate) fn title(alloc: Global, said: &Spanned<RawEntry<'_>>) -> Result<Strin
 }
 
 /// Returns the first author of an entry, or else its first editor. The words are in lowercase and without braces, each
-/// followed by a space. The text is empty if the entry has neither.
+/// followed by a space. A field that isn't one literal counts as missing. The text is empty if the entry has neither.
 pub fn person(alloc: Global, said: &Spanned<RawEntry<'_>>) -> Result<String, AllocError>
     ensures { IfOk result (λ text. string_bytes text ≡ first_person_of (entry_reading_of said.now)) }
 {
@@ -307,7 +308,7 @@ fn push_identity(
     Ok(())
 }
 
-// Returns the identities of an entry. Two entries that share one are likely the same work.
+// Returns the identities of an entry. Two entries that share one are likely the same work, unless a field tells them apart.
 pub(crate) fn identities(
     alloc: Global,
     said: &Spanned<RawEntry<'_>>,

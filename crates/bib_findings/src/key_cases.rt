@@ -17,7 +17,7 @@ use bib_text::text::Text;
 use std::alloc::{AllocError, Global};
 use std::collections::BTreeMap;
 
-// Returns the finding of an entry whose key differs from `first` only in case.
+// Returns the finding of an entry whose key differs from `first` only in ASCII case.
 fn case_finding(
     alloc: Global,
     said: &Spanned<RawEntry<'_>>,
@@ -34,8 +34,8 @@ fn case_finding(
     })
 }
 
-// Appends a finding if the key of an entry equals an earlier one except for case, and otherwise stores the key. `firsts` has the first
-// key for each key in lowercase.
+// Appends a finding if the key of an entry equals an earlier one except for ASCII case, and otherwise stores the key. `firsts` has the
+// first key for each key in ASCII lowercase.
 fn add_case<'s>(
     alloc: Global,
     found: &mut Vec<Finding>,
@@ -56,8 +56,8 @@ fn add_case<'s>(
     Ok(())
 }
 
-/// Appends a finding for each of these entries whose key equals that of an earlier one except for case. `origins` contains the index of
-/// each in `said`.
+/// Appends a finding for each of these entries whose key equals that of an earlier one except for ASCII case. `origins` contains the
+/// index of each in `said`. No two keys are the same.
 pub(crate) fn add_cases(
     alloc: Global,
     found: &mut Vec<Finding>,

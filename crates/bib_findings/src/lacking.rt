@@ -46,7 +46,7 @@ fn is_cut_at(
     }
 }
 
-// Returns whether a key is that of a cut entry, or is in its field `ids`.
+// Returns whether `names` points from a key to a cut entry.
 fn names_cut(
     starts: &BTreeSet<usize>,
     names: &Names,
@@ -63,7 +63,7 @@ fn names_cut(
     }
 }
 
-// Returns whether one of these keys is that of a cut entry, or is in its field `ids`.
+// Returns whether `names` points from one of these keys to a cut entry.
 fn name_cut(
     starts: &BTreeSet<usize>,
     names: &Names,
@@ -82,7 +82,7 @@ fn name_cut(
     false
 }
 
-// Returns the keys of the entries from which an entry inherits.
+// Returns the keys in the fields `crossref` and `xdata` of an entry.
 fn parent_keys(alloc: Global, entry: &Entry) -> Result<Vec<Text>, AllocError>
     ensures { IfOk result (λ keys. keys.items ≡ parent_keys entry.now) }
 {
@@ -92,8 +92,8 @@ fn parent_keys(alloc: Global, entry: &Entry) -> Result<Vec<Text>, AllocError>
     Ok(keys)
 }
 
-/// Returns whether fields of an entry, with its raw form `one`, may be lost: it is cut, or inherits from an entry that is cut. `starts`
-/// contains the offsets at which skipped blocks begin.
+/// Returns whether fields of an entry, with its raw form `one`, may be lost: it is cut, or its `crossref` or `xdata` names an entry
+/// that is cut. `starts` contains the offsets at which skipped blocks begin.
 pub(crate) fn may_lack(
     alloc: Global,
     starts: &BTreeSet<usize>,

@@ -1,15 +1,17 @@
 //! Finds errors and likely mistakes in a bibliography file, each with a code, a place and a message.
 //!
-//! `findings::findings` recovers a file in the steps of `Bibliography::recover` and reports what each step returns. These are the
-//! skipped blocks, the errors of entries and references, and for each entry an unknown type, the report, the unknown field names
-//! and the findings of single fields. `findings::between` compares entries: it reports keys that no entry has, entries that are
-//! likely the same work, keys that differ only in case, and fields that other programs write for themselves.
-//! `findings::findings_in` sorts all findings by where they start.
+//! `findings::findings` recovers a file in the steps of `Bibliography::recover`. It reports the skipped blocks and the errors of
+//! entries and references. For each entry it reports an unknown type, missing, superfluous and malformed fields, unknown field
+//! names, and the findings of its key and of single fields. `findings::between` reports unknown references, likely duplicates,
+//! text after an entry that reads as a field, keys that differ only in ASCII case, early parents, and fields of other programs.
+//! `findings::findings_in` sorts all findings by their starts.
 //!
-//! `codes` contains the codes and their explanations, `places` finds fields in an entry, `cuts` finds the entries of skipped
-//! blocks, `demands` has the fields that BibLaTeX requires, `nearest` finds the known name that may be meant, and `marks` selects
-//! the entries that may be the same work as another. `errors`, `types`, `entries`, `names`, `fields`, `book_numbers`,
-//! `malformed_dates`, `references`, `duplicates`, `key_cases` and `foreign` make the findings; `duplicates` uses `identities`.
+//! `codes` contains the codes and their explanations. `places` finds fields in an entry, `cuts` finds the entries of skipped
+//! blocks, and `lacking` finds entries that may have lost fields. `demands` has the fields that BibLaTeX requires. `nearest` finds
+//! the known name that may be meant, `marks` selects the entries that may be the same work as another, and `outside` finds the text
+//! outside braces. `errors`, `types`, `entries`, `names`, `fields`, `standard_numbers`, `malformed_dates`, `people`,
+//! `special_characters`, `years`, `stray`, `references`, `duplicates`, `key_cases`, `foreign` and `parent_order` make the findings;
+//! `duplicates` uses `identities`.
 #![tactic(auto)]
 
 pub mod codes;
@@ -30,7 +32,13 @@ mod malformed_dates;
 mod marks;
 mod names;
 mod nearest;
+mod outside;
+mod parent_order;
+mod people;
 mod places;
 mod references;
+mod special_characters;
 mod standard_numbers;
+mod stray;
 mod types;
+mod years;

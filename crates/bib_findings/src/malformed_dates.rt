@@ -41,8 +41,8 @@ fn unsigned(text: &[u8]) -> &[u8]
     }
 }
 
-// Returns whether a mark at the end of a date says that it is uncertain or approximate.
-fn is_mark(b: u8) -> bool
+/// Returns whether a mark at the end of a date says that it is uncertain or approximate.
+pub(crate) fn is_mark(b: u8) -> bool
     ensures { result ≡ (is_uncertain b || is_approximate b) }
 {
     b == b'%' || b == b'?' || b == b'~'
@@ -146,7 +146,7 @@ fn reads_as_date(alloc: Global, text: &str) -> Result<bool, AllocError>
     Ok(!is_unread(alloc, chunks.as_slice())?)
 }
 
-// Returns whether a text is a date and a time to the second, with three decimals and maybe a zone.
+// Returns whether a text is a date and a time to the second, with three decimals, maybe a zone, and maybe a mark at its end.
 fn has_decimals(alloc: Global, side: &str) -> Result<bool, AllocError>
     ensures { IfOk result (λ decimals. decimals ≡ spec.has_decimals side.now) }
 {
@@ -212,8 +212,8 @@ fn is_no_date(alloc: Global, chunks: ChunksRef<'_>) -> Result<bool, AllocError>
     Ok(!is_edtf(alloc, text)?)
 }
 
-// Returns whether a field of an entry isn't a date, and is written in the entry itself.
-fn has_no_date(
+// Returns whether an entry itself has a field, and its value is neither blank nor a date.
+pub(crate) fn has_no_date(
     alloc: Global,
     said: &Spanned<RawEntry<'_>>,
     entry: &Entry,
@@ -230,7 +230,7 @@ fn has_no_date(
     }
 }
 
-// Appends a finding for each of these fields of an entry that isn't a date.
+// Appends a finding for each of these fields of an entry whose value is neither blank nor a date.
 fn add_dates_among(
     alloc: Global,
     found: &mut Vec<Finding>,
@@ -249,7 +249,7 @@ fn add_dates_among(
     Ok(())
 }
 
-/// Appends a finding for each field of an entry that should be a date and isn't one.
+/// Appends a finding for each field of an entry that should be a date, and whose value is neither blank nor a date.
 pub(crate) fn add_dates(
     alloc: Global,
     found: &mut Vec<Finding>,

@@ -265,7 +265,7 @@ fn is_known_field(name: &str) -> bool
 pub(crate) enum FieldName {
     /// BibLaTeX knows this name, or another program uses it.
     Known,
-    /// Any other name, with the known name that may be meant.
+    /// Any other name, with the known name that it may mean, if there is one.
     Unknown(Option<&'static str>),
 }
 
@@ -317,7 +317,7 @@ fn unknown_finding(
     })
 }
 
-// Appends a finding for a field of the entry with this key, if BibLaTeX doesn't know its name.
+// Appends a finding for a field of the entry with this key, if neither BibLaTeX nor another program uses its name.
 fn add_if_unknown(
     alloc: Global,
     found: &mut Vec<Finding>,

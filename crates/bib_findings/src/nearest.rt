@@ -1,4 +1,4 @@
-//! Which known name may be meant by an unknown one.
+//! The known name that an unknown one may mean.
 
 ghost use Rattle.std.specs.Prelude.{◌≡◌, IfOk, option_copied};
 ghost use Rattle.std.specs.String.{string_bytes};
@@ -48,7 +48,7 @@ fn are_of_like_length(most: usize, name: &str, known: &str) -> bool
     name.len().saturating_sub(known.len()) <= most && known.len().saturating_sub(name.len()) <= most
 }
 
-// Returns whether a name is a known one with other characters before or after it, and isn't its plural.
+// Returns whether a name is a known one, maybe with other characters before or after it, and isn't its plural.
 fn is_extension(name: &str, known: &str) -> bool
     ensures { result ≡ spec.is_extension name.now known.now }
 {

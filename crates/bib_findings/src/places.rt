@@ -42,7 +42,7 @@ pub(crate) fn field_place(said: &Spanned<RawEntry<'_>>, name: &str) -> Span
     place_or(said, name, said.v.key.span.start..said.v.key.span.end)
 }
 
-// Returns the field that contains the year of this date, if the date is given by its parts; any other name is
+// Returns the field that contains the year of this date, if the date is in separate fields; any other name is
 // unchanged.
 fn year_name(name: &str) -> &str
     ensures { result.now ≡ year_name name.now }
@@ -56,7 +56,7 @@ fn year_name(name: &str) -> &str
     }
 }
 
-/// Returns the place of a malformed field: its name, or its year if a date is given by its parts, or else the entry's
+/// Returns the place of a malformed field: its name, or the year if it is a date in separate fields, or else the entry's
 /// key.
 pub(crate) fn malformed_place(said: &Spanned<RawEntry<'_>>, name: &str) -> Span
     ensures { result ≡ malformed_place (entry_reading_of said.now) name.now }

@@ -1,4 +1,4 @@
-//! Findings of keys that entries refer to and no entry has.
+//! Findings of keys that entries refer to and no kept entry has.
 
 ghost use Rattle.std.specs.Prelude.{◌≡◌, ◌++◌, ◌<◌, All, length, map, IfOk, OnOk, filter};
 ghost use Rattle.std.specs.List.{flat_map};
@@ -51,14 +51,14 @@ pub(crate) fn keys_in(alloc: Global, entry: &Entry, field: &str) -> Result<Vec<T
     }
 }
 
-// Returns whether a key isn't empty, and no entry has it as its key or in its field `ids`.
+// Returns whether a key isn't empty, and no kept entry has it as its key or in its field `ids`.
 fn is_unknown(names: &Names, key: &str) -> bool
     ensures { result ≡ is_unknown names.now key.now }
 {
     !key.is_empty() && names.get(key).is_none()
 }
 
-// Returns the message for `named`, a key that no entry has and that a field of the entry with the key `key` refers to.
+// Returns the message for `named`, a key that no kept entry has and that a field of the entry with the key `key` refers to.
 fn reference_message(
     alloc: Global,
     key: &str,
@@ -71,7 +71,7 @@ fn reference_message(
     format!(in alloc; "{entry}: no entry \"{named}\" ({field})")
 }
 
-// Returns the finding of a key that a field refers to and no entry has.
+// Returns the finding of a key that a field refers to and no kept entry has.
 fn reference_finding(
     alloc: Global,
     said: &Spanned<RawEntry<'_>>,
@@ -89,7 +89,7 @@ fn reference_finding(
     })
 }
 
-// Appends a finding for each of these keys of a field that no entry has.
+// Appends a finding for each of these keys of a field that isn't empty and that no kept entry has.
 fn add_unknown(
     alloc: Global,
     found: &mut Vec<Finding>,
@@ -109,7 +109,7 @@ fn add_unknown(
     Ok(())
 }
 
-// Appends a finding for each key that this field of an entry refers to and no entry has.
+// Appends a finding for each key that this field of an entry refers to and no kept entry has.
 fn add_field_references(
     alloc: Global,
     found: &mut Vec<Finding>,
@@ -125,7 +125,7 @@ fn add_field_references(
     add_unknown(alloc, found, names, said, field, &keys)
 }
 
-// Appends a finding for each key that these fields of an entry refer to and no entry has.
+// Appends a finding for each key that these fields of an entry refer to and no kept entry has.
 fn add_entry_references(
     alloc: Global,
     found: &mut Vec<Finding>,
@@ -143,7 +143,7 @@ fn add_entry_references(
     Ok(())
 }
 
-// Appends a finding for each key that an entry refers to and no entry has. `own` contains the entries with only the
+// Appends a finding for each key that an entry refers to and no kept entry has. `own` contains the entries with only the
 // fields that each has itself, and `origins` the index of each in `said`.
 pub(crate) fn add_references(
     alloc: Global,

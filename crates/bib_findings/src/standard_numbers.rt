@@ -127,7 +127,7 @@ fn is_check_right_by_10(digits: &[u8]) -> bool
     are_digits(digits) && alternating_sum(digits) % 10 == 0
 }
 
-// Returns whether digits are an ISBN.
+// Returns whether digits have the length and the check digit of an ISBN.
 fn is_isbn(digits: &[u8]) -> bool
     ensures { result ≡ spec.is_isbn digits.now }
 {
@@ -135,14 +135,14 @@ fn is_isbn(digits: &[u8]) -> bool
         || (digits.len() == 13 && is_check_right_by_10(digits))
 }
 
-// Returns whether digits are an ISSN.
+// Returns whether digits have the length and the check digit of an ISSN.
 fn is_issn(digits: &[u8]) -> bool
     ensures { result ≡ spec.is_issn digits.now }
 {
     digits.len() == 8 && is_check_right_by_11(digits)
 }
 
-// Returns whether digits are a standard number: an ISSN if `is_serial` is true, or else an ISBN.
+// Returns whether digits have the length and the check digit of an ISSN if `is_serial` is true, or else of an ISBN.
 fn is_standard_number(is_serial: bool, digits: &[u8]) -> bool
     ensures { result ≡ spec.is_standard_number is_serial digits.now }
 {
@@ -153,7 +153,7 @@ fn is_standard_number(is_serial: bool, digits: &[u8]) -> bool
     }
 }
 
-// Returns the digits of a number, without hyphens and spaces.
+// Returns the bytes of a text without hyphens and spaces: the digits of a number.
 fn digits_of(alloc: Global, part: &[u8]) -> Result<Vec<u8>, AllocError>
     ensures { IfOk result (λ digits. digits.items ≡ spec.digits_of part.now) }
 {
@@ -163,7 +163,7 @@ fn digits_of(alloc: Global, part: &[u8]) -> Result<Vec<u8>, AllocError>
         .collect(alloc)
 }
 
-// Returns whether the digits of a text aren't a standard number; a text without digits isn't wrong.
+// Returns whether a text without its hyphens and spaces is neither empty nor a standard number.
 fn is_wrong_number(alloc: Global, is_serial: bool, text: &[u8]) -> Result<bool, AllocError>
     ensures { IfOk result (λ wrong. wrong ≡ spec.is_wrong_number is_serial text.now) }
 {
@@ -178,14 +178,14 @@ fn is_word_separator(b: u8) -> bool
     b == b' '
 }
 
-// Returns the words of a part, which spaces separate.
+// Returns the words of a part between spaces. A word may be empty.
 fn number_words(alloc: Global, part: &[u8]) -> Result<Vec<&[u8]>, AllocError>
     ensures { IfOk result (λ words. map (λ word. word.now) words.items ≡ spec.number_words part.now) }
 {
     part.split(|b| is_word_separator(*b)).collect(alloc)
 }
 
-// Returns whether the digits of one of these words aren't a standard number.
+// Returns whether one of these words is wrong: without its hyphens, it is neither empty nor a standard number.
 fn has_wrong_word(alloc: Global, is_serial: bool, words: &[&[u8]]) -> Result<bool, AllocError>
     ensures { IfOk result (λ wrong. wrong ≡ list_any (spec.is_wrong_number is_serial) (map (λ word. word.now) words.now)) }
 {
@@ -197,7 +197,7 @@ fn has_wrong_word(alloc: Global, is_serial: bool, words: &[&[u8]]) -> Result<boo
     Ok(false)
 }
 
-// Returns whether a part is wrong: neither its digits are one number, nor those of each of its words.
+// Returns whether a part and one of its words are neither blank nor a number. A text of only hyphens and spaces is blank.
 fn is_wrong_part(alloc: Global, is_serial: bool, part: &[u8]) -> Result<bool, AllocError>
     ensures { IfOk result (λ wrong. wrong ≡ spec.is_wrong_part is_serial part.now) }
 {
@@ -208,7 +208,7 @@ fn is_wrong_part(alloc: Global, is_serial: bool, part: &[u8]) -> Result<bool, Al
     has_wrong_word(alloc, is_serial, &words)
 }
 
-// Returns whether a part contains only digits, `X`, hyphens and spaces.
+// Returns whether a part contains only digits, `X` in either case, hyphens and spaces.
 fn is_numeric(alloc: Global, part: &[u8]) -> Result<bool, AllocError>
     ensures { IfOk result (λ numeric. numeric ≡ spec.is_numeric part.now) }
 {
@@ -216,7 +216,7 @@ fn is_numeric(alloc: Global, part: &[u8]) -> Result<bool, AllocError>
     Ok(are_digits_or_x(&digits))
 }
 
-// Returns the parts of a text that commas, semicolons and the word `and` separate.
+// Returns the parts of a text between commas, semicolons and the letters `a`, `n` and `d`: the word `and` separates numbers.
 fn number_parts(alloc: Global, text: &str) -> Result<Vec<&[u8]>, AllocError>
     ensures { IfOk result (λ parts. map (λ part. part.now) parts.items ≡ spec.number_parts text.now) }
 {
@@ -225,7 +225,7 @@ fn number_parts(alloc: Global, text: &str) -> Result<Vec<&[u8]>, AllocError>
         .collect(alloc)
 }
 
-// Returns whether these parts contain only numbers, and one of them is wrong.
+// Returns whether all of these parts are numeric, and one of them is wrong.
 fn has_wrong_among(alloc: Global, is_serial: bool, parts: &[&[u8]]) -> Result<bool, AllocError>
     ensures { IfOk result (λ wrong. wrong ≡ spec.has_wrong_among is_serial (map (λ part. part.now) parts.now)) }
 {
@@ -240,7 +240,7 @@ fn has_wrong_among(alloc: Global, is_serial: bool, parts: &[&[u8]]) -> Result<bo
     Ok(are_numeric && has_wrong)
 }
 
-// Returns whether a text contains only numbers, and one of them is wrong: an ISSN if `is_serial` is true, or else an ISBN.
+// Returns whether all parts of a text are numeric, and one of them is wrong as an ISSN if `is_serial` is true, or else as an ISBN.
 fn has_wrong_number(alloc: Global, is_serial: bool, text: &str) -> Result<bool, AllocError>
     ensures { IfOk result (λ wrong. wrong ≡ spec.has_wrong_number is_serial text.now) }
 {
@@ -277,7 +277,8 @@ fn number_finding(
     })
 }
 
-// Appends a finding if the field of this name of an entry contains a wrong number: an ISSN if `is_serial` is true, or else an ISBN.
+// Appends a finding if the field of this name of an entry is one literal that contains a wrong number: an ISSN if `is_serial` is true, or
+// else an ISBN.
 fn add_number(
     alloc: Global,
     found: &mut Vec<Finding>,
@@ -293,7 +294,7 @@ fn add_number(
     Ok(())
 }
 
-/// Appends findings of the wrong numbers of an entry.
+/// Appends findings of the wrong numbers of an entry, in its fields `isbn` and `issn` if they are one literal.
 pub(crate) fn add_numbers(
     alloc: Global,
     found: &mut Vec<Finding>,

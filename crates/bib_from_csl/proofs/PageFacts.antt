@@ -7,13 +7,14 @@ use Rattle.std.specs.Char.{is_ascii_digit, is_whitespace}
 use Rattle.std.specs.Fmt.{decimal}
 use Rattle.std.specs.Str.{chars, NonePass, trim_start, trim_end, skip_leading_whitespace, drop_trailing_whitespace}
 use Rattle.std.proofs.Math.Utf8.{scalar, scalars}
-use Rattle.std.proofs.lemmas.Bool.{and_from, and_parts, cond-false}
+use Rattle.std.proofs.lemmas.Bool.{and_from, and_parts, cond-false, eqb-true}
 use Rattle.std.proofs.lemmas.Bool.Decides.{nat_tests}
 use Rattle.std.proofs.lemmas.Fmt.{decimal_is_IsNumeral}
 use Rattle.std.proofs.lemmas.List.Folds.{list_all-append}
 use Rattle.std.proofs.lemmas.List.Splits.{slice_split-cons_yes, slice_split-cons_no}
 use Rattle.std.proofs.lemmas.Str.{chars-encodes, encodes-append, encodes-IsAscii}
 use Rattle.bib_text.specs.declared.spanned.Spanned.{Spanned}
+use Rattle.bib_text.proofs.ListFacts.{passed_weaker}
 use Rattle.bib_chunks.specs.declared.chunk.Chunk.{Chunk}
 use Rattle.bib_chunks.specs.declared.chunk.Chunk.TheVariants.{Normal}
 use Rattle.bib_chunks.specs.Cuts.{between_commas, chunk_part, comma_list, further, joined_parts, piece, pieces_between, with_span, trimmed_end}
@@ -58,12 +59,6 @@ digit_no_dash c is = grind (arith, nat_tests)
 digit_simple : (c : ℕ) → is_ascii_digit c ≡ true → is_simple c ≡ true
 digit_simple c is = grind (arith, nat_tests)
 
-weaker : (p q : ℕ → Bool) → ((c : ℕ) → p c ≡ true → q c ≡ true) → (cs : List ℕ) → list_all p cs ≡ true → list_all q cs ≡ true
-weaker p q each [] all = refl
-weaker p q each (c ∷ cs) all =
-    let parts = and_parts (p c) (list_all p cs) all in
-    and_from _ _ (each c parts.0) (weaker p q each cs parts.1)
-
 number_decimal : (n : ℕ) → n < 2 ^ 32 → IsNumber (decimal n) n
 number_decimal n small =
     let spelt = decimal_is_IsNumeral n (omega arith) in
@@ -76,9 +71,6 @@ page_chars_if same r = cond same (decimal r.start) (decimal r.start ++ 8211 ∷ 
 abbrev page_chars : Range ℕ → List ℕ
 page_chars r = page_chars_if (r.start == r.end) r
 
-same_end : (a b : ℕ) → (a == b) ≡ true → a ≡ b
-same_end a b is = grind (arith, nat_tests)
-
 -- they spell the range
 page_range : (b : Bool) (r : Range ℕ) → (r.start == r.end) ≡ b → RangeKept r → range_of (page_chars_if b r) ≡ Some r
 page_range true r same kept = range_read_of (decimal r.start) r (record {
@@ -90,7 +82,7 @@ page_range true r same kept = range_read_of (decimal r.start) r (record {
   blank = refl;
   start = number_decimal r.start kept.0;
   gap = refl;
-  end = subst (EndsRange r.start []) (same_end r.start r.end same) lone;
+  end = subst (EndsRange r.start []) (eqb-true r.start r.end same) lone;
 })
 page_range false r same kept = range_read_of (decimal r.start ++ 8211 ∷ decimal r.end) r (record {
   before = [];
@@ -108,7 +100,7 @@ pub page_read : (r : Range ℕ) → RangeKept r → range_of (page_chars r) ≡ 
 page_read r kept = page_range (r.start == r.end) r refl kept
 
 decimal_of_page : (n : ℕ) → n < 2 ^ 32 → list_all is_of_page (decimal n) ≡ true
-decimal_of_page n small = weaker is_ascii_digit is_of_page digit_of_page (decimal n) (decimal_digits n small)
+decimal_of_page n small = passed_weaker is_ascii_digit is_of_page digit_of_page (decimal n) (decimal_digits n small)
 
 page_all : (b : Bool) (r : Range ℕ) → RangeKept r → list_all is_of_page (page_chars_if b r) ≡ true
 page_all true r kept = decimal_of_page r.start kept.0
@@ -120,7 +112,7 @@ page_all false r kept =
 decimal_bytes : (n : ℕ) → n < 2 ^ 32 → encode_utf8_all (decimal n) ≡ decimal n
 decimal_bytes n small =
     encodes-IsAscii (decimal n)
-    (simple_ascii (decimal n) (weaker is_ascii_digit is_simple digit_simple (decimal n) (decimal_digits n small)))
+    (simple_ascii (decimal n) (passed_weaker is_ascii_digit is_simple digit_simple (decimal n) (decimal_digits n small)))
 
 page_bytes : (b : Bool) (r : Range ℕ) → RangeKept r
     → encode_utf8_all (page_chars_if b r)
@@ -290,7 +282,7 @@ part_says whole span at text = says (length text == length whole)
 page_says : (cs : List ℕ) → list_all is_of_page cs ≡ true → flowing false (chars (encode_utf8_all cs)) ++ [] ≡ cs
 page_says cs all =
     append-nil _ ∙ ap (flowing false) (chars-encodes cs (all_scalar cs all))
-    ∙ flowing_whole false cs (weaker is_of_page goes_on of_page_goes cs all)
+    ∙ flowing_whole false cs (passed_weaker is_of_page goes_on of_page_goes cs all)
 
 first_says : (whole : List ℕ) (span : Range ℕ) (at : ℕ) (last : Bool) (cs : List ℕ) → list_all is_of_page cs ≡ true
     → formatted_chars (piece whole span at false last (encode_utf8_all cs) ∷ []) ≡ cs
@@ -443,7 +435,7 @@ all_shown r rs first rest =
 -- ---- the text of the field
 
 page_goes : (cs : List ℕ) → list_all is_of_page cs ≡ true → list_all goes_on cs ≡ true
-page_goes cs all = weaker is_of_page goes_on of_page_goes cs all
+page_goes cs all = passed_weaker is_of_page goes_on of_page_goes cs all
 
 more_goes : (rs : List (Range ℕ)) → AllByRecursion RangeKept rs → list_all goes_on (more_chars rs) ≡ true
 more_goes [] kept = refl

@@ -22,7 +22,7 @@ part_type kind =
     else if is_among_words (codes "periodical") kind then Some entry_type.Periodical
     else None
 
--- the type whose fields the entry of any other item has
+-- the type whose fields the entry of an item has, if `part_type` has none for the item
 abbrev pub whole_type : List ℕ → EntryType
 whole_type kind =
     if is_among_words (codes "book classic") kind then entry_type.Book
@@ -41,7 +41,8 @@ whole_type kind =
 abbrev pub type_for_item : List ℕ → EntryType
 type_for_item kind = unwrap_or (part_type kind) (whole_type kind)
 
--- the name of the entry type for an item of a type that only BibLaTeX's data model has, or nothing
+-- the name of the entry type for an item with this type, if BibLaTeX's data model has that entry type and `EntryType` lacks it; otherwise
+-- nothing
 unfoldable pub own_type_name : List ℕ → List ℕ
 own_type_name kind =
     if bytes_eq kind (codes "graphic") then codes "artwork"

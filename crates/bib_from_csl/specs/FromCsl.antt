@@ -30,12 +30,12 @@ pub record AreUnreadItems (json : List ℕ) : Type 0 where
   pub of_json : items_read json ≡ Are items
   pub unread : IsAcceptedText (items_source items) → ⊥
 
--- a refusal gives the reason why the text contains no items that can be converted, or says that two entries have one key
+-- a refusal gives the fault of an element or of the text, or says that two entries have one key
 pub data IsItemsRefusal (json : List ℕ) (r : Refusal) : Type 0 where
   no_items : items_read json ≡ Refused r.element r.fault → r.at ≤ length json → IsItemsRefusal json r
   key_twice : r.fault ≡ KeyTwice → r.at ≤ length json → AreUnreadItems json → IsItemsRefusal json r
 
--- an error says that the entries of two items have one key, or that the source of the entries can't be parsed, or out of memory
+-- an error says that the entries of two items have one key, or that their source can't be parsed, or out of memory
 abbrev pub IsOfUnreadItems : List ℕ → ItemsError → Type 0
 IsOfUnreadItems json (refused r) = (r.fault ≡ KeyTwice) × (r.at ≤ length json)
 IsOfUnreadItems json (NotRead e) = Unit {0}

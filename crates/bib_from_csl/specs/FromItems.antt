@@ -132,7 +132,7 @@ key_character c = if is_of_key c then encode_utf8 c else codes "_"
 abbrev pub key_text : List ℕ → List ℕ
 key_text = flat_map key_character
 
--- the start of an entry, up to the comma after its key
+-- the start of an entry, up to the line end after its key
 unfoldable pub head : GivenItem → List ℕ
 head item = codes "@" ++ (written_type_name item.kind ++ (codes "{" ++ (key_text (chars item.id) ++ codes ",\n")))
 
@@ -145,7 +145,7 @@ unfoldable pub beginning : Work → GivenItem → List ℕ
 beginning work item =
     head item ++ (known_line (codes "entrysubtype") (subtype_of item.kind) ++ known_line (codes "options") (options_of work.uses_prefix))
 
--- the entry of an item, given the properties that its fields depend on
+-- the entry of an item; `work` has the properties that its fields depend on
 unfoldable pub source_with : Work → GivenItem → List ℕ
 source_with work item = beginning work item ++ (flat_map (given_lines work) item.fields ++ codes "}\n")
 

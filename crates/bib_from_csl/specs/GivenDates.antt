@@ -14,12 +14,12 @@ use Rattle.bib_csl.specs.declared.item.Season.{Season}
 use Rattle.bib_csl.specs.declared.item.Season.TheVariants.{Spring, Summer, Autumn, Winter}
 use Rattle.bib_from_csl.specs.Objects.{array_elements, one_if, object_size, string_under, text_under, whole_number}
 
--- a number that fits in 16 bits
+-- a number from 0 to 2^16 - 1
 abbrev pub sixteen_bits : ℤ → Option ℕ
 sixteen_bits (pos n) = if nat_lt n (2 ^ 16) then Some n else None
 sixteen_bits (negsuc n) = None
 
--- the number of a month or a day
+-- the number of a month or a day, if it is from 0 to 2^16 - 1
 abbrev pub small_count : Json → Option ℕ
 small_count j = option_and_then sixteen_bits (whole_number j)
 
@@ -36,7 +36,7 @@ abbrev pub of_day : Option ℤ → Option ℕ → Option ℕ → Option DatePart
 of_day year month day =
     option_and_then (λ y. option_and_then (λ m. option_map (λ d. record { year = y; month = Some m; day = Some d }) day) month) year
 
--- the year, the month and the day of a list of one to three numbers
+-- the year, the month and the day of a list of one to three numbers, which may be texts
 abbrev pub day_of_numbers : List Json → Option DateParts
 day_of_numbers [] = None
 day_of_numbers (year ∷ []) = of_year (whole_number year)
@@ -44,11 +44,11 @@ day_of_numbers (year ∷ month ∷ []) = of_month (whole_number year) (small_cou
 day_of_numbers (year ∷ month ∷ day ∷ []) = of_day (whole_number year) (small_count month) (small_count day)
 day_of_numbers (year ∷ month ∷ day ∷ more ∷ rest) = None
 
--- the date of a value that is an array of one to three numbers
+-- the date of a value that is such an array
 abbrev pub day_in : Json → Option DateParts
 day_in j = option_and_then day_of_numbers (array_elements j)
 
--- two dates, if both are given
+-- two dates, if there are both
 abbrev pub both_dates : Option DateParts → Option DateParts → Option (List DateParts)
 both_dates start end = option_and_then (λ a. option_map (λ b. a ∷ b ∷ []) end) start
 

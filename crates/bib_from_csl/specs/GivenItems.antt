@@ -1,5 +1,5 @@
 -- Meaning: words of public contracts.
--- The items in a text of CSL-JSON, and the faults of a text without items.
+-- The items in a text of CSL-JSON, or the first fault of the text.
 use Rattle.std.specs.Prelude.{ℕ, ◌+◌, Bool, true, false, ◌==◌, ◌&&◌, ◌||◌, if◌then◌else◌, List, [], ◌∷◌, codes, bytes_eq, encode_utf8_all, Option, Some, None, is_some}
 use Rattle.std.specs.Char.{is_ascii_digit}
 use Rattle.std.specs.List.{list_all, before_first, after_first}
@@ -39,7 +39,7 @@ has_dashes name text = bytes_eq name (codes "page") && are_numbers text
 unfoldable pub dashed_text : List ℕ → List ℕ
 dashed_text text = replaced char.hyphen (encode_utf8_all (codes "–")) (chars text)
 
--- the page of a range of one page, such as `115` for `115-115`; another text as it is
+-- the text before the first hyphen if it equals the text after that, such as `115` for `115-115`; another text unchanged
 unfoldable pub single_page : List ℕ → List ℕ
 single_page text =
     if has_byte char.hyphen text
@@ -47,8 +47,7 @@ single_page text =
     then before_first (λ b. b == char.hyphen) text
     else text
 
--- the text of a variable; in page numbers, each hyphen is replaced by an en dash, except that a text that is one range of one
--- page is replaced by the page
+-- the text of a variable; page numbers are replaced by their `single_page`, with an en dash for each hyphen
 unfoldable pub content_text : List ℕ → List ℕ → List ℕ
 content_text name text =
     if has_dashes name text then dashed_text (single_page text) else text
@@ -111,7 +110,7 @@ item_with id kind (Some fields) = Says (record { id = id; kind = kind; fields = 
 abbrev pub item_of_members : List ℕ → List ℕ → List (List ℕ × Json) → ItemReading
 item_of_members id kind ms = item_with id kind (members_read ms)
 
--- the item of an object, given the values of its members `id` and `type`
+-- the item of an object with these members; the last two arguments are the values of its members `id` and `type`
 abbrev pub item_of_parts : Option (List (List ℕ × Json)) → Option (List ℕ) → Option (List ℕ) → ItemReading
 item_of_parts None id kind = Unfit fault.NotAnObject
 item_of_parts (Some ms) None kind = Unfit fault.NoId

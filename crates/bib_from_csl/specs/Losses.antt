@@ -36,11 +36,11 @@ is_this (Some found) given = content.ghosts.eq found given
 abbrev pub holds_content : List Field → List ℕ → Content → Bool
 holds_content fields name given = is_this (content_of name fields) given
 
--- the loss of a member whose content is in a field: `Partly` if the content isn't the whole value
+-- the loss of a member whose content is in a field: `Partly` if a part of the value is missing from the content
 abbrev pub partly_unless : Bool → Option LossKind
 partly_unless is_whole = if is_whole then None else Some Partly
 
--- the loss of a member without a content: `NoField` if the content isn't the whole value
+-- the loss of a member without a content: `NoField`, unless the flag says that nothing is missing
 abbrev pub no_field_unless : Bool → Option LossKind
 no_field_unless is_whole = if is_whole then None else Some NoField
 
@@ -57,7 +57,7 @@ abbrev pub loss_of_content : Work → List Field → List ℕ → Option Content
 loss_of_content work fields name None is_whole = no_field_unless is_whole
 loss_of_content work fields name (Some given) is_whole = content_loss work fields name given is_whole
 
--- the loss of a member, given the variables of the item that its entry is converted back to
+-- the loss of a member; `fields` has the variables of the item that the entry is converted back to
 abbrev pub loss_of : Work → List Field → Given → Option LossKind
 loss_of work fields given = loss_of_content work fields given.name given.content given.is_whole
 
@@ -74,13 +74,13 @@ text_loss given read = if bytes_eq given read then None else Some Changed
 abbrev pub member_loss : Work → List ℕ → List Field → Given → List Loss
 member_loss work id fields given = loss id given.name (loss_of work fields given)
 
--- the losses of an item, given the item that its entry is converted back to
+-- the losses of `item`; `read` is the item that its entry is converted back to
 unfoldable pub item_losses : GivenItem → Item → List Loss
 item_losses item read =
     loss item.id (codes "id") (text_loss item.id read.id) ++ (loss item.id (codes "type") (text_loss item.kind (item_type_name read.kind))
     ++ flat_map (member_loss (work_for_item item) item.id read.fields) item.fields)
 
--- the losses of an item, given its entry, if there is one
+-- the losses of an item with this entry; without one, the only loss is `NoField` for the member `id`
 abbrev pub losses_in : GivenItem → Option Entry → List Loss
 losses_in item None = loss item.id (codes "id") (Some NoField)
 losses_in item (Some entry) = item_losses item (item_of_entry entry)
@@ -95,7 +95,7 @@ abbrev pub after_first_entry : List Entry → List Entry
 after_first_entry [] = []
 after_first_entry (entry ∷ entries) = entries
 
--- the losses of items, given their entries in the same order
+-- the losses of items; their entries are in the same order
 abbrev pub all_losses : List GivenItem → List Entry → List Loss
 all_losses [] entries = []
 all_losses (item ∷ items) entries = losses_in item (first_entry entries) ++ all_losses items (after_first_entry entries)

@@ -1,5 +1,5 @@
 -- Meaning: words of public contracts.
--- The parts of JSON values. A text is given by its bytes.
+-- The parts of JSON values. A text is a list of its bytes.
 use Rattle.std.specs.Prelude.{ℕ, ℤ, Bool, if◌then◌else◌, List, [], ◌∷◌, length, Option, option_and_then, option_map}
 use Rattle.std.specs.Option.{option_map_or, option_or}
 use Rattle.json.specs.Json.{Json, Items, no_items, item, Members, no_members, member}
@@ -40,7 +40,7 @@ string_under name j = option_and_then as_str (get name j)
 abbrev pub text_under : List ℕ → Json → Option (List ℕ)
 text_under name j = option_and_then text_in (get name j)
 
--- the whole number that a value is, or that its text writes in decimal digits
+-- the integer in a value, which is a number or a text. It must be an `i64`, and have only decimal digits, maybe with a sign before them.
 abbrev pub whole_number : Json → Option ℤ
 whole_number j = option_and_then decimal_of (text_in j)
 

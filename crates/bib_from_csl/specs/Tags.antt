@@ -1,5 +1,5 @@
 -- Meaning: words of public contracts.
--- Texts with HTML tags, written in LaTeX. A text is given by its bytes.
+-- Texts with HTML tags, written in LaTeX. A text is a list of its bytes.
 use Rattle.std.specs.Prelude.{ℕ, zero, suc, ◌+◌, ◌-◌, ◌==◌, false, nat_lt, if◌then◌else◌, List, [], ◌∷◌, ◌++◌, length, drop, eqb, codes, encode_utf8_all, replicate, Option, Some, None, option_map}
 use Rattle.std.specs.List.{after_first, before_first, position_or_len, slice_split, starts_with}
 use Rattle.std.specs.Option.{option_or}
@@ -57,13 +57,14 @@ spelled_text text = encode_utf8_all (spelling false (chars text))
 abbrev pub untagged : List ℕ → List ℕ
 untagged piece = codes "<" ++ spelled_text piece
 
--- the output for a piece with this many open tags, given the text after its closing tag, if it begins with one
+-- the output for a piece with this many open tags. If the piece begins with a closing tag, the last argument is the text after the tag.
 abbrev pub closing_text : ℕ → List ℕ → Option (List ℕ) → List ℕ
 closing_text depth piece None = untagged piece
 closing_text zero piece (Some rest) = untagged piece
 closing_text (suc depth) piece (Some rest) = codes "}" ++ spelled_text rest
 
--- the output for a piece with this many open tags, given its opening tag and the text after it, if it begins with one
+-- the output for a piece with this many open tags. If the piece begins with an opening tag, the last argument is the tag and the text
+-- after it.
 abbrev pub opening_text : ℕ → List ℕ → Option (Tag × List ℕ) → List ℕ
 opening_text depth piece (Some found) = command_of found.0 ++ spelled_text found.1
 opening_text depth piece None = closing_text depth piece (closed piece)
@@ -72,12 +73,13 @@ opening_text depth piece None = closing_text depth piece (closed piece)
 abbrev pub tag_piece_text : ℕ → List ℕ → List ℕ
 tag_piece_text depth piece = opening_text depth piece (opened piece)
 
--- the number of open tags after a piece without an opening tag, given the text after its closing tag, if it begins with one
+-- the number of open tags after a piece without an opening tag; if the piece begins with a closing tag, the last argument is the text
+-- after the tag
 abbrev pub open_after_end : ℕ → Option (List ℕ) → ℕ
 open_after_end depth None = depth
 open_after_end depth (Some rest) = depth - 1
 
--- the number of open tags after a piece, given its opening tag, if it begins with one
+-- the number of open tags after a piece; if the piece begins with an opening tag, the last argument is the tag and the text after it
 abbrev pub open_after_tag : ℕ → List ℕ → Option (Tag × List ℕ) → ℕ
 open_after_tag depth piece (Some found) = depth + 1
 open_after_tag depth piece None = open_after_end depth (closed piece)

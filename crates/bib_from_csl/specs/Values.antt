@@ -1,5 +1,5 @@
 -- Meaning: words of public contracts.
--- The values of fields. A value is given by its bytes.
+-- The values of fields. A value is a list of its bytes.
 use Rattle.std.specs.Prelude.{ℕ, Bool, ◌==◌, if◌then◌else◌, List, ◌++◌, codes, bytes_eq, encode_utf8}
 use Rattle.std.specs.List.{flat_map, list_any, slice_split}
 use Rattle.std.specs.Str.{chars}
@@ -41,7 +41,7 @@ with_ties text = replaced tie (codes "~") (chars text)
 abbrev pub tagged_value : List ℕ → List ℕ
 tagged_value text = braced (with_ties (tagged_source text))
 
--- whether one of the words of a text is `and`
+-- whether one of the words of a text is `and`; only spaces separate words
 abbrev pub has_and : List ℕ → Bool
 has_and text = list_any (bytes_eq (codes "and")) (slice_split (λ b. b == char.space) text)
 

@@ -42,7 +42,7 @@ is_number_variable =
     (codes
     "volume number-of-volumes part-number issue number collection-number edition chapter-number page number-of-pages version status keyword language")
 
--- whether a variable is an identifier, an address, or a place where the work is kept
+-- whether a variable is an identifier, an address, or the place of the work in an archive or a library
 abbrev pub is_identifier : List ℕ → Bool
 is_identifier = is_among_words (codes "DOI URL PMID ISBN ISSN archive archive_location call-number")
 
@@ -179,7 +179,7 @@ variable_field kind in_work name =
     (either_name (either_name (title_field kind in_work name) (word_field kind name)) (number_field kind name))
     (identifier_field name)) (people_field name)) (field_of_date name)
 
--- the additional field that says what the field of a variable means, or nothing
+-- the additional field for the archive or the role that a variable implies, or nothing
 unfoldable pub beside_field : List ℕ → List ℕ
 beside_field name =
     if bytes_eq name (codes "PMID") then codes "eprinttype"

@@ -39,11 +39,11 @@ datetime_of_counts year month day =
 abbrev pub datetime_of : DateParts → Option Datetime
 datetime_of p = datetime_of_counts (counted_year p.year) (counted_part p.month 12) (counted_part p.day 31)
 
--- whether a date stands for the open side of a range: the year 0, which CSL doesn't count, without a month and a day
+-- whether a date represents the open side of a range: the year 0, which CSL doesn't count, without a month and a day
 abbrev pub is_open_side : DateParts → Bool
 is_open_side p = int_eq p.year (pos 0) && (not (is_some p.month) && not (is_some p.day))
 
--- a range, if both of its dates are given
+-- a range, if it has both dates
 abbrev pub range_between : Option Datetime → Option Datetime → Option DateValue
 range_between start end = option_and_then (λ a. option_map (Between a) end) start
 
@@ -68,7 +68,7 @@ season_digit Summer = codes "2"
 season_digit Autumn = codes "3"
 season_digit Winter = codes "4"
 
--- the first of these dates
+-- the first of these dates; `None` if there is none, or if one of its parts is out of range
 abbrev pub date_of_first : List DateParts → Option Datetime
 date_of_first [] = None
 date_of_first (first ∷ rest) = datetime_of first
@@ -103,12 +103,12 @@ abbrev pub literal_or_parts_text : Option (List ℕ) → ItemDate → Option (Li
 literal_or_parts_text (Some literal) date = Some (literal_source literal date)
 literal_or_parts_text None date = parts_text date.parts date.circa
 
--- the text of a date, given its season if it has one
+-- the text of a date; the first argument is its season if it has one
 abbrev pub season_or_text : Option Season → ItemDate → Option (List ℕ)
 season_or_text (Some season) date = season_text date.parts season
 season_or_text None date = literal_or_parts_text date.literal date
 
--- the text of a date
+-- the text of a date: that of its season if it has one, or else its own text, or else that of its parts
 unfoldable pub text_of_item : ItemDate → Option (List ℕ)
 text_of_item date = season_or_text date.season date
 

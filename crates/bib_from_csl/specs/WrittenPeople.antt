@@ -1,5 +1,6 @@
 -- Meaning: words of public contracts.
--- The values of name fields: a name that parses back from BibTeX's format is written so, and any other in BibLaTeX's extended name format.
+-- The values of name fields. A plain name is written in BibTeX's format. A name without parts is written in braces, except the word
+-- `others`. Any other name is written in BibLaTeX's extended name format.
 use Rattle.std.specs.Prelude.{ℕ, Bool, true, false, not, ◌&&◌, ◌||◌, ◌==◌, if◌then◌else◌, List, [], ◌∷◌, ◌++◌, length, codes, bytes_eq, encode_utf8_all}
 use Rattle.std.specs.Char.{is_whitespace}
 use Rattle.std.specs.List.{list_all, list_any, slice_split}
@@ -101,7 +102,7 @@ prefix_flag p =
     else if not (length p.dropping_particle == 0) then codes "false"
     else []
 
--- the parts of a name except the family name, each with its key
+-- the parts of a name except the family name, and the flag for its prefix; each has its key, and empty ones are left out
 unfoldable pub extended_keys : NameParts → Value
 extended_keys p =
     keyed_unless_empty (codes ", given=") p.given ++ (keyed_unless_empty (codes ", prefix=") (whole_prefix p)
@@ -123,7 +124,7 @@ parts_chunks uses_prefix p =
     else if is_bibtex_name uses_prefix p then nowhere (Normal (plain_text_of uses_prefix p)) ∷ []
     else extended_chunks p
 
--- a name
+-- the chunks of a name, literal or in parts
 abbrev pub name_chunks : Bool → Name → Value
 name_chunks uses_prefix (Literal text) = literal_chunks text
 name_chunks uses_prefix (Parts p) = parts_chunks uses_prefix p

@@ -24,7 +24,7 @@ pub struct Converted {
     pub losses: Items<Loss>,
 }
 
-/// The reason why a text contains no items that can be converted, and its position.
+/// The reason why the items of a text can't be converted, and its position.
 #[derive(Debug, Clone, Copy, PartialEq, Eq)]
 pub struct Refusal {
     /// The reason.
@@ -39,7 +39,7 @@ pub struct Refusal {
 /// The reason why a text can't be converted to entries.
 #[derive(Debug, Drop)]
 pub enum ItemsError {
-    /// The text contains no items that can be converted, or two items whose entries have one key.
+    /// An element of the text can't be converted, the text isn't a JSON array, or the entries of two items have one key.
     Refused(Refusal),
     /// The source of the entries can't be parsed, for this reason.
     NotRead(ParseError),
@@ -160,8 +160,8 @@ fn unread(
 ///
 /// # Errors
 ///
-/// `Refused` if the text contains no items that can be converted, or two items whose entries have one key; `NotRead` if the
-/// source of the entries can't be parsed; `OutOfMemory` if memory runs out.
+/// `Refused` if an element of the text can't be converted, the text isn't a JSON array, or the entries of two items have one key;
+/// `NotRead` if the source of the entries can't be parsed for another reason; `OutOfMemory` if memory runs out.
 pub fn entries_of(alloc: Global, json: &str) -> Result<Converted, ItemsError>
     ensures made { IfOk result (spec.AreEntriesOf json.now) }
     ensures refused { IfErr result (spec.MayRefuseItems json.now) }

@@ -15,14 +15,14 @@ use bib_text::text::Text;
 use json::Value;
 use std::alloc::{AllocError, Global};
 
-// Returns a number if it fits in 16 bits.
+// Returns a number if it is from 0 to 2^16 - 1.
 fn small(number: i64) -> Option<u16>
     ensures { result ≡ spec.sixteen_bits number }
 {
     u16::try_from(number).ok()
 }
 
-// Returns the number of a month or a day.
+// Returns the number of a month or a day, if it is from 0 to 2^16 - 1.
 fn small_number(value: &Value<'_>) -> Option<u16>
     ensures { result ≡ spec.small_count (value_view value.now) }
 {
@@ -30,7 +30,7 @@ fn small_number(value: &Value<'_>) -> Option<u16>
     small(number)
 }
 
-// Returns the year, the month and the day of an array of one to three numbers.
+// Returns the year, the month and the day of an array of one to three numbers, which may be texts.
 fn date_parts(values: &[Value<'_>]) -> Option<DateParts>
     ensures { result ≡ spec.day_of_numbers (map value_view values.now) }
 {
@@ -54,7 +54,7 @@ fn date_parts(values: &[Value<'_>]) -> Option<DateParts>
     }
 }
 
-// Returns the date of a value that is an array of one to three numbers.
+// Returns the date of a value that is such an array.
 fn date_in(value: &Value<'_>) -> Option<DateParts>
     ensures { result ≡ spec.day_in (value_view value.now) }
 {

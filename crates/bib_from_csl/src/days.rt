@@ -62,7 +62,7 @@ fn datetime_of(parts: &DateParts) -> Option<Datetime>
     })
 }
 
-// Returns whether a date stands for the open side of a range: the year 0 without a month and a day.
+// Returns whether a date represents the open side of a range: the year 0 without a month and a day.
 fn is_open_side(parts: &DateParts) -> bool
     ensures { result ≡ spec.is_open_side parts.now }
 {
@@ -107,7 +107,7 @@ fn season_digit(season: Season) -> &'static str
     }
 }
 
-// Returns the first of these dates.
+// Returns the first of these dates, or `None` if there is none, or if one of its parts is out of range.
 fn first_of(parts: &[DateParts]) -> Option<Datetime>
     ensures { result ≡ spec.date_of_first parts.now }
 {
@@ -129,7 +129,7 @@ fn only_year(date: Datetime) -> Datetime
     }
 }
 
-// Returns the year of the first date with the number of a season after it, such as `2020-21`, or `None` if there is no such
+// Returns the year of the first date with the number of a season after it, such as `2020-21`. Returns `None` if there is no such
 // date.
 fn season_text(
     alloc: Global,
@@ -187,7 +187,8 @@ fn literal_text(alloc: Global, literal: &str, date: &ItemDate) -> Result<Text, A
     Ok(text)
 }
 
-// Returns the text of a date: its season, or else its own text, or else its parts.
+// Returns the text of a date: that of its season if it has one, or else its own text, or else that of its parts. Returns `None` if the
+// season has no date with parts in range, or if BibLaTeX can't write the parts.
 #[tactic(auto, unfolding(crate::specs::WrittenDates::text_of_item))]
 fn text_of_item(alloc: Global, date: &ItemDate) -> Result<Option<Text>, AllocError>
     ensures { IfOk result (λ text. text ≡ spec.text_of_item date.now) }

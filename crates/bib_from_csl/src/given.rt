@@ -22,6 +22,6 @@ pub struct Given {
     pub name: Text,
     /// The value as the content of a variable, if it has that form.
     pub content: Option<Content>,
-    /// Whether the content is the whole value.
+    /// Whether no part of the value is missing from the content.
     pub is_whole: bool,
 }

@@ -16,14 +16,14 @@ ghost use Rattle.bib_from_csl.specs.PlainPages.{pages_after};
 ghost use Rattle.bib_from_csl.specs.PlainPeople.{ArePlainNames};
 ghost use Rattle.bib_from_csl.specs.WrittenPeople.{names_chunks};
 
-/// States that plain names are parsed back, in their order, from the chunks that are written for them.
+/// States that one or more plain names are parsed back, in their order, from the chunks that are written for them.
 pub fn names_are_read_again()
     ensures { (uses_prefix : Bool) (name : AName) (names : List AName) → ArePlainNames uses_prefix (name ∷ names) →
         names_listed uses_prefix (names_chunks uses_prefix (name ∷ names)) ≡ name ∷ names }
 {}
 
-/// States that the date of an item for a BibLaTeX date is parsed back from its text, if the years are from -9999 to 9999, the
-/// days exist, and there is no time.
+/// States that the date of an item for a BibLaTeX date is parsed back from its text, under these conditions. The years are from -9999
+/// to 9999, the months and the days exist, each day has a month, and there is no time.
 pub fn dates_are_read_again()
     ensures { (d : ADate) → IsKeptDate d → IsDateReadBack (date_item d) }
 {}

@@ -31,7 +31,7 @@ pub struct Loss {
 pub enum LossKind {
     /// No field contains it.
     NoField,
-    /// A field contains it, but is parsed as something else.
+    /// The entry can contain it, but the item that the entry is converted back to has another value, or none.
     Changed,
     /// A field contains the part that a variable can have, but no field contains the rest.
     Partly,
@@ -89,7 +89,7 @@ fn content_loss(
     partly_unless(is_whole)
 }
 
-// Returns the loss of a member whose content is in a field: `Partly` if the content isn't the whole value.
+// Returns the loss of a member whose content is in a field: `Partly` if a part of the value is missing from the content.
 fn partly_unless(is_whole: bool) -> Option<LossKind>
     ensures { result ≡ spec.partly_unless is_whole }
 {
@@ -99,7 +99,7 @@ fn partly_unless(is_whole: bool) -> Option<LossKind>
     Some(LossKind::Partly)
 }
 
-// Returns the loss of a member without a content: `NoField` if the content isn't the whole value.
+// Returns the loss of a member without a content: `NoField`, unless `is_whole` says that nothing is missing.
 fn no_field_unless(is_whole: bool) -> Option<LossKind>
     ensures { result ≡ spec.no_field_unless is_whole }
 {
@@ -109,7 +109,7 @@ fn no_field_unless(is_whole: bool) -> Option<LossKind>
     Some(LossKind::NoField)
 }
 
-// Returns the loss of a member, given the variables of the item that its entry is converted back to.
+// Returns the loss of a member. `fields` has the variables of the item that the entry is converted back to.
 fn loss_of(work: &Work, fields: &[Field], given: &Given) -> Option<LossKind>
     ensures { result ≡ spec.loss_of work.now fields.now given.now }
 {
@@ -150,7 +150,7 @@ fn change_of(given: &str, read: &str) -> Option<LossKind>
     Some(LossKind::Changed)
 }
 
-// Appends the losses of the members of an item, given the item that its entry is converted back to.
+// Appends the losses of the members of `item`. `read` is the item that its entry is converted back to.
 fn push_members(
     alloc: Global,
     losses: &mut Items<Loss>,
@@ -167,7 +167,7 @@ fn push_members(
     Ok(())
 }
 
-// Appends the losses of an item, given the item that its entry is converted back to.
+// Appends the losses of `item`. `read` is the item that its entry is converted back to.
 #[tactic(auto, unfolding(crate::specs::Losses::item_losses))]
 fn push_item(
     alloc: Global,
@@ -190,7 +190,7 @@ fn push_item(
     push_members(alloc, losses, &work, item, read)
 }
 
-// Appends the losses of an item, given its entry, if there is one.
+// Appends the losses of `item`. `entry` is its entry; without one, the only loss is `NoField` for the member `id`.
 fn push_losses(
     alloc: Global,
     losses: &mut Items<Loss>,
@@ -214,7 +214,7 @@ fn push_losses(
     }
 }
 
-/// Returns the losses of items, given their entries in the same order.
+/// Returns the losses of items. Their entries are in the same order; missing ones are those of the last items.
 pub(crate) fn all_losses(
     alloc: Global,
     items: &[GivenItem],

@@ -64,14 +64,15 @@ pub(crate) fn text_under<'a>(value: &Value<'a>, name: &str) -> Option<&'a str>
     text_in(member)
 }
 
-// Returns the number that a text writes in decimal digits.
+// Returns the integer that a text has in decimal digits, maybe with a sign before them, or `None` if it is no `i64`.
 fn decimal(text: &str) -> Option<i64>
     ensures { result ≡ decimal_of text.now }
 {
     text.parse::<i64>().ok()
 }
 
-// Returns the whole number that a value is, or that its text writes.
+// Returns the integer in a value, which is a number or a text. It must be an `i64`, and have only decimal digits, maybe with a sign before
+// them.
 pub(crate) fn whole_number(value: &Value<'_>) -> Option<i64>
     ensures { result ≡ spec.whole_number (value_view value.now) }
 {

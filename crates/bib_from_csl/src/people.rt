@@ -1,7 +1,8 @@
 //! Writes the values of name fields.
 //!
-//! A name that parses back from BibTeX's format (`von Family, Jr, Given`) is written so. Any other name is written in BibLaTeX's extended
-//! name format, a list of `key=value`, which can contain any text.
+//! A plain name is written in BibTeX's format (`von Family, Jr, Given`), from which it parses back. A name without parts is written in
+//! braces, except the word `others`. Any other name is written in BibLaTeX's extended name format, a list of `key=value`, which can
+//! contain any text.
 
 ghost use Rattle.std.specs.Prelude.{◌≡◌, ◌++◌, OnOk, IfOk};
 ghost use Rattle.std.specs.List.{list_all};
@@ -199,7 +200,7 @@ fn prefix_flag(parts: &NameParts) -> &'static str
     ""
 }
 
-// Appends the parts of a name except the family name, each with its key.
+// Appends the parts of a name except the family name, and the flag for its prefix. Each has its key, and empty ones are left out.
 #[tactic(auto, unfolding(crate::specs::WrittenPeople::extended_keys))]
 fn push_keys(alloc: Global, all: &mut Chunks, parts: &NameParts) -> Result<(), AllocError>
     ensures { OnOk result (all.new ≡ all.old ++ spec.extended_keys parts.now) }

@@ -34,7 +34,7 @@ impl Nesting {
         is_open
     }
 
-    // Records a token, and returns whether it is allowed there.
+    // Records a token. Returns whether it isn't `Bad`, the value at the top hasn't ended, and the innermost open bracket allows it.
     fn pass(&mut self, token: &Token<'_>) -> Result<bool, AllocError> {
         if self.is_over {
             return Ok(false);

@@ -89,7 +89,7 @@ pub(crate) fn sides(text: &str) -> Option<(&str, &str)>
     text.split_once('-')
 }
 
-// Returns the page of a range of one page, such as `115` for `115-115`, or another text as it is.
+// Returns the text before the first hyphen if it equals the text after that, such as `115` for `115-115`, or another text unchanged.
 #[tactic(auto, unfolding(crate::specs::GivenItems::single_page))]
 fn single_page(text: &str) -> &str
     ensures { result.now ≡ spec.single_page text.now }
@@ -100,8 +100,7 @@ fn single_page(text: &str) -> &str
     }
 }
 
-// Returns the text of a variable. In page numbers, each hyphen is replaced by an en dash, except that a text that is one range of
-// one page is replaced by the page.
+// Returns the text of a variable. Page numbers are replaced by their `single_page`, with an en dash for each hyphen.
 #[tactic(auto, unfolding(crate::specs::GivenItems::content_text))]
 fn content_text(alloc: Global, name: &str, text: &str) -> Result<Text, AllocError>
     ensures { IfOk result (λ content. content ≡ spec.content_text name.now text.now) }

@@ -1,7 +1,7 @@
 //! Texts with HTML tags, written in LaTeX.
 //!
 //! Each tag begins with a less-than sign, so the text is split there, and a piece may begin with the rest of a tag. The open tags are
-//! counted, and each closing tag, of any name, closes the innermost open one.
+//! counted. Each of the closing tags `</i>`, `</b>`, `</sup>`, `</sub>` and `</span>` closes the innermost open tag, whatever its name.
 
 ghost use Rattle.std.specs.Prelude.{◌≡◌, ◌==◌, ◌++◌, length, OnOk, IfOk, string_bytes};
 ghost use Rattle.std.specs.Option.{option_map};

@@ -24,7 +24,7 @@ fn part_type(kind: &str) -> Option<EntryType>
     }
 }
 
-// Returns the type whose fields the entry of any other item has.
+// Returns the type whose fields the entry of an item has, if `part_type` returns `None` for the item.
 fn whole_type(kind: &str) -> EntryType
     ensures { result ≡ spec.whole_type kind.now }
 {
@@ -53,7 +53,8 @@ pub(crate) fn entry_type_of(kind: &str) -> EntryType
     }
 }
 
-// Returns the name of the entry type for an item of a type that only BibLaTeX's data model has, or an empty text.
+// Returns the name of the entry type for an item with this type, if BibLaTeX's data model has that entry type and `EntryType` lacks it.
+// Otherwise returns an empty text.
 #[tactic(auto, unfolding(crate::specs::EntryTypes::own_type_name))]
 fn own_type_name(kind: &str) -> &'static str
     ensures { result.now ≡ spec.own_type_name kind.now }

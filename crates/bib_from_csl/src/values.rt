@@ -87,7 +87,7 @@ pub(crate) fn tagged_value(alloc: Global, text: &str) -> Result<Text, AllocError
     braced(alloc, tied.as_str())
 }
 
-// Returns whether one of the words of a text is `and`.
+// Returns whether one of the words of a text is `and`. Only spaces separate words.
 pub(crate) fn has_and(text: &str) -> bool
     ensures { result ≡ spec.has_and text.now }
 {

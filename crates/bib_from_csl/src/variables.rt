@@ -126,7 +126,7 @@ fn is_number(name: &str) -> bool
     )
 }
 
-// Returns whether a variable is an identifier, an address, or a place where the work is kept.
+// Returns whether a variable is an identifier, an address, or the place of the work in an archive or a library.
 fn is_identifier(name: &str) -> bool
     ensures { result ≡ spec.is_identifier name.now }
 {
@@ -346,7 +346,7 @@ pub(crate) fn field_of(kind: &EntryType, in_work: bool, name: &str) -> &'static 
     either_name(people, date_field(name))
 }
 
-// Returns the additional field that says what the field of a variable means, or an empty text.
+// Returns the additional field for the archive or the role that a variable implies, or an empty text.
 #[tactic(auto, unfolding(crate::specs::Variables::beside_field))]
 pub(crate) fn beside_field(name: &str) -> &'static str
     ensures { result.now ≡ spec.beside_field name.now }

@@ -196,8 +196,8 @@ fn push_valued(
     push_known(alloc, out, beside_field(name), beside_text(name))
 }
 
-// Appends the lines of a variable, if it has a field. Appends nothing for the older name of the title of an event beside the newer one, which
-// has the same field.
+// Appends the lines of a variable, if it has a field. Appends nothing for the older name of the title of an event beside the newer one,
+// which has the same field.
 fn push_content(
     alloc: Global,
     out: &mut Text,
@@ -282,7 +282,7 @@ pub(crate) fn key_of(alloc: Global, id: &str) -> Result<Text, AllocError>
     Ok(key)
 }
 
-// Appends the start of an entry, up to the comma after its key.
+// Appends the start of an entry, up to the line end after its key.
 #[tactic(auto, unfolding(crate::specs::FromItems::head))]
 fn push_head(alloc: Global, out: &mut Text, item: &GivenItem) -> Result<(), AllocError>
     ensures { OnOk result (out.new ≡ out.old ++ spec.head item.now) }
@@ -339,7 +339,7 @@ fn push_end(out: &mut Text) -> Result<(), AllocError>
     out.push_str("}\n")
 }
 
-// Appends the entry of an item, given the properties that its fields depend on.
+// Appends the entry of an item. `work` has the properties that its fields depend on.
 #[tactic(auto, unfolding(crate::specs::FromItems::source_with))]
 fn push_with(alloc: Global, out: &mut Text, work: &Work, item: &GivenItem) -> Result<(), AllocError>
     ensures { OnOk result (out.new ≡ out.old ++ spec.source_with work.now item.now) }

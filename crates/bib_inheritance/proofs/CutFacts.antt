@@ -20,6 +20,7 @@ use Rattle.bib_collections.specs.Graph.{Graph, HasNoCycle, Leads, one, more, ref
 use Rattle.bib_inheritance.specs.References.{references}
 use Rattle.bib_inheritance.specs.EntryTexts.{FieldTexts, fields_of}
 use Rattle.bib_collections.specs.Sorted.{ByText}
+use Rattle.bib_collections.proofs.LeadFacts.{first_edge}
 use Rattle.bib_syntax.specs.declared.raw.ParseError.{ParseError}
 use Rattle.bib_inheritance.specs.Cutting.{IsCut}
 use Rattle.bib_inheritance.specs.Recovered.{EachReported, none, passed, reported, without_references}
@@ -92,11 +93,6 @@ each_same fails fails' reports reports' n errors there back same (reported {inde
 
 no_edge : {b : ℕ} → Contains [] b → ⊥
 no_edge c = omega (arith, c.1)
-
--- an index that leads to another has a reference
-first_edge : {graph : Graph} {a b : ℕ} → Leads graph a b → (c : ℕ) × Contains (refs_of graph a) c
-first_edge (one {b = b} edge) = (b, edge)
-first_edge (more {b = b} edge leads) = (b, edge)
 
 -- ---- all entries on cycles
 

@@ -14,6 +14,8 @@ use Rattle.std.proofs.lemmas.List.Folds.{list_any-append}
 use Rattle.std.proofs.lemmas.Map.Text.{is_eq-slice_cmp}
 use Rattle.std.proofs.lemmas.Option.{get_or_from_slice_get, slice_get_within}
 use Rattle.std.proofs.Math.ListN.{get_or-map}
+use Rattle.bib_text.proofs.BytesFacts.{bytes_turned}
+use Rattle.bib_text.proofs.BoolFacts.{and_true_right}
 use Rattle.bib_chunks.specs.Styled.{Atom, styled}
 use Rattle.bib_chunks.specs.declared.chunk.Chunk.TheVariants.{Normal}
 use Rattle.bib_entry.specs.declared.entry.Entry.{Entry}
@@ -31,7 +33,7 @@ use Rattle.bib_inheritance.specs.Inherited.{date_parts, field_by, first_offer, i
 use Rattle.bib_inheritance.specs.References.{plain}
 use Rattle.bib_inheritance.specs.EntryTexts.{EntryTexts, FieldTexts, fields_of, first_named, first_some, has, no_entry, texts_of_fields}
 use Rattle.bib_inheritance.proofs.FieldFacts as made
-use Rattle.bib_inheritance.proofs.GatheredFacts.{Value, bytes_decides, bytes_turned, has_names, styled_first, flipped}
+use Rattle.bib_inheritance.proofs.GatheredFacts.{Value, bytes_decides, has_names, styled_first, flipped}
 use Rattle.bib_collections.specs.Sorted.{ByText, by_bytes}
 use Rattle.bib_inheritance.specs.Resolving.{AllKeepChunks, Inherits, KeepsChunks, at_index, rule_by, texts_of_entries, texts_of_entry}
 
@@ -301,10 +303,6 @@ stays_by date own given name chunks has free = with_date date free where
     past true = inr refl
     past false = plainly
 
-both_true : (a b : Bool) → (a && b) ≡ true → b ≡ true
-both_true true b e = e
-both_true false b e = absurd (false≢true e)
-
 neither : (a b : Bool) → not (a || b) ≡ true → a ≡ false
 neither true b e = absurd (false≢true e)
 neither false b e = refl
@@ -324,7 +322,7 @@ free_of_date own refs = go (looks_for_date (texts_of_entry own)) refl where
       inr
       (nothing_there (get own.fields (codes "date"))
       (neither (has (texts_of_entry own) (codes "date")) (has (texts_of_entry own) (codes "year"))
-      (both_true (rules_of own.entry_type).needs_date
+      (and_true_right (rules_of own.entry_type).needs_date
       (not (has (texts_of_entry own) (codes "date") || has (texts_of_entry own) (codes "year"))) looks)))
 
 -- each entry can inherit from any references

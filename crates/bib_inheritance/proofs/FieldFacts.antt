@@ -5,6 +5,7 @@ use Rattle.std.specs.FinMap.{get, find, entries, insert, remove, from_entries, g
 use Rattle.std.proofs.lemmas.Cmp.{nat_list_cmp_total}
 use Rattle.std.proofs.lemmas.List.{reverse-reverse}
 use Rattle.std.proofs.lemmas.Map.Text.{is_eq-slice_cmp}
+use Rattle.bib_text.proofs.BytesFacts.{bytes_turned}
 use Rattle.bib_chunks.specs.Styled.{Atom, styled}
 use Rattle.bib_collections.specs.Sorted.{ByText, by_bytes}
 use Rattle.bib_tables.specs.Requirements.{is_one_of}
@@ -12,7 +13,7 @@ use Rattle.bib_tables.specs.declared.mechanics.EntryType.{EntryType}
 use Rattle.bib_inheritance.specs.InheritableDate.{date_for}
 use Rattle.bib_inheritance.specs.Inherited.{date_parts, field_by, plain_field, inherited_field, with_inherited_fields}
 use Rattle.bib_inheritance.specs.EntryTexts.{EntryTexts, FieldTexts, fields_of, first_named, first_some, texts_of_fields}
-use Rattle.bib_inheritance.proofs.GatheredFacts.{Value, bytes_turned, first_after, styled_first}
+use Rattle.bib_inheritance.proofs.GatheredFacts.{Value, first_after, styled_first}
 
 abbrev pub Map : Type 0
 Map = ByText Value

@@ -18,9 +18,10 @@ use Rattle.bib_inheritance.specs.InheritableDate.{looks_for_date}
 use Rattle.bib_inheritance.specs.References.{plain, references}
 use Rattle.bib_inheritance.specs.EntryTexts.{EntryTexts, fields_of}
 use Rattle.bib_collections.specs.Sorted.{ByText}
+use Rattle.bib_collections.proofs.LeadFacts.{turn_within}
 use Rattle.bib_inheritance.specs.Resolving.{AreDatesRead, at_index, graph_by, has_bad_date, is_bad_date, texts_of_entries, texts_of_entry}
 use Rattle.bib_inheritance.specs.Turning.{is_unread_at}
-use Rattle.bib_inheritance.proofs.TurnFacts.{HaveTurned, left_alone, turn_within, turned_more}
+use Rattle.bib_inheritance.proofs.TurnFacts.{HaveTurned, left_alone, turned_more}
 
 -- whether an entry is flagged and lacks a required date
 abbrev pub looks_by : Entry → Bool

@@ -19,6 +19,7 @@ use denote.Ref.{Bor}
 use Rattle.bib_chunks.specs.declared.chunk.Chunk.{Chunk}
 use Rattle.bib_chunks.specs.Styled.{Atom, styled}
 use Rattle.bib_text.specs.declared.spanned.Spanned.{Spanned}
+use Rattle.bib_text.proofs.BytesFacts.{bytes_turned}
 use Rattle.bib_collections.specs.Sorted.{ByText, by_bytes}
 use Rattle.bib_tables.specs.Requirements.{Names, texts, rules_of, author_names, page_names, inheritable, is_container, is_one_of, never_inherited}
 use Rattle.bib_tables.specs.declared.mechanics.EntryType.{EntryType}
@@ -154,17 +155,6 @@ offered_both a b s q x =
 same_some : {A B : Type 0} (f : A → B) (o : Option A) → is_some o ≡ is_some (option_map f o)
 same_some f None = refl
 same_some f (Some x) = refl
-
-pub bytes_turned : (q n : List ℕ) → bytes_eq q n ≡ bytes_eq n q
-bytes_turned q n =
-    elim (bytes_decides n q) [
-      | inl t ↦ (bytes_eq-Decides q n).1 (sym t.1) ∙ sym t.0
-      | inr t ↦ other (bytes_eq q n) (λ e. t.1 (sym ((bytes_eq-Decides q n).0 e))) ∙ sym t.0
-    ]
-  where
-    other : (b : Bool) → (b ≡ true → ⊥) → b ≡ false
-    other true never = absurd (never refl)
-    other false never = refl
 
 -- comparing two names by order is comparing their bytes
 pub flipped : (q n : List ℕ) → eq_by_cmp by_bytes q n ≡ bytes_eq n q

@@ -5,10 +5,10 @@ use Rattle.std.specs.List.{All, Contains, list_any}
 use Rattle.std.specs.Cmp.{unsigned_tied}
 use Rattle.std.specs.Ordering.{eq_by_cmp, nat_cmp}
 use Rattle.std.specs.FinMap.{get}
-use Rattle.std.proofs.lemmas.Bool.{cases_Bool, both_ways, cases_lt, false≢true, le-ltb}
+use Rattle.std.proofs.lemmas.Bool.{cases_Bool, both_ways, false≢true}
 use Rattle.std.proofs.lemmas.List.{get_or-map, get_or_default, map-set, map_push, nil_from_length, take_more, set-get_or, length-map}
 use Rattle.std.proofs.lemmas.Option.{slice_get-get_or, slice_get_within}
-use Rattle.std.proofs.lemmas.List.Elements.{Contains-append_left, Contains-get_or, Contains-push}
+use Rattle.std.proofs.lemmas.List.Elements.{Contains-append_left, Contains-push}
 use Rattle.std.proofs.lemmas.Slice.Eq.{bytes_eq-Decides}
 use Rattle.std.proofs.lemmas.List.Folds.{list_any_more}
 use Rattle.bib_chunks.specs.Styled.{styled}
@@ -16,7 +16,7 @@ use Rattle.bib_entry.specs.declared.entry.Entry.{Entry}
 use Rattle.bib_collections.specs.Graph.{Graph, IsTopologicalOrder, refs_of}
 use Rattle.bib_collections.specs.Solving.{IsSolvedTo}
 use Rattle.bib_collections.proofs.Solving.{new_turn, solved_none, solved_more}
-use Rattle.bib_collections.proofs.Work.{as_one, times_from_contains}
+use Rattle.bib_collections.proofs.LeadFacts.{turn_within}
 use Rattle.bib_inheritance.specs.InheritableDate.{date_for, last_date, looks_for_date}
 use Rattle.bib_inheritance.specs.Inherited.{date_parts, field_by, offered_field, plain_field, inherited_field, with_inherited_fields}
 use Rattle.bib_inheritance.specs.EntryTexts.{EntryTexts, fields_of, first_named, first_some, has, no_entry, texts_of_fields, texts_of_reference, texts_of_references}
@@ -253,7 +253,8 @@ alone_by own name none = elim (cases_Bool (bytes_eq name (codes "xdata"))) [
   found None = refl
   found (Some x) = refl
 
-date_alone : (own : EntryTexts) → date_for own [] ≡ None
+-- an entry without references inherits no date
+pub date_alone : (own : EntryTexts) → date_for own [] ≡ None
 date_alone own = go (looks_for_date own) where
   go : (b : Bool) → cond b (last_date []) None ≡ None
   go true = refl
@@ -276,22 +277,6 @@ untouched e none = record {
 }
 
 -- ---- resolving all entries
-
--- an index in a topological order is in range
-pub turn_within : (graph : Graph) (turns : List ℕ) (i : ℕ) → IsTopologicalOrder graph turns → i < length turns
-    → get_or turns i 0 < length graph
-turn_within graph turns i h within =
-    let p : ℕ = get_or turns i 0 in
-    elim (cases_lt p (length graph)) [
-      | inl t ↦ t
-      | inr t ↦ absurd
-          (omega (
-            arith,
-            times_from_contains p turns (Contains-get_or turns i 0 within),
-            h.once p,
-            as_one _ _ (le-ltb p (length graph) t),
-          ))
-    ]
 
 key_at : (entries : List Entry) (index : ℕ) (d : Entry) → (get_or entries index d).key ≡ get_or (map (λ x. x.key) entries) index d.key
 key_at [] index d = refl

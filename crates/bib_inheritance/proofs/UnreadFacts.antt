@@ -3,7 +3,7 @@ use Rattle.std.proofs.Common.{◌≡◌, ℕ, zero, suc, ◌+◌, ◌<◌, List,
 use Rattle.std.specs.Prelude.{IsSome, find}
 use Rattle.std.specs.List.{list_any}
 use Rattle.std.specs.FinMap as by_name
-use Rattle.std.proofs.lemmas.Bool.{false≢true}
+use Rattle.std.proofs.lemmas.Bool.{false≢true, or_from}
 use Rattle.std.proofs.lemmas.List.Folds.{list_any_more}
 use Rattle.bib_entry.specs.declared.entry.Entry.{Entry}
 use Rattle.bib_tables.specs.declared.type_error.TypeError.{TypeError}
@@ -15,14 +15,11 @@ use Rattle.bib_inheritance.specs.Resolving.{at_index, is_bad_date, texts_of_entr
 use Rattle.bib_inheritance.specs.Turning.{AreDates, Dates, IsUnreadDate, date_at, error_in}
 use Rattle.bib_text.proofs.ListFacts.{some_same}
 
-none_more : (b c : Bool) → b ≡ false → c ≡ false → (b || c) ≡ false
-none_more b c first second = ap (λ x. x || c) first ∙ second
-
 -- one more element that fails a test
 pub any_more : {A : Type 0} (test : A → Bool) (xs : List A) (i : ℕ) (d : A) → i < length xs
     → test (get_or xs i d) ≡ false → list_any test (take i xs) ≡ false → list_any test (take (i + 1) xs) ≡ false
 any_more test xs i d within not_here none =
-    list_any_more test xs i d within ∙ none_more (list_any test (take i xs)) (test (get_or xs i d)) none not_here
+    list_any_more test xs i d within ∙ or_from (list_any test (take i xs)) (test (get_or xs i d)) none not_here
 
 -- the first element that passes a test
 pub find_here : {A : Type 0} (test : A → Bool) (xs : List A) (i : ℕ) (d : A) → i < length xs

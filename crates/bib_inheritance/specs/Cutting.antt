@@ -22,7 +22,7 @@ pub record IsCut (spans : List (Range ℕ)) (own : List Entry) (graph : Graph) (
   pub follows : (names : ByText ℕ) → graph ≡ graph_by names own → left ≡ graph_by names entries
   pub reported : EachReported (λ index. Leads graph index index) (IsCycleAt spans own) (length own) errors
 
--- the error of an entry that refers to an entry whose date can't be parsed
+-- the error of an entry that refers to an entry with an unreadable date
 pub record IsUnreadError (graph : Graph) (entries : List Entry) (index : ℕ) (e : ParseError) : Type 0 where
   pub error : TypeError
   pub unread : IsUnreadDate entries (refs_of graph index) error

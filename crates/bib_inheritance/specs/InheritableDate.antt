@@ -23,19 +23,19 @@ use Rattle.bib_inheritance.specs.EntryTexts.{EntryTexts, FieldTexts, first_some,
 abbrev pub written_date : List ℕ → List Atom
 written_date text = map Atom.normal (chars text)
 
--- the date of an entry: it has none (`undated`), its year, month and day can't be parsed (`unreadable`), or it has a date
--- with this styled text (`dated`)
+-- the date of an entry. It has none (`undated`), or it has a date with this styled text (`dated`). It is `unreadable` if
+-- there is no field `date`, and the year, the month and the day can't be parsed
 pub data InheritableDate : Type 0 where
   undated : InheritableDate
   unreadable : InheritableDate
   dated : List Atom → InheritableDate
 
--- the date in a field `date`: the rewritten text without its time if there is one, or else its own styled text
+-- the date in a field `date`: the rewritten text if the date can be parsed, and the styled text of the field otherwise
 abbrev pub of_one_field : List Atom → Option (List ℕ) → InheritableDate
 of_one_field own None = InheritableDate.dated own
 of_one_field own (Some text) = InheritableDate.dated (written_date text)
 
--- the result of parsing the year, the month and the day of an entry as a date, given the text of the year
+-- the result of parsing the year, the month and the day of an entry as a date; `year` is the text of the year
 abbrev pub three_fields : FieldTexts → List ℕ → Reading Date
 three_fields fields year = three_fields_of year (option_map plain (fields (codes "month"))) (option_map plain (fields (codes "day")))
 
@@ -60,7 +60,7 @@ dated_text (InheritableDate.dated atoms) = Some atoms
 dated_text InheritableDate.undated = None
 dated_text InheritableDate.unreadable = None
 
--- whether there is a date that can't be parsed
+-- whether a date is unreadable
 abbrev pub is_unreadable : InheritableDate → Bool
 is_unreadable InheritableDate.unreadable = true
 is_unreadable InheritableDate.undated = false
@@ -106,7 +106,7 @@ IsPlaceOfDate fields place =
     ≡ three_fields_place (as_text year) (option_map as_text (fields (codes "month")))
     (option_map as_text (fields (codes "day"))))
 
--- if the date can't be parsed, its error has the span given by the fields
+-- if the date is unreadable, its error has the span that the fields determine
 abbrev pub LiesAtDate : FieldChunks → Kept → Type 0
 LiesAtDate fields (Unreadable error) = IsPlaceOfDate fields error.span
 LiesAtDate fields Undated = ⊤

@@ -61,7 +61,7 @@ first_offer fields (name ∷ names) = first_some (fields name) (first_offer fiel
 abbrev pub offer : EntryTexts → List ℕ → Option (List Atom)
 offer reference name = first_offer reference.fields (offer_names reference.entry_type name)
 
--- whether an entry of a type inherits a field of this name from another entry; a container inherits it only if the other
+-- whether an entry of a type inherits a field of this name from another entry. A container inherits it only if the other
 -- entry has a field of exactly this name
 abbrev pub wants : EntryType → EntryTexts → List ℕ → Bool
 wants entry_type reference name = inherits entry_type name && (not (is_container entry_type) || has reference name)

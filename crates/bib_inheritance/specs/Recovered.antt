@@ -1,6 +1,5 @@
 -- Meaning: words of public contracts.
--- Inheritance in a file with errors: entries on cycles lose their references, and dates that can't be parsed are not
--- inherited.
+-- Inheritance in a file with errors: entries on cycles lose their references, and unreadable dates are not inherited.
 use Rattle.std.specs.Prelude.{◌≡◌, ℕ, ◌+◌, true, List, [], ◌∷◌, ◌++◌, length, map, codes, slice_get, Some}
 use Rattle.std.specs.FinMap as by_name
 use Rattle.std.specs.declared.ops.Range.{Range}
@@ -10,7 +9,7 @@ use Rattle.bib_collections.specs.Sorted.{ByText}
 use Rattle.bib_syntax.specs.declared.raw.ParseError.{ParseError}
 use Rattle.bib_inheritance.specs.Resolving.{AllKeepChunks, Inherits, IsCycleAt, IsDateError, graph_by, has_bad_date, texts_of_entries}
 
--- an entry without the fields by which it refers to others
+-- an entry without `crossref` and `xdata`
 abbrev pub without_references : Entry → Entry
 without_references e = record e { fields = by_name.remove (by_name.remove e.fields (codes "crossref")) (codes "xdata") }
 
@@ -32,7 +31,7 @@ pub data EachReported (fails : ℕ → Type 0) (reports : ℕ → ParseError →
 
 -- the entries after inheriting, and the errors. First each entry on a cycle loses its references, and then all entries
 -- inherit. The first errors are those of the entries on cycles, in order. The others are those of the entries that lack a
--- required date and refer to an entry whose date can't be parsed, in order
+-- required date and refer to an entry with an unreadable date, in order
 pub record AreRecovered (spans : List (Range ℕ)) (names : ByText ℕ) (own entries : List Entry) (errors : List ParseError) : Type 0 where
   pub cut : List Entry
   pub are_cut : AreCut (graph_by names own) own cut

@@ -14,7 +14,7 @@ use Rattle.bib_inheritance.specs.EntryTexts.{FieldTexts}
 abbrev pub plain : List Atom → List ℕ
 plain atoms = encode_utf8_all (formatted_atoms false atoms)
 
--- the names that an entry refers to: the text of `crossref`, with white space at its ends, and then the items of the
+-- the names that an entry refers to: the text of `crossref`, including white space at its ends, and then the items of the
 -- comma-separated list `xdata`
 abbrev pub reference_names : FieldTexts → List (List ℕ)
 reference_names fields =

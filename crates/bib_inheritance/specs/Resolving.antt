@@ -34,7 +34,7 @@ texts_of_entries = map texts_of_entry
 abbrev pub at_index : List EntryTexts → ℕ → EntryTexts
 at_index values index = slice_index_or values index no_entry
 
--- the entry at an index after inheriting, given the own entries and its references
+-- the entry at an index after inheriting, from the own entries and its references
 abbrev pub rule_by : List EntryTexts → ℕ → List EntryTexts → EntryTexts
 rule_by own index references = with_inherited_fields (at_index own index) references
 
@@ -42,15 +42,16 @@ rule_by own index references = with_inherited_fields (at_index own index) refere
 abbrev pub Inherits : List EntryTexts → Graph → List EntryTexts → Type 0
 Inherits own graph values = Solves no_entry (rule_by own) graph values
 
--- whether the entry at an index has a date that can't be parsed
+-- whether the entry at an index has an unreadable date: it has `year` but no `date`, and its year, month and day can't be
+-- parsed
 abbrev pub is_bad_date : List EntryTexts → ℕ → Bool
 is_bad_date values index = is_unreadable (inheritable_date (at_index values index).fields)
 
--- whether the own entry at an index lacks a required date, and refers to an entry whose date can't be parsed
+-- whether the own entry at an index lacks a required date, and refers to an entry with an unreadable date
 abbrev pub has_bad_date : List EntryTexts → Graph → List EntryTexts → ℕ → Bool
 has_bad_date own graph values index = looks_for_date (at_index own index) && list_any (is_bad_date values) (refs_of graph index)
 
--- no entry that lacks a required date refers to an entry whose date can't be parsed
+-- no entry that lacks a required date refers to an entry with an unreadable date
 abbrev pub AreDatesRead : List EntryTexts → Graph → List EntryTexts → Type 0
 AreDatesRead own graph values = (index : ℕ) → has_bad_date own graph values index ≡ false
 
@@ -59,9 +60,9 @@ abbrev pub KeepsChunks : Entry → Entry → Type 0
 KeepsChunks own entry = (name : List ℕ) (chunks : List (Spanned Chunk)) → by_name.get own.fields name ≡ Some chunks
     → (by_name.get entry.fields name ≡ Some chunks) ⊎ (by_name.get entry.fields name ≡ None)
 
--- `place` is the span of the date error of the entry at an index. It is given by the year, the month and the day of some
--- entry with the inherited value and the chunks of the own entry. An own year, month or day thus has its span in the file. An
--- inherited one, which only an `xdata` entry has, may have any span
+-- `place` is the span of the date error of the entry at an index. It is determined by the year, the month and the day of
+-- some entry with the inherited value and the chunks of the own entry. The chunks of an own year, month or day thus have
+-- their spans in the file. Inherited ones, which only an `xdata` entry has, may have any span
 pub record IsPlaceAt (own : List Entry) (values : List EntryTexts) (index : ℕ) (place : Range ℕ) : Type 0 where
   pub written : Entry
   pub there : slice_get own index ≡ Some written
@@ -70,7 +71,7 @@ pub record IsPlaceAt (own : List Entry) (values : List EntryTexts) (index : ℕ)
   pub keeps : KeepsChunks written entry
   pub lies : IsPlaceOfDate (by_name.get entry.fields) place
 
--- the error of the entry at an index, whose references include one with a date that can't be parsed: that of the first such
+-- the error of the entry at an index, whose references include one with an unreadable date: that of the first such
 -- reference. Its span is that of this date, and its kind is one that dates have and that parsing the year, month and day may
 -- report
 pub record IsDateError (own : List Entry) (graph : Graph) (values : List EntryTexts) (index : ℕ) (e : ParseError) : Type 0 where
@@ -82,14 +83,14 @@ pub record IsDateError (own : List Entry) (graph : Graph) (values : List EntryTe
   pub of_dates : IsDateKind kind
   pub place : IsPlaceAt own values reference e.span
 
--- entries keep the chunks of the own entries at the same indices
+-- each entry keeps the chunks of the own entry at the same index, as `KeepsChunks` states
 abbrev pub AllKeepChunks : List Entry → List Entry → Type 0
 AllKeepChunks own entries =
     (index : ℕ) (written entry : Entry) → slice_get own index ≡ Some written → slice_get entries index ≡ Some entry
     → KeepsChunks written entry
 
--- the entries after inheriting along `graph`: keys are unchanged, own chunks are kept, and the fields solve the inheritance
--- equation
+-- the entries after inheriting along `graph`: keys are unchanged, own fields that remain keep their chunks, and the fields
+-- solve the inheritance equation
 pub record HaveInherited (own : List Entry) (graph : Graph) (entries : List Entry) : Type 0 where
   pub keys : map (λ e. e.key) entries ≡ map (λ e. e.key) own
   pub inherits : Inherits (texts_of_entries own) graph (texts_of_entries entries)
@@ -109,8 +110,8 @@ pub record IsCycleAt (spans : List (Range ℕ)) (own : List Entry) (index : ℕ)
   pub stands : slice_get spans index ≡ Some span
   pub is : e ≡ record { span = span; kind = ReferenceCycle entry.key }
 
--- the error of inheriting: that of the first entry on a cycle; if there is none, that of the first entry that lacks a
--- required date and refers to an entry whose date can't be parsed
+-- the error of inheriting: that of the first entry on a cycle. If there is none, it is that of the first entry that lacks a
+-- required date and refers to an entry with an unreadable date
 pub data IsResolvingError (spans : List (Range ℕ)) (own : List Entry) (graph : Graph) (e : ParseError) : Type 0 where
   cycle : {index : ℕ} → IsFirstOnCycle graph index → IsCycleAt spans own index e → IsResolvingError spans own graph e
   date : {values : List EntryTexts} {index : ℕ} → HasNoCycle graph → Inherits (texts_of_entries own) graph values

@@ -1,5 +1,5 @@
 -- Machinery: words of private contracts.
--- Resolving one entry, cached dates, and the first date that can't be parsed.
+-- Resolving one entry, cached dates, and the first unreadable date.
 use Rattle.std.specs.Prelude.{◌≡◌, ℕ, ◌<◌, ◌⊎◌, Bool, true, false, ◌&&◌, List, slice_get, slice_index_or, find, length, Option, IsNone, IsSome, Some, None}
 use Rattle.std.specs.List.{Contains, list_any}
 use Rattle.std.specs.FinMap as by_name
@@ -36,14 +36,14 @@ inheritable_chunks (Some Undated) = None
 inheritable_chunks (Some (Unreadable error)) = None
 inheritable_chunks None = None
 
--- the error of a date that was computed and can't be parsed
+-- the error of a date that was computed and is unreadable
 abbrev pub error_in : Option Kept → Option TypeError
 error_in (Some (Unreadable error)) = Some error
 error_in (Some Undated) = None
 error_in (Some (Dated chunks)) = None
 error_in None = None
 
--- `date` is the date of the entry at an index; the span of its error is given by the fields of the entry
+-- `date` is the date of the entry at an index; the span of its error is determined by the fields of the entry
 pub record IsDateAt (entries : List Entry) (index : ℕ) (date : Kept) : Type 0 where
   pub is : IsInheritableDate (at_index (texts_of_entries entries) index).fields date
   pub entry : Entry
@@ -68,7 +68,7 @@ pub record IsEmptyCache (count : ℕ) (dates : Dates) : Type 0 where
 abbrev pub AddsAmong : List ℕ → Dates → Dates → Type 0
 AddsAmong indices old new = (index : ℕ) → IsSome (date_at new index) → IsSome (date_at old index) ⊎ Contains indices index
 
--- the error of the first of these entries whose date can't be parsed
+-- the error of the first of these entries that has an unreadable date
 pub record IsUnreadDate (entries : List Entry) (indices : List ℕ) (error : TypeError) : Type 0 where
   pub reference : ℕ
   pub first : find (is_bad_date (texts_of_entries entries)) indices ≡ Some reference
@@ -77,11 +77,11 @@ pub record IsUnreadDate (entries : List Entry) (indices : List ℕ) (error : Typ
   pub there : slice_get entries reference ≡ Some entry
   pub lies : IsPlaceOfDate (by_name.get entry.fields) error.span
 
--- whether an entry is flagged and refers to an entry whose date can't be parsed
+-- whether an entry is flagged and refers to an entry with an unreadable date
 abbrev pub is_unread_at : List Bool → Graph → List EntryTexts → ℕ → Bool
 is_unread_at looks graph values index = slice_index_or looks index false && list_any (is_bad_date values) (refs_of graph index)
 
--- the error of the first entry that is flagged and refers to an entry whose date can't be parsed
+-- the error of the first entry that is flagged and refers to an entry with an unreadable date
 pub record IsFirstUnread (looks : List Bool) (graph : Graph) (entries : List Entry) (error : TypeError) : Type 0 where
   pub index : ℕ
   pub flagged : slice_index_or looks index false ≡ true

@@ -1,4 +1,4 @@
-//! The dates of entries that other entries may inherit. Each is computed once.
+//! The dates of entries that other entries may inherit. Each is computed at most once.
 
 ghost use Rattle.std.specs.Prelude.{◌≡◌, ◌<◌, ◌⊎◌, ℕ, IfOk, IsNone, IsSome, OnOk, length, map, option_map};
 ghost use Rattle.std.specs.List.{All, Contains};
@@ -38,7 +38,7 @@ fn inheritable_chunks(date: &Option<InheritableDate>) -> Option<&Chunks>
     }
 }
 
-// Returns the error if the date was computed and can't be parsed.
+// Returns the error if the date was computed and is unreadable.
 pub(crate) fn error(date: &Option<InheritableDate>) -> Option<&TypeError>
     ensures { option_copied result ≡ error_in date.now }
 {

@@ -27,7 +27,7 @@ fn is_kept_back(name: &str) -> bool
     matches!(name, "title" | "addendum" | "note")
 }
 
-// Returns whether entries of this type are only containers of fields, which inherit any field.
+// Returns whether entries of this type are only containers of fields.
 fn is_container(entry_type: &EntryType) -> bool
     ensures { result ≡ is_container entry_type.now }
 {
@@ -71,7 +71,8 @@ fn gather_groups<'a>(
     Ok(())
 }
 
-// Inserts the fields that `reference` offers for the names that an entry of type `entry_type` inherits.
+// Inserts the fields that `reference` offers for the names that the rules of `entry_type` require or allow, except for names that are
+// never inherited.
 fn gather_inheritable<'a>(
     entry_type: &EntryType,
     reference: &Reference<'a>,
@@ -100,8 +101,8 @@ fn names_of<'a>(alloc: Global, fields: &'a TextMap<Chunks>) -> Result<Vec<&'a st
     Ok(names)
 }
 
-// Inserts the fields that an entry of type `entry_type` inherits from `reference`. An `xdata` entry inherits any field that
-// the reference has, except for those that are never inherited.
+// Inserts the fields that an entry of type `entry_type` inherits from `reference`. An `xdata` entry inherits under each name
+// that the reference has, except for names that are never inherited.
 fn gather_reference<'a>(
     alloc: Global,
     entry_type: &EntryType,

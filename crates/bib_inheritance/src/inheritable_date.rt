@@ -113,9 +113,9 @@ fn from_one_field(alloc: Global, date: &Chunks) -> Result<Chunks, AllocError>
 /// The date of an entry that other entries can inherit.
 #[derive(Drop)]
 pub enum InheritableDate {
-    /// The entry has no date.
+    /// The entry has neither `date` nor `year`.
     Undated,
-    /// The year, month and day can't be parsed, because of this error.
+    /// The entry has no `date`, and its `year`, `month` and `day` can't be parsed, because of this error.
     Unreadable(TypeError),
     /// The entry has this date. A date that can be parsed is rewritten without its time. A field `date` that can't be parsed
     /// is copied.

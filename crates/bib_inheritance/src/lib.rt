@@ -5,16 +5,16 @@
 //! borders of chunks. Own fields that an entry keeps have the same chunks as before.
 //!
 //! For one entry, `reference_names` finds the entries that it refers to. `offers` decides which field of such an entry
-//! provides a missing field. `gathering` collects the fields that all references offer in a map, from the last reference to
+//! provides a missing field. `gathering` collects in a map the fields that the references offer, from the last reference to
 //! the first, and copies those that the entry lacks. `inheritable_date` finds the date that can be inherited, and
-//! `inheriting` adds the copies and the date to the entry. A repeated reference counts once.
+//! `inheriting` adds the copies and the date to the entry. Only the first occurrence of a repeated reference offers fields.
 //!
 //! For a bibliography, `reference_indices` builds the graph of references, and `turning` resolves the entries in topological
 //! order. An entry without references and without `xdata` is left unchanged. `dates` computes the date of an entry when
 //! another entry first needs it, and caches it by the index of the entry. The entry was resolved before, so its date doesn't
-//! change afterwards. When all entries are resolved, `unread` searches for dates that can't be parsed; most of them are
-//! cached by then. `resolving` and `recovering` are the entry points: the first stops at an error, and the second collects
-//! the errors.
+//! change afterwards. When all entries are resolved, `unread` searches for unreadable dates (see `InheritableDate`); most
+//! dates are cached by then. `resolving` and `recovering` are the entry points: the first stops at an error, and the second
+//! collects the errors.
 #![tactic(auto)]
 
 mod dates;

@@ -22,7 +22,7 @@ use bib_entry::entry::Entry;
 use bib_syntax::raw::ParseError;
 use std::alloc::{AllocError, Global};
 
-// Removes the fields by which an entry refers to others.
+// Removes `crossref` and `xdata`.
 fn cut(entry: &mut Entry)
     ensures { entry.new ≡ without_references entry.old }
 {
@@ -98,7 +98,7 @@ fn order_and_cycles(
     }
 }
 
-// Returns an error for each entry that is flagged in `looks` and refers to an entry whose date can't be parsed.
+// Returns an error for each entry that is flagged in `looks` and refers to an entry with an unreadable date.
 fn date_errors(
     alloc: Global,
     refs: &[Vec<usize>],
@@ -126,12 +126,13 @@ fn date_errors(
     Ok(errors)
 }
 
-/// Adds to each entry the fields that it inherits, and returns all errors. `names` points to the entries, and `spans`
-/// contains the span of each entry in the file.
+/// Adds to each entry the fields that it inherits, removes its `xdata`, and returns all errors. `names` points to the
+/// entries, and `spans` contains the span of each entry in the file.
 ///
 /// Each entry that refers to itself, directly or through others, is reported (`ReferenceCycle`, at the entry), and loses its
-/// `crossref` and `xdata`. Then each entry is reported that lacks a required date and refers to an entry whose date can't be
-/// parsed (`ResolutionError`). Such a date is not inherited. Both kinds of errors are in the order of the entries.
+/// `crossref` and `xdata`. Then each entry is reported that lacks a required date and refers to an entry with an unreadable
+/// date (`ResolutionError`). A date is unreadable if the entry has no `date`, and its `year`, `month` and `day` can't be
+/// parsed. It is not inherited. Both kinds of errors are in the order of the entries.
 ///
 /// The only returned error is out of memory. Some entries may then have changed, and one may have lost its fields.
 pub fn resolve_readable(

@@ -61,7 +61,7 @@ fn order(
     }
 }
 
-// Returns the error of resolving a date that can't be parsed.
+// Returns the error of resolving an unreadable date.
 pub(crate) fn resolution_error(error: TypeError) -> ParseError
     ensures { result ≡ record { span = error.span; kind = ADate error.kind } }
 {
@@ -71,13 +71,14 @@ pub(crate) fn resolution_error(error: TypeError) -> ParseError
     }
 }
 
-/// Adds to each entry the fields that it inherits, and returns the indices of the entries in the order in which they
-/// inherited. `names` points to the entries, and `spans` contains the span of each entry in the file.
+/// Adds to each entry the fields that it inherits, removes its `xdata`, and returns the indices of the entries in the order
+/// in which they inherited. `names` points to the entries, and `spans` contains the span of each entry in the file.
 ///
 /// The error is that of the first entry that refers to itself, directly or through others (`ReferenceCycle`, at the entry).
-/// If there is none, it is that of the first entry that lacks a required date and refers to an entry whose date can't be
-/// parsed (`ResolutionError`). Its span is then that of the first of the year, month and day that can't be parsed. For a day
-/// after the month, it is that of the digits, in bytes of the month's text.
+/// If there is none, it is that of the first entry that lacks a required date and refers to an entry with an unreadable date
+/// (`ResolutionError`). A date is unreadable if the entry has no `date`, and its `year`, `month` and `day` can't be parsed.
+/// The span is then that of the first of these fields that can't be parsed. For a day in the field `month`, it is that of
+/// its digits, in bytes of that field's text.
 ///
 /// After an error, some entries may be resolved. After out of memory, one entry may have lost its fields.
 pub fn resolve(

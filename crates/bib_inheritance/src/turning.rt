@@ -115,7 +115,8 @@ fn date_at(
     last_date(alloc, indices, entries, dates)
 }
 
-// Adds the fields in `given`, and the inherited date if there is one, to an entry.
+// Adds the fields in `given` that an entry lacks, and the inherited date if there is one, and removes `xdata`. If memory
+// runs out, the entry loses its fields.
 fn set_gain(
     alloc: Global,
     entry: &mut Entry,

@@ -1,4 +1,4 @@
-//! Dates that can't be parsed, among the references of entries that lack a required date.
+//! Unreadable dates among the references of entries that lack a required date.
 
 ghost use Rattle.std.specs.Prelude.{◌≡◌, ◌<◌, ℕ, false, IfOk, MatchOption, length};
 ghost use Rattle.std.specs.List.{All, list_any};
@@ -13,7 +13,7 @@ use bib_entry::entry::Entry;
 use bib_tables::type_error::TypeError;
 use std::alloc::{AllocError, Global};
 
-// Returns the error of the first of these entries whose date can't be parsed.
+// Returns the error of the first of these entries that has an unreadable date.
 pub(crate) fn first_unread(
     alloc: Global,
     indices: &[usize],
@@ -36,7 +36,7 @@ pub(crate) fn first_unread(
     Ok(None)
 }
 
-// Returns the error of the first entry that is flagged in `looks` and refers to an entry whose date can't be parsed.
+// Returns the error of the first entry that is flagged in `looks` and refers to an entry with an unreadable date.
 pub(crate) fn unread_date(
     alloc: Global,
     refs: &[Vec<usize>],

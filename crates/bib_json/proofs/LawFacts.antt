@@ -8,6 +8,7 @@ use Rattle.std.specs.FinMap.Entries.{below_all}
 use Rattle.std.specs.Option.{option_or}
 use Rattle.std.specs.Ordering.{is_eq, is_lt}
 use Rattle.std.specs.Prelude.{◌&&◌, bytes_eq, T}
+use Rattle.bib_text.proofs.OptionFacts.{or_none}
 use Rattle.bib_chunks.specs.Values.{Value}
 use Rattle.bib_collections.specs.Sorted.{ByText, by_bytes}
 use Rattle.serde_json.proofs.Views.{get_member-put, get_member-put_other}
@@ -58,13 +59,9 @@ found_among (field ∷ rest) ms name p =
     option_or (option_map (field_json name) (cond b (Some field.1) (find by_bytes name rest)))
     (get_member name ms)) (sym (is_eq-slice_cmp name field.0))
 
-without_else : {A : Type 0} (o : Option A) → option_or o None ≡ o
-without_else None = refl
-without_else (Some x) = refl
-
 -- a field is found in the object of all fields
 pub found_field : (fields : ByText Value) (name : List ℕ)
     → get name (fields_json fields) ≡ option_map (field_json name) (by_name.get fields name)
 found_field fields name =
-    found_among (entries fields) no_members name (entries_sorted fields) ∙ without_else _
+    found_among (entries fields) no_members name (entries_sorted fields) ∙ or_none _
     ∙ ap (λ o. option_map (field_json name) o) (sym (get-entries fields name))

@@ -1,10 +1,11 @@
 -- No part of an entry is a float, so the text of its object is known; and none lies deep, so that text is read again.
-use Rattle.std.proofs.Common.{◌≡◌, ℕ, suc, ◌≤◌, arith, List, [], ◌∷◌, map, ℤ, pos, negsuc, Bool, true, false, ◌||◌, true≢false, if◌then◌else◌, Option, Some, None, option_map, option_and_then, unwrap_or, Ordering, Less, Equal, Greater, nat_cmp, refl}
+use Rattle.std.proofs.Common.{◌≡◌, ℕ, suc, ◌≤◌, arith, List, [], ◌∷◌, map, ℤ, pos, negsuc, Bool, true, false, if◌then◌else◌, Option, Some, None, option_map, option_and_then, unwrap_or, Ordering, Less, Equal, Greater, nat_cmp, refl}
 use Rattle.std.proofs.Math.Nat.{le-max_left, le-max_right, max-le}
 use Rattle.std.specs.Cmp.Lexicographic.{slice_cmp}
 use Rattle.std.specs.Ordering.{match_ordering}
 use Rattle.std.specs.FinMap.{entries}
 use Rattle.std.specs.declared.ops.Range.{Range}
+use Rattle.std.proofs.lemmas.Bool.{or_from}
 use Rattle.bib_chunks.specs.Cuts.{and_list}
 use Rattle.bib_chunks.specs.Values.{Value}
 use Rattle.bib_chunks.specs.declared.chunk.Chunk.{Chunk}
@@ -17,6 +18,7 @@ use Rattle.bib_tables.specs.declared.types.lang.Language.{Language as ALanguage}
 use Rattle.bib_people.specs.People.{people_of}
 use Rattle.bib_people.specs.declared.person.Person.{Person}
 use Rattle.bib_text.specs.declared.spanned.Spanned.{Spanned}
+use Rattle.bib_text.proofs.BoolFacts.{or_false_left, or_false_right}
 use Rattle.bib_values.specs.Enumerations.{pagination_read, gender_read, language_read}
 use Rattle.bib_values.specs.Lists.{strings_read}
 use Rattle.bib_values.specs.Numbers.{number_read}
@@ -56,18 +58,6 @@ abbrev AreGivenPlain : ℕ → List Member → Type 0
 AreGivenPlain n [] = Unit {0}
 AreGivenPlain n (m ∷ rest) = IsPlainIfGiven n m.1 × AreGivenPlain n rest
 
-neither : (a b : Bool) → a ≡ false → b ≡ false → (a || b) ≡ false
-neither false b p q = q
-neither true b p q = p
-
-first_of : (a b : Bool) → (a || b) ≡ false → a ≡ false
-first_of false b p = refl
-first_of true b p = p
-
-second_of : (a b : Bool) → (a || b) ≡ false → b ≡ false
-second_of false b p = p
-second_of true b p = absurd (true≢false p)
-
 at_most_one_more : (a b n : ℕ) → a ≤ b → b ≤ n → a ≤ n
 at_most_one_more a b n p q = omega arith
 
@@ -79,19 +69,19 @@ one_less a p = omega arith
 
 -- a member before others, and what these two are
 before_plain : {n : ℕ} (k : List ℕ) (d : Data) (ms : Members) → IsPlain n d → ArePlain n ms → ArePlain n (member k d ms)
-before_plain k d ms p q = record { no_float = neither _ _ p.no_float q.no_float; shallow = max-le p.shallow q.shallow }
+before_plain k d ms p q = record { no_float = or_from _ _ p.no_float q.no_float; shallow = max-le p.shallow q.shallow }
 
 first_plain : {n : ℕ} (k : List ℕ) (d : Data) (ms : Members) → ArePlain n (member k d ms) → IsPlain n d
 first_plain {n} k d ms p =
     record {
-      no_float = first_of (has_float d) (members_have_float ms) p.no_float;
+      no_float = or_false_left (has_float d) (members_have_float ms) p.no_float;
       shallow = at_most_one_more (depth d) _ n (le-max_left (depth d) (members_depth ms)) p.shallow;
     }
 
 rest_plain : {n : ℕ} (k : List ℕ) (d : Data) (ms : Members) → ArePlain n (member k d ms) → ArePlain n ms
 rest_plain {n} k d ms p =
     record {
-      no_float = second_of (has_float d) (members_have_float ms) p.no_float;
+      no_float = or_false_right (has_float d) (members_have_float ms) p.no_float;
       shallow = at_most_one_more (members_depth ms) _ n (le-max_right (depth d) (members_depth ms)) p.shallow;
     }
 
@@ -130,7 +120,7 @@ items_plain : {n : ℕ} {T : Type 0} (element : T → Data) (elements : List T) 
 items_plain element [] p = (refl, omega arith)
 items_plain element (x ∷ xs) p =
     let rest = items_plain element xs p in
-    (neither _ _ (p x).no_float rest.0, max-le (p x).shallow rest.1)
+    (or_from _ _ (p x).no_float rest.0, max-le (p x).shallow rest.1)
 
 array_plain : {n : ℕ} {T : Type 0} (element : T → Data) (elements : List T) → ((x : T) → IsPlain n (element x))
     → IsPlain (suc n) (array_of element elements)

@@ -12,7 +12,7 @@ abbrev pub array_text : List (List ℕ) → List ℕ
 array_text [] = codes "[]\n"
 array_text (element ∷ rest) = codes "[\n" ++ (element ++ further_elements rest)
 
--- the text before an element: the start of the array before the first one, and a comma before the others
+-- the text before an element: `[` and a line feed before the first one, and `,` and a line feed before the others
 abbrev pub before_element : Bool → List ℕ
 before_element is_first = if is_first then codes "[\n" else codes ",\n"
 

@@ -15,7 +15,7 @@ kind_name (Normal text) = codes "normal"
 kind_name (Verbatim text) = codes "verbatim"
 kind_name (Math text) = codes "math"
 
--- a byte offset in the source; `None` for a chunk that isn't in it, given the start of the chunk
+-- a byte offset in the source; `None` for a chunk that isn't in it. `start` is the start of the chunk.
 abbrev pub byte_unless_nowhere : ℕ → ℕ → Option Data
 byte_unless_nowhere start byte = if start == 2 ^ 64 - 1 then None else Some (number (unsigned byte))
 

@@ -59,14 +59,14 @@ date_kind (After d) = codes "after"
 date_kind (Before d) = codes "before"
 date_kind (Between d e) = codes "between"
 
--- the only date, or the start of a range
+-- the only date, or the start of a range, if it has one
 abbrev pub date_start : DateValue → Option Datetime
 date_start (At d) = Some d
 date_start (After d) = Some d
 date_start (Before d) = None
 date_start (Between d e) = Some d
 
--- the end of a range
+-- the end of a range, if it has one
 abbrev pub date_end : DateValue → Option Datetime
 date_end (At d) = None
 date_end (After d) = None

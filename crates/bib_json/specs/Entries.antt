@@ -13,7 +13,7 @@ use Rattle.serde_json.specs.Written.{compact_text, outline}
 use Rattle.bib_json.specs.Fields.{fields_json}
 use Rattle.bib_json.specs.Objects.{Member, object_of}
 
--- the name of an entry type: for an unknown type, its name in the source, in lowercase
+-- the name of an entry type; for an unknown type, its name in the source, with ASCII letters in lowercase
 abbrev pub type_text : EntryType → List ℕ
 type_text (Unknown name) = name
 type_text type = entry_type_name type

@@ -3,7 +3,7 @@
 ghost use Rattle.std.specs.Prelude.{◌≡◌};
 ghost use Rattle.bib_json.specs.Arrays as spec;
 
-/// Returns the text before an element of the array: the start of the array before the first one, and a comma before the others.
+/// Returns the text before an element of the array: `[` and a line feed before the first one, and `,` and a line feed before the others.
 pub fn before_element(is_first: bool) -> &'static str
     ensures { result.now ≡ spec.before_element is_first }
 {

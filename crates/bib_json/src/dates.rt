@@ -99,7 +99,7 @@ fn kind_name(value: DateValue) -> &'static str
     }
 }
 
-// Returns the only date, or the start of a range.
+// Returns the only date, or the start of a range, if it has one.
 fn start_of(value: DateValue) -> Option<Datetime>
     ensures { result ≡ spec.date_start value }
 {

@@ -13,7 +13,7 @@ use bib_tables::mechanics::EntryType;
 use serde_json::{Map, Value};
 use std::alloc::{AllocError, Global};
 
-// Returns the name of an entry type: for an unknown type, its name in the source, in lowercase.
+// Returns the name of an entry type. For an unknown type, this is its name in the source, with ASCII letters in lowercase.
 fn type_name(entry_type: &EntryType) -> &str
     ensures { result.now ≡ spec.type_text entry_type.now }
 {
@@ -23,8 +23,8 @@ fn type_name(entry_type: &EntryType) -> &str
     }
 }
 
-/// Returns an entry as a JSON object: its type, its key, and its fields by their names. Each field has its chunks and, if it
-/// could be parsed, its value.
+/// Returns an entry as a JSON object: its type, its key, and its fields by their names. Each field has its chunks, and its value if
+/// the field has a type and can be parsed.
 pub fn entry_json(alloc: Global, entry: &Entry) -> Result<Value, AllocError>
     ensures { IfOk result (λ value. view value ≡ spec.entry_object entry.now) }
 {

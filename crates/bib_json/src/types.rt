@@ -125,7 +125,7 @@ fn single_type(name: &str) -> Option<ValueType>
     }
 }
 
-/// Returns the type of the field with this name, in lowercase, if it has one.
+/// Returns the type of the field `name`, a name in lowercase, or `None` if the field has no type.
 pub fn value_type(name: &str) -> Option<ValueType>
     ensures { result ≡ spec.value_type name.now }
 {

@@ -2,10 +2,10 @@
 use Rattle.std.proofs.Common.{◌≡◌, ℕ, suc, zero, ◌+◌, ◌<◌, true, cond, List, [], ◌∷◌, ◌++◌, length, drop, get_or, sym, ◌∙◌, ap, subst, arith, refl, add-one, append_assoc}
 use Rattle.std.specs.Prelude.{encode_utf8}
 use Rattle.std.proofs.lemmas.Str.{encode_ascii}
+use Rattle.std.proofs.lemmas.Bool.{and_parts}
 use Rattle.bib_keys.specs.Bases.{cleaned_after, is_kept}
 use Rattle.bib_keys.specs.Characters.{is_in_keys}
 use Rattle.bib_keys.proofs.PatternFacts.{in_keys_ascii}
-use Rattle.bib_keys.proofs.YearFacts.{and_both}
 
 -- the rest of a list from an index on
 rest_from : (l : List ℕ) (i d : ℕ) → i < length l → drop i l ≡ get_or l i d ∷ drop (i + 1) l
@@ -22,7 +22,7 @@ pub kept : (last i : ℕ) (bytes text out longer : List ℕ) → bytes ≡ text 
 kept last i bytes text out longer same within stays pushed =
     let c : ℕ = get_or bytes i 0 in
     let after : List ℕ = cleaned_after c (drop (i + 1) bytes) in
-    let ascii = encode_ascii c (in_keys_ascii c (and_both (is_in_keys c) _ stays).0) in
+    let ascii = encode_ascii c (in_keys_ascii c (and_parts (is_in_keys c) _ stays).0) in
     subst (λ l. out ++ cleaned_after last (drop i l) ≡ longer ++ cleaned_after c (drop (i + 1) l)) same
     (ap (λ l. out ++ cleaned_after last l) (rest_from bytes i 0 within)
     ∙ ap (λ b. out ++ cond b (c ∷ after) (cleaned_after last (drop (i + 1) bytes))) stays ∙ sym (append_assoc out (c ∷ []) after)

@@ -16,9 +16,10 @@ use Rattle.std.proofs.lemmas.Map.Steps.{le-length_from_below}
 use Rattle.std.proofs.lemmas.Map.Text.{is_eq-slice_cmp}
 use Rattle.std.proofs.lemmas.Slice.Eq.{bytes_eq-Decides}
 use Rattle.std.specs.Map.{keys_of}
+use Rattle.std.proofs.lemmas.Bool.{eq-eqb}
+use Rattle.bib_text.proofs.ListFacts.{any_mapped}
 use Rattle.bib_keys.specs.Keys.{IsSuffix}
 use Rattle.bib_keys.specs.Taken.{AreTakenBelow}
-use Rattle.bib_keys.proofs.WordFacts.{any_of_map}
 
 -- the number of a suffix, whose letters follow those with the number `n`
 spelled : ℕ → List ℕ → ℕ
@@ -83,10 +84,6 @@ any_weaker p q weaker (x ∷ xs) h = of (p x) refl (weaker x) (any_weaker p q we
 same_name : (a b : List ℕ) → is_eq (slice_cmp nat_cmp a b) ≡ true → a ≡ b
 same_name a b h = (bytes_eq-Decides a b).0 (sym (is_eq-slice_cmp a b) ∙ h)
 
--- the test of equal numbers
-equal : (a b : ℕ) → a ≡ b → eqb a b ≡ true
-equal a b h = grind (arith, nat_tests)
-
 -- a map has no fewer names than numbers below which all suffixes are taken
 pub number_bound : (taken : BTreeMap (String Global) ℕ) (text : List ℕ) (number : ℕ) → AreTakenBelow (get_by_text taken) text number
     → number ≤ btree_map_len taken
@@ -105,7 +102,7 @@ number_bound taken text number all =
           let there : list_any is_at_low (keys_of taken.entries) ≡ true =
           sym (is_some-lookup is_at_low taken.entries)
           ∙ all q other below (record { suffix = suffix.0; numbered = suffix.1; is = refl }) in
-          any_of_map name_number (eqb q) (keys_of taken.entries)
+          any_mapped name_number (eqb q) (keys_of taken.entries)
           ∙ any_weaker is_at_low (λ k. eqb q (name_number k))
           (λ k at. same_number q k suffix.0 suffix.1 (same_name low (string_bytes k) at))
           (keys_of taken.entries) there where
@@ -120,4 +117,4 @@ number_bound taken text number all =
                 ∙ ap (λ m. drop m (str_to_ascii_lowercase text ++ letters)) (sym (length-map text to_ascii_lowercase))
                 ∙ drop-append_seam (str_to_ascii_lowercase text) letters in
                 let number : spelled 0 (drop (length text) (string_bytes k)) ≡ n = ap (spelled 0) rest ∙ spells_number n letters is in
-                equal n (spelled 0 (drop (length text) (string_bytes k))) (sym number)
+                eq-eqb n (spelled 0 (drop (length text) (string_bytes k))) (sym number)

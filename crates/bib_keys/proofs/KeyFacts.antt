@@ -10,6 +10,7 @@ use Rattle.std.proofs.lemmas.List.Elements.{All-push}
 use Rattle.std.proofs.lemmas.List.Quantifiers.{all_pairs_push}
 use Rattle.std.proofs.lemmas.List.Folds.{list_any-append, list_any_at}
 use Rattle.std.proofs.lemmas.Slice.Eq.{bytes_eq-Decides}
+use Rattle.std.proofs.lemmas.Bool.{or_right, cases_lt, cases_Bool}
 use Rattle.bib_entry.specs.declared.entry.Entry.{Entry}
 use Rattle.bib_keys.specs.Bases.{pattern_text}
 use Rattle.bib_keys.specs.Characters.{CanServeAsKey}
@@ -34,19 +35,10 @@ pub one_with_suffix : (n : ℕ) (text a b : List ℕ) → HasSuffix n text a →
 one_with_suffix n text a b one other =
     one.is ∙ ap (λ s. text ++ s) (one_suffix n n one.suffix other.suffix one.numbered other.numbered refl) ∙ sym other.is
 
--- a number is below another or not
-pub below_or_not : (a b : ℕ) → (a < b) ⊎ (b ≤ a)
-below_or_not a b = grind arith
-
--- a test is true or false
-bool_cases : (b : Bool) → (b ≡ true) ⊎ (b ≡ false)
-bool_cases true = inl refl
-bool_cases false = inr refl
-
 -- one more number whose suffix gives a key that is taken
 pub more_taken : (taken : Numbers) (text key : List ℕ) (number : ℕ) → AreTakenBelow taken text number → HasSuffix number text key
     → is_key_taken taken key ≡ true → AreTakenBelow taken text (number + 1)
-more_taken taken text key number before has this n other below has_other = of (below_or_not n number) where
+more_taken taken text key number before has this n other below has_other = of (cases_lt n number) where
   of : (n < number) ⊎ (number ≤ n) → is_key_taken taken other ≡ true
   of (inl less) = before n other less has_other
   of (inr not_less) =
@@ -84,7 +76,7 @@ text_taken taken text key (suc n) new = inr (new.first 0 text (omega arith) (no_
 pub now_taken : (m0 m1 m2 : Numbers) (text key : List ℕ) (number : ℕ) → IsFirstFree m0 text number key
     → SetsNumber m0 m1 (str_to_ascii_lowercase text) (number + 1) → SetsNumber m1 m2 (str_to_ascii_lowercase key) 1
     → (other : List ℕ) → is_key_taken m2 other ≡ (str_eq_ignore_ascii_case key other || is_key_taken m0 other)
-now_taken m0 m1 m2 text key number new one two other = of (bool_cases (bytes_eq k q)) (bool_cases (bytes_eq t q)) where
+now_taken m0 m1 m2 text key number new one two other = of (cases_Bool (bytes_eq k q)) (cases_Bool (bytes_eq t q)) where
   k : List ℕ
   k = str_to_ascii_lowercase key
 
@@ -118,25 +110,20 @@ now_taken m0 m1 m2 text key number new one two other = of (bool_cases (bytes_eq 
       ∙ ap (λ b. is_some (cond b (Some (number + 1)) (m0 q))) other_text
       ∙ sym (ap (λ b. b || is_some (m0 q)) differs)
 
--- a key that was taken stays taken
-still_taken : (a b : Bool) → b ≡ true → (a || b) ≡ true
-still_taken true b h = refl
-still_taken false b h = h
-
 -- the suffixes with smaller numbers are taken then too
 pub now_closed : (m0 m1 m2 : Numbers) (text key : List ℕ) (number : ℕ) → AreBelowTaken m0 → IsFirstFree m0 text number key
     → SetsNumber m0 m1 (str_to_ascii_lowercase text) (number + 1) → SetsNumber m1 m2 (str_to_ascii_lowercase key) 1 → AreBelowTaken m2
 now_closed m0 m1 m2 text key number closed new one two = record {
   below = λ found base has n other below suffixed.
       of found n base other has below suffixed
-      (bool_cases (bytes_eq (str_to_ascii_lowercase key) (str_to_ascii_lowercase base)))
-      (bool_cases (bytes_eq (str_to_ascii_lowercase text) (str_to_ascii_lowercase base)));
+      (cases_Bool (bytes_eq (str_to_ascii_lowercase key) (str_to_ascii_lowercase base)))
+      (cases_Bool (bytes_eq (str_to_ascii_lowercase text) (str_to_ascii_lowercase base)));
 } where
   others : (other : List ℕ) → is_key_taken m2 other ≡ (str_eq_ignore_ascii_case key other || is_key_taken m0 other)
   others = now_taken m0 m1 m2 text key number new one two
 
   old : (other : List ℕ) → is_key_taken m0 other ≡ true → is_key_taken m2 other ≡ true
-  old other taken = others other ∙ still_taken (str_eq_ignore_ascii_case key other) (is_key_taken m0 other) taken
+  old other taken = others other ∙ or_right (str_eq_ignore_ascii_case key other) (is_key_taken m0 other) taken
 
   itself : is_key_taken m2 key ≡ true
   itself =
@@ -167,7 +154,7 @@ now_closed m0 m1 m2 text key number closed new one two = record {
       let twin_suffixed : HasSuffix n text twin = record { suffix = suffixed.suffix; numbered = suffixed.numbered; is = refl } in
       let alike : str_to_ascii_lowercase twin ≡ str_to_ascii_lowercase other =
       same_suffixed text base suffixed.suffix equal ∙ ap str_to_ascii_lowercase (sym suffixed.is) in
-      same_taken m2 twin other alike (by_number twin twin_suffixed (below_or_not n number) (omega arith)) where
+      same_taken m2 twin other alike (by_number twin twin_suffixed (cases_lt n number) (omega arith)) where
         by_number : (twin : List ℕ) → HasSuffix n text twin → (n < number) ⊎ (number ≤ n) → n < number + 1 → is_key_taken m2 twin ≡ true
         by_number twin has_twin (inl less) _ = old twin (new.first n twin less has_twin)
         by_number twin has_twin (inr not_less) limit =
@@ -200,7 +187,7 @@ gets_key m0 m1 m2 text key text_name key_name number closed is_text is_key free 
 
 -- a test that fails for a whole list fails for each element
 none_at : {X : Type 0} (p : X → Bool) (xs : List X) (i : ℕ) (d : X) → i < length xs → list_any p xs ≡ false → p (get_or xs i d) ≡ false
-none_at p xs i d within none = of (bool_cases (p (get_or xs i d))) where
+none_at p xs i d within none = of (cases_Bool (p (get_or xs i d))) where
   clash : (b : Bool) → b ≡ true → b ≡ false → ⊥
   clash b x y = cc
 

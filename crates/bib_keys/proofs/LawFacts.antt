@@ -1,6 +1,7 @@
 -- Each text is at most one pattern, and entries have one list of keys.
 use Rattle.std.proofs.Common.{◌≡◌, ℕ, ◌<◌, ◌≤◌, ◌⊎◌, Bool, true, false, List, [], ◌∷◌, ◌++◌, Some, length, map, refl, sym, ◌∙◌, ap, ap₂, subst, inl, inr, arith, append_assoc, length-append}
 use Rattle.std.proofs.lemmas.List.{length-map, map-append}
+use Rattle.std.proofs.lemmas.Bool.{cases_lt}
 use Rattle.bib_entry.specs.declared.entry.Entry.{Entry}
 use Rattle.bib_keys.specs.Bases.{pattern_text}
 use Rattle.bib_keys.specs.Characters.{is_in_keys}
@@ -8,7 +9,7 @@ use Rattle.bib_keys.specs.Keys.{AreKeys, HasSuffix, IsFirstNew, has_same_key, wi
 use Rattle.bib_keys.specs.Patterns.{IsPart, IsPattern, IsPlaceholder, part_meant}
 use Rattle.bib_keys.specs.declared.pattern.Part.{Part}
 use Rattle.bib_keys.specs.declared.pattern.Part.TheVariants.{Literal}
-use Rattle.bib_keys.proofs.KeyFacts.{below_or_not, one_with_suffix}
+use Rattle.bib_keys.proofs.KeyFacts.{one_with_suffix}
 use Rattle.bib_keys.proofs.PatternFacts.{cut_once, inside_same, no_literal, one_named, part_end}
 
 -- a placeholder means one part
@@ -79,7 +80,7 @@ one_pattern _ qs _ (IsPattern.next {part = p} {parts = ps} {text = t} {rest = r}
 
 -- a text has one first new key
 one_first : (keys : List (List ℕ)) (text a b : List ℕ) → IsFirstNew keys text a → IsFirstNew keys text b → a ≡ b
-one_first keys text a b one other = of (below_or_not one.number other.number) (below_or_not other.number one.number) where
+one_first keys text a b one other = of (cases_lt one.number other.number) (cases_lt other.number one.number) where
   clash : (t : Bool) → t ≡ true → t ≡ false → ⊥
   clash t x y = cc
 

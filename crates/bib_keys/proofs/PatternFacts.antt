@@ -7,6 +7,7 @@ use Rattle.std.proofs.lemmas.Str.{char_from_byte, encode_ascii}
 use Rattle.std.specs.Prelude.{Bool, false, ◌==◌, encode_utf8, slice_index}
 use Rattle.std.specs.Option.{MatchOption}
 use Rattle.std.specs.Str.Iter.{LacksByte}
+use Rattle.bib_text.proofs.PlaceFacts.{test_clash}
 use Rattle.bib_keys.specs.Characters.{is_in_keys}
 use Rattle.bib_keys.specs.Parsing.{stop_error}
 use Rattle.bib_keys.specs.Patterns.{IsCount, HasNameAndCount, IsNoPattern, IsPart, IsPattern, IsPatternError, IsPlaceholder, IsStuckAt, part_meant}
@@ -80,10 +81,6 @@ placeholder_is text name count (Some part) named is = record { name = name; coun
 -- a brace is no character of keys
 pub no_literal : is_in_keys 123 ≡ true → ⊥
 no_literal h = cc
-
--- a test isn't both true and false
-true_false : (b : Bool) → b ≡ true → b ≡ false → ⊥
-true_false b x y = cc
 
 -- the first numbers of equal lists
 pub first_same : (c d : ℕ) (s t : List ℕ) → (c ∷ []) ++ s ≡ d ∷ t → c ≡ d
@@ -250,7 +247,7 @@ not_literal text after c no_brace is refused part _ rest (IsPart.literal {c = d}
     let small : d < 128 = in_keys_ascii d x in
     let some : 0 < length text = subst (λ l. 0 < length l) (sym e) (omega arith) in
     let same : c ≡ get_or text 0 0 = char_from_byte text after c is (omega (arith, first, small)) some in
-    true_false (is_in_keys d) x (subst (λ n. is_in_keys n ≡ false) (same ∙ first) refused)
+    test_clash (is_in_keys d) x (subst (λ n. is_in_keys n ≡ false) (same ∙ first) refused)
 not_literal text after c no_brace is refused part _ rest (IsPart.placeholder {inside = a} la x) e =
     no_brace (a ++ (125 ∷ rest)) (e ∙ ap (λ l. 123 ∷ l) (append_assoc a (125 ∷ []) rest))
 

@@ -1,25 +1,17 @@
 -- Words and texts as plain text.
 use Rattle.std.proofs.Common.{◌≡◌, ℕ, ◌<◌, ◌≤◌, ◌⊎◌, Bool, List, [], ◌∷◌, ◌++◌, length, map, take, drop, get_or, refl, sym, ◌∙◌, ap, subst, arith, inl, inr, length-append, cond}
-use Rattle.std.specs.Prelude.{◌||◌, false, encode_utf8}
+use Rattle.std.specs.Prelude.{false, encode_utf8}
 use Rattle.std.specs.Char.{is_ascii_alphanumeric, to_ascii_uppercase}
-use Rattle.std.specs.List.{filter, list_any}
+use Rattle.std.specs.List.{filter}
 use Rattle.std.proofs.lemmas.Bool.Decides.{nat_tests}
 use Rattle.std.proofs.lemmas.Str.{char_from_byte, encode_ascii, len_utf8_bounds, length-encode}
+use Rattle.std.proofs.lemmas.Bool.{cases_lt}
 use Rattle.bib_keys.specs.Letters.{is_word_gap, letters_for, key_letter}
 use Rattle.bib_keys.specs.Words.{in_case}
 use Rattle.bib_keys.specs.declared.pattern.Case.TheVariants.{Capital}
 
--- a test of the values of a list is a test of the list
-pub any_of_map : {A B : Type 0} (f : A → B) (p : B → Bool) (xs : List A) → list_any p (map f xs) ≡ list_any (λ x. p (f x)) xs
-any_of_map f p [] = refl
-any_of_map f p (x ∷ xs) = ap (λ b. p (f x) || b) (any_of_map f p xs)
-
--- a number is below another, or isn't
-below_or_not : (a b : ℕ) → (a < b) ⊎ (b ≤ a)
-below_or_not a b = grind arith
-
 not_below : (a b : ℕ) → ((a < b) → ⊥) → b ≤ a
-not_below a b not = of (below_or_not a b) where
+not_below a b not = of (cases_lt a b) where
   of : (a < b) ⊎ (b ≤ a) → b ≤ a
   of (inl below) = absurd (not below)
   of (inr above) = above
@@ -34,7 +26,7 @@ upper_small c h = grind (arith, nat_tests)
 -- a word whose first character is written in upper case
 pub capital_is : (word rest : List ℕ) (c : ℕ) → word ≡ encode_utf8 c ++ rest
     → encode_utf8 (to_ascii_uppercase c) ++ rest ≡ in_case Capital word
-capital_is word rest c is = of (below_or_not c 128) where
+capital_is word rest c is = of (cases_lt c 128) where
   of : (c < 128) ⊎ (128 ≤ c) → encode_utf8 (to_ascii_uppercase c) ++ rest ≡ map to_ascii_uppercase (take 1 word) ++ drop 1 word
   of (inl small) =
       ap (λ l. l ++ rest) (encode_ascii (to_ascii_uppercase c) (upper_small c small))

@@ -1,6 +1,6 @@
 -- Four digits in a text.
-use Rattle.std.proofs.Common.{◌≡◌, ℕ, zero, suc, ◌+◌, ◌-◌, ◌<◌, ◌≤◌, true, cond, List, [], ◌∷◌, length, take, drop, get_or, refl, sym, ◌∙◌, ap, subst, arith, add-one, length-drop, lit<}
-use Rattle.std.specs.Prelude.{Bool, false, ◌&&◌, IsAscii, IsCharBoundary, IsUtf8, nat_le}
+use Rattle.std.proofs.Common.{◌≡◌, ℕ, zero, suc, ◌+◌, ◌-◌, ◌<◌, ◌≤◌, true, cond, List, [], ◌∷◌, length, take, drop, get_or, sym, ◌∙◌, ap, subst, arith, add-one, length-drop, lit<}
+use Rattle.std.specs.Prelude.{Bool, false, IsAscii, IsCharBoundary, IsUtf8, nat_le}
 use Rattle.std.specs.Char.{is_ascii_digit}
 use Rattle.std.specs.List.{list_all}
 use Rattle.std.proofs.Math.Seq.{take-length}
@@ -8,19 +8,13 @@ use Rattle.std.proofs.lemmas.Bool.Decides.{nat_tests}
 use Rattle.std.proofs.lemmas.List.{get_or-drop, get_or-take, length-take-le}
 use Rattle.std.proofs.lemmas.Str.{IsCharBoundary-after_ascii}
 use Rattle.std.proofs.lemmas.Str.Ascii.{IsAscii-nil, IsAscii-cons}
+use Rattle.std.proofs.lemmas.Bool.{and_parts}
 use Rattle.bib_keys.specs.Years.{begins_with_year, four_digits}
-
--- both parts of a test
-pub and_both : (a b : Bool) → (a && b) ≡ true → (a ≡ true) × (b ≡ true)
-and_both true b h = (refl, h)
-and_both false b h = absurd (clash h) where
-  clash : false ≡ true → ⊥
-  clash e = cc
 
 -- a text that begins with four digits has four characters
 pub long_enough : (text : List ℕ) → begins_with_year text ≡ true → 4 ≤ length text
 long_enough text begins =
-    let long = (and_both (nat_le 4 (length text)) (list_all is_ascii_digit (take 4 text)) begins).0 in at_least (length text) long where
+    let long = (and_parts (nat_le 4 (length text)) (list_all is_ascii_digit (take 4 text)) begins).0 in at_least (length text) long where
       at_least : (n : ℕ) → nat_le 4 n ≡ true → 4 ≤ n
       at_least n h = grind (arith, nat_tests)
 
@@ -28,7 +22,7 @@ long_enough text begins =
 pub digits_ascii : (text : List ℕ) → list_all is_ascii_digit text ≡ true → IsAscii text
 digits_ascii [] all = IsAscii-nil
 digits_ascii (c ∷ text) all =
-    let both = and_both (is_ascii_digit c) (list_all is_ascii_digit text) all in
+    let both = and_parts (is_ascii_digit c) (list_all is_ascii_digit text) all in
     IsAscii-cons c text (small c both.0) (digits_ascii text both.1) where
       small : (d : ℕ) → is_ascii_digit d ≡ true → d < 128
       small d h = grind (arith, nat_tests)
@@ -36,7 +30,7 @@ digits_ascii (c ∷ text) all =
 -- the digits at the start of a text
 pub year_ascii : (text : List ℕ) → begins_with_year text ≡ true → IsAscii (take 4 text)
 year_ascii text begins =
-    digits_ascii (take 4 text) (and_both (nat_le 4 (length text)) (list_all is_ascii_digit (take 4 text)) begins).1
+    digits_ascii (take 4 text) (and_parts (nat_le 4 (length text)) (list_all is_ascii_digit (take 4 text)) begins).1
 
 -- four digits at the start are those that are found
 pub year_found : (text : List ℕ) → begins_with_year text ≡ true → four_digits text ≡ take 4 text

@@ -17,7 +17,7 @@ use Rattle.bib_keys.specs.declared.pattern.Case.{Case}
 use Rattle.bib_keys.specs.declared.pattern.Part.{Part}
 use Rattle.bib_keys.specs.declared.pattern.Part.TheVariants.{Literal, Author, Title, Year, ShortYear}
 
--- the names of the people in the field `author`, or in `editor` if there is no `author`
+-- the names in a key for the people in the field `author`, or in `editor` if there is no `author`
 abbrev pub authors_in_key : Case → Option ℕ → Entry → List ℕ
 authors_in_key case count entry =
     option_map_or (λ people. flat_map (in_case case) (names_in_key count people)) (field_or entry (codes "author") (codes "editor")) []
@@ -28,7 +28,8 @@ title_in_key case count entry =
     option_map_or (λ title. flat_map (in_case case) (take (unwrap_or count 1) (significant_words (text title))))
     (by_name.get entry.fields (codes "title")) []
 
--- the digits of the year in the field `date`, or in `year` if there is no `date`
+-- the year: the first four ASCII digits in a row in the field `date`, or in `year` if there is no `date`; only the last two of them if
+-- `is_short`
 abbrev pub year_in_key : Bool → Entry → List ℕ
 year_in_key is_short entry = option_map_or (λ date. year_digits is_short (text date)) (field_or entry (codes "date") (codes "year")) []
 
@@ -49,7 +50,7 @@ abbrev pub cleaned_after : ℕ → List ℕ → List ℕ
 cleaned_after last [] = []
 cleaned_after last (c ∷ text) = if is_kept last c then c ∷ cleaned_after c text else cleaned_after last text
 
--- the same at the start of a key
+-- a text without the characters that don't stay in a key; no character is before it
 abbrev pub cleaned : List ℕ → List ℕ
 cleaned text = cleaned_after char.space text
 

@@ -1,5 +1,5 @@
 -- Meaning: words of public contracts.
--- The characters of keys, and what a text must be to serve as a key.
+-- The characters of keys, and the texts that can serve as keys.
 use Rattle.std.specs.Prelude.{◌≡◌, ℕ, ◌<◌, Bool, true, ◌||◌, ◌==◌, List, length, codes}
 use Rattle.std.specs.Char.{is_ascii_alphanumeric}
 use Rattle.std.specs.List.{list_all}

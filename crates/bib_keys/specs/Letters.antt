@@ -7,7 +7,7 @@ use Rattle.std.specs.Str.{chars}
 use Rattle.unicode_normalization.specs.Forms.{nfkd}
 use Rattle.bib_text.specs.Characters as char
 
--- whether `c` separates words: white space, a slash or a dash; a hyphen doesn't
+-- whether `c` separates words: white space, a slash, an en dash or an em dash; a hyphen doesn't
 abbrev pub is_word_gap : ℕ → Bool
 is_word_gap c = is_whitespace c || (c == char.slash || c == char.en_dash || c == char.em_dash)
 

@@ -14,11 +14,12 @@ others = codes "EtAl"
 abbrev pub shown_family_name : Person → List ℕ
 shown_family_name p = if bytes_eq p.name (codes "others") then others else key_letters p.name
 
--- the names in a key: the first name, or with a number up to this many names, and the words for the others if there are more
+-- the names in a key. Without a number, this is only the first name. With a number `n`, these are the first `n` names, and then `others` if
+-- there are more.
 abbrev pub shown_names : Option ℕ → List (List ℕ) → List (List ℕ)
 shown_names None names = take 1 names
 shown_names (Some n) names = take n names ++ (if nat_lt n (length names) then others ∷ [] else [])
 
--- the names of the people in a field
+-- the names in a key for the people in a field
 abbrev pub names_in_key : Option ℕ → Value → List (List ℕ)
 names_in_key count people = shown_names count (map shown_family_name (people_of people))

@@ -69,7 +69,7 @@ pub record IsStuckAt (text : List ℕ) (at : ℕ) : Type 0 where
 abbrev pub IsNoPattern : List ℕ → Type 0
 IsNoPattern text = (parts : List Part) → IsPattern parts text → ⊥
 
--- what an error states about the text: no parts have it, and no part begins at the offset `at`, though the text before it is a pattern.
+-- the statement of an error about the text: no parts have it, and no part begins at the offset `at`, but the text before it is a pattern.
 -- `NoPlaceholder` means that an opening brace is there, and `NotInKeys` that another character is
 abbrev pub IsPatternError : List ℕ → PatternError → Type 0
 IsPatternError text (NotInKeys at) = IsNoPattern text × IsStuckAt text at × (slice_index text at ≡ char.open_brace → ⊥)

@@ -1,10 +1,10 @@
 -- Machinery: words of private contracts.
--- The keys that are taken, as a map from their texts in lower case to numbers. All suffixes with smaller numbers are taken too.
+-- The keys that are taken, as a map from their texts in ASCII lower case to numbers. All suffixes with smaller numbers are taken too.
 use Rattle.std.specs.Prelude.{◌≡◌, ℕ, ◌<◌, Bool, true, false, ◌||◌, if◌then◌else◌, List, bytes_eq, Option, Some, is_some}
 use Rattle.std.specs.Str.{str_eq_ignore_ascii_case, str_to_ascii_lowercase}
 use Rattle.bib_keys.specs.Keys.{HasSuffix}
 
--- the number of each name in the map; the names are keys in lower case
+-- the number of each name in the map; the names are keys in ASCII lower case
 abbrev pub Numbers : Type 0
 Numbers = List ℕ → Option ℕ
 

@@ -1,5 +1,5 @@
 -- Meaning: words of public contracts.
--- Words of a text, and how they are written in a key.
+-- Words of a text, and their case in a key.
 use Rattle.std.specs.Prelude.{ℕ, ◌==◌, ◌&&◌, Bool, not, List, ◌++◌, map, take, drop, length, codes}
 use Rattle.std.specs.Char.{to_ascii_lowercase, to_ascii_uppercase}
 use Rattle.std.specs.List.{filter, list_any, slice_split}
@@ -10,7 +10,7 @@ use Rattle.bib_keys.specs.Letters.{key_letters}
 use Rattle.bib_keys.specs.declared.pattern.Case.{Case}
 use Rattle.bib_keys.specs.declared.pattern.Case.TheVariants.{Lower, Capital, Upper}
 
--- a word in a case; `Capital` changes only its first character
+-- a word with its ASCII letters in a case; `Capital` changes only its first character
 abbrev pub in_case : Case → List ℕ → List ℕ
 in_case Lower word = map to_ascii_lowercase word
 in_case Capital word = map to_ascii_uppercase (take 1 word) ++ drop 1 word

@@ -26,7 +26,7 @@ fn field_or<'a>(entry: &'a Entry, name: &str, other: &str) -> Option<ChunksRef<'
     }
 }
 
-// Appends the names of the authors, or those of the editors if there is no field `author`.
+// Appends the names in a key for the authors, or for the editors if there is no field `author`.
 fn push_authors(
     alloc: Global,
     out: &mut String,
@@ -60,7 +60,8 @@ fn push_title(
     push_words(alloc, out, case, &words)
 }
 
-// Appends the digits of the year, in the field `date`, or in `year` if there is no `date`.
+// Appends the year: the first four ASCII digits in a row in the field `date`, or in `year` if there is no `date`. If `is_short`,
+// appends only the last two of them.
 fn push_year(
     alloc: Global,
     out: &mut String,

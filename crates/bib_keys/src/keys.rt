@@ -1,7 +1,7 @@
 //! New keys of entries.
 //!
-//! `taken` maps each key in lower case to a number below which all suffixes of it are taken. So the search for the next suffix of a
-//! text begins where the last one ended.
+//! `taken` maps each key in ASCII lower case to a number below which all suffixes of it are taken. So the search for the next suffix of
+//! a text begins where the last one ended.
 
 ghost use Rattle.std.specs.Prelude.{◌≡◌, ◌<◌, ◌^◌, IfOk, OnOk, string_bytes};
 ghost use Rattle.std.specs.BTreeMap.{get_by_text};

@@ -6,7 +6,7 @@ ghost use Rattle.bib_keys.specs.Letters as spec;
 use std::alloc::{AllocError, Global};
 use unicode_normalization::to_nfkd;
 
-// Returns whether a character separates words: white space, a slash or a dash.
+// Returns whether a character separates words: white space, a slash, an en dash or an em dash.
 fn is_word_gap(c: char) -> bool
     ensures { result ≡ spec.is_word_gap c }
 {

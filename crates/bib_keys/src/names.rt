@@ -50,7 +50,7 @@ fn shown(alloc: Global, count: Option<u8>, mut names: Vec<Text>) -> Result<Vec<T
     Ok(names)
 }
 
-// Returns the names of the people in a field.
+// Returns the names in a key for the people in a field.
 pub(crate) fn names_in_key(
     alloc: Global,
     count: Option<u8>,

@@ -53,7 +53,7 @@ fn part_named(name: &str, count: Option<u8>) -> Option<Part>
     }
 }
 
-// Returns the part that a placeholder means, which is given without its braces.
+// Returns the part that a placeholder means. `text` is the placeholder without its braces.
 fn placeholder(text: &str) -> Option<Part>
     ensures { MatchOption result
         ((part : APart) → IsPlaceholder part text.now → ⊥)

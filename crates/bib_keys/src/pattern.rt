@@ -15,14 +15,14 @@ use bib_text::text::Text;
 use std::alloc::{AllocError, Global};
 use std::marker::Model;
 
-/// How the words of a placeholder are written.
+/// The case of the words of a placeholder.
 #[derive(Debug, Clone, Copy, PartialEq, Eq)]
 pub enum Case {
-    /// In lower case, as `{author}`.
+    /// In lower case, such as `{author}`.
     Lower,
-    /// With the first character of each word in upper case, as `{Author}`. Other characters keep their case.
+    /// With the first character of each word in upper case, such as `{Author}`. Other characters keep their case.
     Capital,
-    /// In upper case, as `{AUTHOR}`.
+    /// In upper case, such as `{AUTHOR}`.
     Upper,
 }
 

@@ -5,21 +5,21 @@ ghost use Rattle.std.specs.Char.{is_ascii_digit};
 ghost use Rattle.std.specs.List.{list_all};
 ghost use Rattle.bib_keys.specs.Years as spec;
 
-// Returns whether bytes are digits.
+// Returns whether all bytes are ASCII digits.
 fn are_digits(bytes: &[u8]) -> bool
     ensures { result ≡ list_all is_ascii_digit bytes.now }
 {
     bytes.iter().all(|byte| byte.is_ascii_digit())
 }
 
-// Returns whether bytes begin with four digits.
+// Returns whether bytes begin with four ASCII digits.
 fn begins_with_year(bytes: &[u8]) -> bool
     ensures { result ≡ spec.begins_with_year bytes.now }
 {
     bytes.len() >= 4 && are_digits(&bytes[..4])
 }
 
-// Returns the first four digits in a row, or an empty text.
+// Returns the first four ASCII digits in a row, or an empty text.
 fn four_digits(text: &str) -> &str
     ensures digits { result.now ≡ spec.four_digits text.now }
     ensures ascii { IsAscii result.now }
@@ -34,7 +34,7 @@ fn four_digits(text: &str) -> &str
     ""
 }
 
-// Returns the first four digits in a row, or the last two of them, or an empty text.
+// Returns the first four ASCII digits in a row, or an empty text. If `is_short`, returns only the last two of these digits.
 pub(crate) fn year_digits(text: &str, is_short: bool) -> &str
     ensures { result.now ≡ spec.year_digits is_short text.now }
 {

@@ -1,16 +1,17 @@
 -- Facts about the cuts of names with commas.
-use Rattle.std.proofs.Common.{◌≡◌, ℕ, ◌+◌, Bool, true, false, List, [], ◌∷◌, ◌++◌, length, refl, ap, ◌∙◌, ⊎_elim, Some, None}
+use Rattle.std.proofs.Common.{◌≡◌, ℕ, ◌+◌, Bool, true, false, List, [], ◌∷◌, ◌++◌, length, refl, ap, ◌∙◌, Some, None}
 use Rattle.std.specs.Prelude.{◌==◌, encode_utf8_all, option_map}
 use Rattle.std.specs.Char.{len_utf8}
 use Rattle.std.specs.List.{list_any}
 use Rattle.std.specs.Str.{chars, trim_start, trim_end}
 use Rattle.std.specs.declared.ops.Range.{Range}
-use Rattle.std.proofs.lemmas.Bool.{or_parts, cases_Bool}
+use Rattle.std.proofs.lemmas.Bool.{or_parts}
 use Rattle.std.proofs.lemmas.Str.{chars-nil}
 use Rattle.bib_chunks.specs.declared.chunk.Chunk.{Chunk}
 use Rattle.bib_chunks.specs.declared.chunk.Chunk.TheVariants.{Normal}
 use Rattle.bib_text.specs.declared.spanned.Spanned.{Spanned}
-use Rattle.bib_chunks.specs.Cuts.{with_span, chunk_part, piece, halves, both_pieces, cut_characters, cut_first, cut_after, cut_at}
+use Rattle.bib_chunks.specs.Cuts.{with_span, piece, halves, both_pieces, cut_characters, cut_first, cut_after, cut_at}
+use Rattle.bib_chunks.proofs.TrimFacts.{part_chunk}
 use Rattle.bib_people.proofs.AndLists.{empties}
 
 -- a comma
@@ -38,10 +39,6 @@ cut_none (b ∷ bs) none =
     let here = both.0 in
     rw here (ap (option_map (λ cut. (b ∷ cut.0, cut.1))) (cut_none bs both.1))
 
--- a part of a text is a normal chunk
-part_is : (whole : List ℕ) (span : Range ℕ) (at : ℕ) (text : List ℕ) → (chunk_part whole span at text).v ≡ Normal text
-part_is whole span at text = ⊎_elim (λ yes. rw yes refl) (λ other. rw other refl) (cases_Bool (length text == length whole))
-
 piece_is : (whole : List ℕ) (span : Range ℕ) (at : ℕ) (first last : Bool) (text left : List ℕ)
     → (piece whole span at first last text).v ≡ Normal left
     → piece whole span at first last text ≡ stands (piece whole span at first last text).span left
@@ -66,10 +63,10 @@ halves_at leading_run rest span none same spelt spells =
     let two = piece whole span at true false (encode_utf8_all rest) in
     let one_is : one ≡ stands one.span (trim_end leading_run) =
     piece_is whole span 0 false true (encode_utf8_all leading_run) (trim_end leading_run)
-    (part_is whole span _ _ ∙ ap (λ t. Normal (trim_end t)) spelt) in
+    (part_chunk whole span _ _ ∙ ap (λ t. Normal (trim_end t)) spelt) in
     let two_is : two ≡ stands two.span (trim_start rest) =
     piece_is whole span at true false (encode_utf8_all rest) (trim_start rest)
-    (part_is whole span _ _ ∙ ap (λ t. Normal (trim_start t)) spells) in
+    (part_chunk whole span _ _ ∙ ap (λ t. Normal (trim_start t)) spells) in
     record {
       left = one.span;
       right = two.span;

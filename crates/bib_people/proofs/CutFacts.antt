@@ -20,7 +20,8 @@ pub record Through (test : Word → Bool) (words : List Word) (i end : ℕ) : Ty
   pub is : through_last test words ≡ cond (list_any test (drop i words)) (i + through_last test (drop i words)) end
   pub within : end ≤ i
 
-through_none : (test : Word → Bool) (words : List Word) → list_any test words ≡ false → through_last test words ≡ 0
+-- if no word passes a test, no word is up to the last that does
+pub through_none : (test : Word → Bool) (words : List Word) → list_any test words ≡ false → through_last test words ≡ 0
 through_none test [] none = refl
 through_none test (word ∷ words) none = rw none refl
 

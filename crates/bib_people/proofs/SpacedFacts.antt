@@ -14,7 +14,7 @@ use Rattle.bib_people.specs.Letters.{is_gap, Word, a_word, words_of, word_letter
 use Rattle.bib_people.specs.Kept.{name_begins, is_word_and, after_words, spaced}
 use Rattle.bib_people.proofs.WordFacts.{letter, words_gap, words_word, apart_end, apart_gap, stand_apart}
 use Rattle.std.proofs.Math.Bool.{and-false}
-use Rattle.bib_chunks.proofs.AndFacts.{between_other, word_here}
+use Rattle.bib_chunks.proofs.AndFacts.{between_other, word_here, never}
 
 -- a non-empty word without white space
 abbrev pub is_solid : List ℕ → Bool
@@ -95,15 +95,9 @@ spaced_all test space (word ∷ words) all =
 
 -- the word `and`
 
-not_spaced : (cs : List ℕ) → word_here false cs ≡ false
-not_spaced [] = refl
-not_spaced (a ∷ []) = refl
-not_spaced (a ∷ n ∷ []) = refl
-not_spaced (a ∷ n ∷ d ∷ rest) = refl
-
 either : (space : Bool) (cs : List ℕ) → word_here true cs ≡ false → word_here space cs ≡ false
 either true cs none = none
-either false cs none = not_spaced cs
+either false cs none = never cs
 
 -- there is no cut at a character where no such word is
 step : (space : Bool) (c : ℕ) (cs : List ℕ) → word_here space (c ∷ cs) ≡ false
@@ -115,7 +109,7 @@ run : (bs rest : List ℕ) → list_all (λ b. not (is_whitespace b)) bs ≡ tru
 run [] rest all more = more
 run (b ∷ bs) rest all more =
     let both = and_parts (not (is_whitespace b)) (list_all (λ x. not (is_whitespace x)) bs) all in
-    step false b (bs ++ rest) (not_spaced (b ∷ (bs ++ rest)))
+    step false b (bs ++ rest) (never (b ∷ (bs ++ rest)))
     (ap (λ s. between_ands s (bs ++ rest)) (not-true (is_whitespace b) both.0) ∙ run bs rest both.1 more)
 
 -- the word isn't where another word begins that a space or nothing follows
@@ -157,7 +151,7 @@ after_one [] all = refl
 after_one ([] ∷ words) all = absurd (false≢true all)
 after_one ((b ∷ bs) ∷ words) all =
     let both = and_parts (is_item (b ∷ bs)) (list_all is_item words) all in
-    step false 32 (b ∷ (bs ++ after_words words)) (not_spaced (32 ∷ b ∷ (bs ++ after_words words)))
+    step false 32 (b ∷ (bs ++ after_words words)) (never (32 ∷ b ∷ (bs ++ after_words words)))
     (item true b bs words both.0 (after_one words both.1))
 
 -- words that contain no word `and` are one part of an `and` list

@@ -5,7 +5,7 @@ use Rattle.std.specs.List.{list_all, list_any, prefix_len}
 use Rattle.std.specs.Char.{is_whitespace}
 use Rattle.unicode.specs.Binary.{is_lowercase}
 use Rattle.std.specs.Str.{chars, trim_start, trim_end, trim, IsAscii, skip_leading_whitespace}
-use Rattle.std.proofs.lemmas.Bool.{and_parts, and_from, not-true, not_from_false, false≢true, ne_eqb, eqb-true, or_cases}
+use Rattle.std.proofs.lemmas.Bool.{and_parts, and_from, not-true, not_from_false, false≢true, ne_eqb, eqb-true, or_cases, and_right}
 use Rattle.std.proofs.lemmas.List.{append-nil}
 use Rattle.std.proofs.lemmas.Str.{chars-IsAscii, encodes-IsAscii, chars-nil}
 use Rattle.bib_chunks.specs.declared.chunk.Chunk.TheVariants.{Normal}
@@ -21,6 +21,7 @@ use Rattle.bib_people.proofs.LineFacts.{AllWords, all_line, items_solid, items_a
 use Rattle.std.specs.declared.ops.Range.{Range}
 use Rattle.bib_people.proofs.AndLists.{formatted_empties, empties, before_and, after_and}
 use Rattle.bib_people.proofs.CommaFacts.{is_comma, stands}
+use Rattle.bib_people.proofs.CutFacts.{through_none}
 
 -- the text of words
 
@@ -114,15 +115,11 @@ pub shown_text : (text : List ℕ) (span : Range ℕ) (following : Bool) → IsT
 shown_text text span following is =
     ap (λ cs. trim (encode_utf8_all cs)) (formatted_text text span following is) ∙ ap trim is.spelt ∙ trim_same text is
 
-and_no : (a b : Bool) → b ≡ false → (a && b) ≡ false
-and_no true b no_b = no_b
-and_no false b no_b = refl
-
 -- such chunks aren't formatted to nothing
 pub not_blank : (text : List ℕ) (span : Range ℕ) (following : Bool) → IsText text → 0 < length text
     → formats_to_nothing (stands span text ∷ empties before_and following) ≡ false
 not_blank text span following is some =
-    and_no (length (stands span text ∷ empties before_and following) == 1) _
+    and_right (length (stands span text ∷ empties before_and following) == 1) _
     (ap (λ cs. length cs == 0) (formatted_text text span following is)
     ∙ ne_eqb (length text) 0 (λ none. omega arith))
 
@@ -170,13 +167,9 @@ leading_split test (x ∷ xs) y ys all fails =
     let more = leading_split test xs y ys both.1 fails in
     rw here (omega arith)
 
-no_through : (test : Word → Bool) (ys : List Word) → list_any test ys ≡ false → through_last test ys ≡ 0
-no_through test [] none = refl
-no_through test (y ∷ ys) none = rw none refl
-
 through_split : (test : Word → Bool) (xs ys : List Word) → list_all test xs ≡ true → list_any test ys ≡ false
     → through_last test (xs ++ ys) ≡ length xs
-through_split test [] ys all none = no_through test ys none
+through_split test [] ys all none = through_none test ys none
 through_split test (x ∷ xs) ys all none =
     let both = and_parts (test x) (list_all test xs) all in
     let here = both.0 in

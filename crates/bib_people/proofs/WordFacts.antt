@@ -1,6 +1,6 @@
 -- Facts about the words of a name.
 use Rattle.std.proofs.Common.{◌≡◌, ℕ, ◌+◌, ◌<◌, Bool, true, false, List, [], ◌∷◌, ◌++◌, length, map, take, drop, get_or, refl, sym, ap, ◌∙◌, cond, suc, arith, append_assoc, ⊎_elim, length-drop, length-append, ◌-◌}
-use Rattle.std.proofs.lemmas.List.{append-nil, take-append-drop, drop_more, map-append}
+use Rattle.std.proofs.lemmas.List.{append-nil, take-append-drop, drop_more, map-append, nil_from_length}
 use Rattle.std.specs.Prelude.{not, ◌==◌, encode_utf8_all}
 use Rattle.std.proofs.lemmas.Str.{length-le-encodes, encodes-append}
 use Rattle.std.specs.List.{prefix_len, list_all}
@@ -130,10 +130,6 @@ next_word rest before following inside after is_before is_after some in_word out
     (rw (is_before, is_after) (sym (take-append-drop (gap_len rest) rest)))
     (λ b bs is. after_fails is_gap rest b bs (sym is_after ∙ is)) some in_word out
 
-empty : {A : Type 0} (xs : List A) → length xs ≡ 0 → xs ≡ []
-empty [] none = refl
-empty (x ∷ xs) none = absurd (omega arith)
-
 -- a list that isn't empty has elements
 pub some_left : {A : Type 0} (xs : List A) (is_empty : Bool) → is_empty ≡ (length xs == 0) → is_empty ≡ false → 0 < length xs
 some_left [] is_empty is not_empty = absurd (both_ways is_empty not_empty is)
@@ -143,7 +139,7 @@ some_left (x ∷ xs) is_empty is not_empty = omega arith
 pub last_word : (rest following : List Letter) → following ≡ drop (gap_len rest) rest → length following ≡ 0 → words_of rest ≡ []
 last_word rest following is none =
     let gap = prefix_passes is_gap rest in
-    let nothing : drop (gap_len rest) rest ≡ [] = sym is ∙ empty following none in
+    let nothing : drop (gap_len rest) rest ≡ [] = sym is ∙ nil_from_length following none in
     let whole : rest ≡ take (gap_len rest) rest =
     sym (take-append-drop (gap_len rest) rest) ∙ ap (λ l. take (gap_len rest) rest ++ l) nothing ∙ append-nil _ in
     words_none rest (rw (← whole) at gap)

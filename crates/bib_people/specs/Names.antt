@@ -46,10 +46,10 @@ pub record Cuts : Type 0 where
   pub given : ℕ
   pub prefix : ℕ
 
--- where a name without a comma is cut. The capital words at the start are the given name. If all words are capital, the
--- last one is the family name. Otherwise, if another capital word comes later, the prefix ends with the last lower word
--- before the last capital one. If no capital word comes later, the last word is the family name and those before it are
--- the prefix.
+-- the cuts of a name without a comma. The capital words at the start are the given name. If all words are capital, the last
+-- one is the family name. Otherwise, if another capital word comes later, the prefix ends with the last lower word before
+-- the last capital one. If no capital word comes later, the last word is the family name, and the other lower words are the
+-- prefix.
 unfoldable pub whole_name : List Word → Cuts
 whole_name words =
     let given = leading is_capital words in
@@ -59,7 +59,7 @@ whole_name words =
     else if end == 0 then record { given = given; prefix = length more - 1 }
     else record { given = given; prefix = through_last is_lower (take end more) }
 
--- where the words before a comma are cut: the prefix ends with the last low word. If all words are low, the last one is
+-- the cuts of the words before a comma: the prefix ends with the last low word. If all words are low, the last one is
 -- the family name.
 unfoldable pub before_comma : List Word → Cuts
 before_comma words =
@@ -131,20 +131,20 @@ cut_person cuts words given suffix = person (name_text cuts words) given (prefix
 abbrev pub before_comma_person : List Word → List ℕ → List ℕ → Person
 before_comma_person words given suffix = cut_person (before_comma words) words given suffix
 
--- the person of a name with a comma. `first` is the chunks before the first comma. `second` is the chunks of the given
--- name: those after the first comma, or after the second one if there is a suffix.
+-- the person of a name with a comma. `first` is the chunks before the first comma. `second` is the chunks of the given name:
+-- those after the first comma, or after the second one if there are two commas.
 abbrev pub with_comma : List (Spanned Chunk) → List (Spanned Chunk) → List ℕ → Person
 with_comma first second suffix =
     if formats_to_nothing second then at_last_space (encode_utf8_all (formatted_chars first)) suffix
     else before_comma_person (words_of (letters first)) (trimmed_text second) suffix
 
--- the person of a name with a comma, given the chunks before the first comma, the chunks after it, and the cut of these
--- at the next comma
+-- the person of a name with a comma. `first` is the chunks before the first comma, and `second` is the chunks after it. The
+-- last argument is the cut of `second` at the next comma.
 abbrev pub with_commas : List (Spanned Chunk) → List (Spanned Chunk) → Option (List (Spanned Chunk) × List (Spanned Chunk)) → Person
 with_commas first second None = with_comma first second []
 with_commas first second (Some cut) = with_comma first cut.1 (trimmed_text cut.0)
 
--- the person of a name, given its cut at the first comma
+-- the person of a name, from its cut at the first comma
 abbrev pub cut_by_commas : List (Spanned Chunk) → Option (List (Spanned Chunk) × List (Spanned Chunk)) → Person
 cut_by_commas chunks None = without_comma chunks
 cut_by_commas chunks (Some cut) = with_commas cut.0 cut.1 (cut_at cut.1 char.comma)
@@ -159,7 +159,7 @@ by_commas chunks = cut_by_commas chunks (cut_at chunks char.comma)
 abbrev pub KeyValue : Type 0
 KeyValue = List ℕ × List ℕ
 
--- a key and a value, given the chunks and their cut at the equals sign; without an equals sign the value is empty
+-- a key and a value, from the chunks and their cut at the equals sign; without an equals sign the value is empty
 abbrev pub part_cut : List (Spanned Chunk) → Option (List (Spanned Chunk) × List (Spanned Chunk)) → KeyValue
 part_cut chunks None = (trimmed_text chunks, [])
 part_cut chunks (Some cut) = (trimmed_text cut.0, trimmed_text cut.1)
@@ -172,7 +172,7 @@ key_value_of chunks = part_cut chunks (cut_at chunks char.equals)
 abbrev pub parts_of : List (Spanned Chunk) → List KeyValue
 parts_of chunks = map key_value_of (comma_list chunks)
 
--- the value of a key, given the one that was found before; the last one counts
+-- the value of a key; `found` is the one that was found before, and the last one counts
 abbrev pub value_after : Option (List ℕ) → List ℕ → List KeyValue → Option (List ℕ)
 value_after found key [] = found
 value_after found key (part ∷ parts) = value_after (if bytes_eq part.0 key then Some part.1 else found) key parts

@@ -38,7 +38,8 @@ plain_chunks p =
 
 -- a person in the extended format
 
--- a key and its value: a normal chunk and a verbatim one. `key` contains the comma before the key and the equals sign.
+-- a key and its value: a normal chunk and a verbatim one. `key` contains the equals sign, and the comma before any key
+-- except the first.
 unfoldable pub key_and_value : List ℕ → List ℕ → Value
 key_and_value key value = nowhere (Normal key) ∷ nowhere (Verbatim value) ∷ []
 

@@ -78,7 +78,7 @@ fn push_plain(alloc: Global, all: &mut Chunks, person: &Person) -> Result<(), Al
     push_normal(all, text)
 }
 
-// Writes a key and its value. `key` contains the comma before the key and the equals sign.
+// Writes a key and its value. `key` contains the equals sign, and the comma before any key except the first.
 #[tactic(auto, unfolding(crate::specs::People::key_and_value))]
 fn push_key(alloc: Global, all: &mut Chunks, key: &str, value: &str) -> Result<(), AllocError>
     ensures { OnOk result (all.new ≡ all.old ++ key_and_value key.now value.now) }

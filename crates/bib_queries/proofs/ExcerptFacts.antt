@@ -1,6 +1,5 @@
 -- The byte offsets of entries in a text.
-use Rattle.std.proofs.Common.{◌≡◌, ◌≤◌, ◌<◌, ◌+◌, ◌||◌, ℕ, Bool, List, [], ◌∷◌, ◌++◌, map, drop, length, get_or, refl, sym, ap, subst, ◌∙◌, arith}
-use Rattle.std.specs.List.{list_any}
+use Rattle.std.proofs.Common.{◌≡◌, ◌≤◌, ◌<◌, ◌+◌, ℕ, List, [], ◌∷◌, ◌++◌, drop, length, get_or, refl, sym, ap, subst, ◌∙◌, arith}
 use Rattle.std.specs.Char.{len_utf8}
 use Rattle.std.specs.Str.{IsUtf8, IsCharBoundary}
 use Rattle.std.proofs.lemmas.List.{get_or-drop}
@@ -12,11 +11,6 @@ use Rattle.bib_syntax.specs.Grammar.Body.{comment, preamble, strings, entry}
 use Rattle.bib_syntax.specs.Reading.{EntryReading, FileReading, Part}
 use Rattle.bib_syntax.specs.Recovery.{IsBlockOf}
 use Rattle.bib_syntax.proofs.FieldFacts.{ahead_fields, ahead_gap, ahead_identifier}
-
--- a test of the images of elements is a test of the elements
-pub any_mapped : {A B : Type 0} (f : A → B) (test : B → Bool) (xs : List A) → list_any test (map f xs) ≡ list_any (λ x. test (f x)) xs
-any_mapped f test [] = refl
-any_mapped f test (x ∷ xs) = ap (λ rest. test (f x) || rest) (any_mapped f test xs)
 
 -- the place of the closing brace of an entry, with `u` as the start of its body
 record ClosesAt (u : Place) (e : EntryReading) : Type 0 where

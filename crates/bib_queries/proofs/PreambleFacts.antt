@@ -20,6 +20,7 @@ use Rattle.bib_syntax.specs.Recovery.{Recovered}
 use Rattle.bib_syntax.specs.Recovery.{Keeps as keep}
 use Rattle.bib_syntax.specs.Recovery.{Recovered as recovered}
 use Rattle.bib_syntax.specs.declared.raw.recovery.SkippedBlock.{SkippedBlock}
+use Rattle.bib_syntax.proofs.WordFacts.{unquoted_is}
 use Rattle.bib_queries.specs.Lines.{text_after_prefix}
 use Rattle.bib_queries.specs.Preambles.{ArePreambles, CanBeQuoted, are_quotes_hidden, quoted_text, joined_quotes, preamble_line}
 
@@ -96,13 +97,6 @@ past_hidden c rest = by (encode_utf8 c) (length-encode c) (λ k below. not_first
 
 past_slash : (rest : List ℕ) → are_quotes_hidden false (encode_utf8 92 ++ rest) ≡ are_quotes_hidden true rest
 past_slash rest = ap (λ t. are_quotes_hidden false (t ++ rest)) (encode_ascii 92 (omega arith))
-
--- whether a character is neither a quote nor a backslash
-abbrev is_unquoted : ℕ → Bool
-is_unquoted c = not (c == 34) && not (c == 92)
-
-unquoted_is : {c : ℕ} (d : ℕ) → is_unquoted c ≡ true → is_unquoted d ≡ false → c ≡ d → ⊥
-unquoted_is d passes fails same = test_clash (is_unquoted d) (subst (λ x. is_unquoted x ≡ true) same passes) fails
 
 -- the bytes of quoted parts can be between quotes
 record PartsInside (u v : Place) : Type 0 where

@@ -23,10 +23,6 @@ use Rattle.std.proofs.Math.Bool.{or-true}
 abbrev pub Map : Type 0
 Map = BTreeMap (Bor (List ℕ)) (Vec ℕ)
 
-pub empty : (l : List ℕ) → length l ≡ 0 → l ≡ []
-empty [] is = refl
-empty (x ∷ l) is = absurd (omega (arith, is))
-
 -- ---- one more name, one more node
 
 -- a name is among names and one more if it is this one or among the others

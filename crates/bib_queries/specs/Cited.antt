@@ -39,7 +39,8 @@ used_in_entry e = used_in_fields e.fields
 abbrev pub used_in_entries : List EntryReading → List (List ℕ)
 used_in_entries entries = flat_map used_in_entry entries
 
--- whether the entry at an index is cited, or a cited entry refers to it, transitively
+-- whether the node (an entry or a definition) at an index has one of these names, or such a node refers to it, transitively; true for each
+-- index if `all` is true
 pub data IsCited (names : List (List ℕ)) (all : Bool) (nodes : List Node) : ℕ → Type 0 where
   any : {index : ℕ} → all ≡ true → IsCited names all nodes index
   needed : {index : ℕ} → IsNeeded names nodes index → IsCited names all nodes index

@@ -1,5 +1,5 @@
 -- Meaning: words of public contracts.
--- The elements of a control file of Biber (.bcf), which is XML. An element is given by the text after its `<`, up to the next `<`.
+-- The elements of a control file of Biber (.bcf), which is XML. An element is the text after its `<`, up to the next `<`.
 use Rattle.std.specs.Prelude.{ℕ, ◌==◌, ◌||◌, Bool, false, if◌then◌else◌, List, [], ◌∷◌, ◌++◌, Option, Some, None, bytes_eq, codes, drop, eqb, length, nat_lt}
 use Rattle.std.specs.List.{after_first, before_first, flat_map, position_or_len, slice_split, starts_with}
 use Rattle.std.specs.Option.{option_and_then, option_map_or}
@@ -36,14 +36,14 @@ unescaped_piece text = unescaped_by escapes text
 abbrev pub unescaped_rest : List ℕ → List ℕ
 unescaped_rest text = flat_map unescaped_piece (slice_split (λ b. b == char.ampersand) text)
 
--- a text with its escapes replaced by characters
+-- a text with each of the five escapes replaced by its character
 abbrev pub unescaped_text : List ℕ → List ℕ
 unescaped_text text =
     if nat_lt (position_or_len (λ b. b == char.ampersand) text) (length text)
     then before_first (λ b. b == char.ampersand) text
     ++ unescaped_rest (after_first (λ b. b == char.ampersand) text) else text
 
--- whether a tag has this name, with or without attributes
+-- whether a tag is this name, or begins with this name and a space
 abbrev pub is_tag_with : List ℕ → List ℕ → Bool
 is_tag_with name tag = option_map_or (λ rest. length rest == 0 || starts_with eqb rest (codes " ")) (text_after_prefix name tag) false
 
@@ -59,11 +59,11 @@ tag piece = before_first (λ b. b == char.greater) piece
 abbrev pub text_after_tag : List ℕ → List ℕ
 text_after_tag piece = after_first (λ b. b == char.greater) piece
 
--- the tag of an element with this name, or `None` for another element
+-- the tag of an element with this name, or `None` for another element or a tag without an end
 abbrev pub tag_with_name : List ℕ → List ℕ → Option (List ℕ)
 tag_with_name name piece = if has_tag_end piece then (if is_tag_with name (tag piece) then Some (tag piece) else None) else None
 
--- the text of an element with this name, or `None` for another element
+-- the text of an element with this name, or `None` for another element or a tag without an end
 abbrev pub text_with_name : List ℕ → List ℕ → Option (List ℕ)
 text_with_name name piece = if has_tag_end piece then (if is_tag_with name (tag piece) then Some (text_after_tag piece) else None) else None
 
@@ -107,7 +107,8 @@ member_list piece = option_and_then (attribute (codes " members=\"")) (citekey_t
 abbrev pub key_list : List ℕ → Option (List ℕ)
 key_list piece = if is_set piece then member_list piece else citekey_text piece
 
--- the keys in a text: those of a comma-separated list if `has_commas` is true, or one key otherwise
+-- the keys in a text: those of a comma-separated list if `has_commas` is true. Otherwise, the text without the white space around it is one
+-- key, unless it is empty.
 abbrev pub listed_keys : Bool → List ℕ → List (List ℕ)
 listed_keys has_commas list = if has_commas then comma_parts list else name_if_filled (trim list)
 
@@ -123,7 +124,7 @@ set_name piece = if is_set piece then option_map_or (λ text. trim (unescaped_te
 abbrev pub set_names : List ℕ → List (List ℕ)
 set_names text = flat_map set_name (slice_split (λ b. b == char.less) text)
 
--- the name of the file of an element `bcf:datasource`
+-- the file name in an element `bcf:datasource`, without the white space around it; none for another element
 abbrev pub source_name : List ℕ → List (List ℕ)
 source_name piece =
     option_map_or (λ text. trim (unescaped_text text) ∷ []) (text_with_name (codes "bcf:datasource") piece) []

@@ -26,7 +26,7 @@ after_close text = after_first (λ b. b == char.close_brace) text
 abbrev pub argument : List ℕ → Option (List ℕ)
 argument text = if has_close text then Some (before_close text) else None
 
--- the text of the last of one or two arguments; the given text begins after the opening brace of the first
+-- the text of the last of one or two arguments; `text` begins after the opening brace of the first
 abbrev pub last_argument : List ℕ → Option (List ℕ)
 last_argument text =
     if has_close text then option_map_or argument (text_after_prefix (codes "{") (after_close text)) (Some (before_close text))
@@ -36,7 +36,7 @@ last_argument text =
 abbrev pub after_command : List ℕ → Option (List ℕ)
 after_command line = option_or (text_after_prefix (codes "\\citation{") line) (text_after_prefix (codes "\\abx@aux@cite{") line)
 
--- the comma-separated keys that a line cites, or `None` if it cites none
+-- the comma-separated keys that a line cites, or `None` if the line is no complete citation command
 abbrev pub aux_list : List ℕ → Option (List ℕ)
 aux_list line = option_and_then last_argument (after_command line)
 
@@ -52,6 +52,6 @@ aux_name name = if ends_with eqb name (codes ".aux") then Some name else None
 abbrev pub aux_input : List ℕ → Option (List ℕ)
 aux_input line = option_and_then aux_name (option_and_then argument (text_after_prefix (codes "\\@input{") line))
 
--- the comma-separated names of .bib files in a line, or `None` if it names none
+-- the comma-separated names of .bib files in a line, or `None` if the line is no complete `\bibdata`
 abbrev pub aux_data : List ℕ → Option (List ℕ)
 aux_data line = option_and_then argument (text_after_prefix (codes "\\bibdata{") line)

@@ -12,7 +12,7 @@ use Rattle.bib_queries.specs.Names.{comma_parts}
 abbrev pub file_name : List ℕ → List ℕ
 file_name name = if ends_with eqb name (codes ".bib") then name else name ++ codes ".bib"
 
--- the names in the first of these lines that has `\bibdata`; BibTeX skips the others
+-- the names in the first of these lines that begins with a complete `\bibdata`; BibTeX skips the others
 abbrev pub first_data : List (List ℕ) → List (List ℕ)
 first_data [] = []
 first_data (line ∷ rest) = option_map_or comma_parts (aux_data line) (first_data rest)

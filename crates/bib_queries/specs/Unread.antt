@@ -1,5 +1,5 @@
 -- Meaning: words of public contracts.
--- The preambles of a file that can't be parsed. The file grammar reads one text in quotes; BibTeX also reads `#`, braces and
+-- The preambles in braces that can't be parsed. The file grammar reads one text in quotes; BibTeX also reads `#`, braces and
 -- abbreviations in a preamble.
 use Rattle.std.specs.Prelude.{ℕ, ◌==◌, Bool, false, if◌then◌else◌, List, [], ◌++◌, codes, length, nat_lt, slice_range}
 use Rattle.std.specs.List.{before_first, list_any, position_or_len}
@@ -18,14 +18,14 @@ is_preamble source =
     if nat_lt (position_or_len (λ b. b == char.open_brace) source) (length source)
     then is_word (trim_end (before_first (λ b. b == char.open_brace) source)) (codes "@preamble") else false
 
--- whether a skipped block is a preamble
+-- whether a skipped block is a preamble in braces
 abbrev pub is_unread_preamble : List ℕ → SkippedBlock → Bool
 is_unread_preamble text block = is_preamble (skipped_source text block)
 
--- whether one of these skipped blocks is a preamble
+-- whether one of these skipped blocks is a preamble in braces
 abbrev pub has_unread_preamble : List ℕ → List SkippedBlock → Bool
 has_unread_preamble text skipped = list_any (is_unread_preamble text) skipped
 
--- the source text of a skipped block and a line feed, if it is a preamble
+-- the source text of a skipped block and a line feed, if it is a preamble in braces
 abbrev pub unread_line : List ℕ → SkippedBlock → List ℕ
 unread_line text block = if is_unread_preamble text block then skipped_source text block ++ codes "\n" else []

@@ -70,7 +70,7 @@ fn used_abbreviations<'s>(
     Ok(names)
 }
 
-// Marks the definitions of the abbreviations that the entries with marks use, transitively, or all definitions.
+// Marks the definitions of the abbreviations that the entries with marks use, transitively. Marks all definitions if `all` is true.
 fn used_definitions(
     alloc: Global,
     raw: &RawBibliography<'_>,

@@ -54,7 +54,7 @@ fn push_pieces(written: &mut String, text: &str) -> Result<(), AllocError>
     Ok(())
 }
 
-// Returns a text with its XML escapes replaced by characters.
+// Returns a text with each of the five named escapes of XML replaced by its character.
 pub(crate) fn unescaped_text(alloc: Global, text: &str) -> Result<String, AllocError>
     ensures { IfOk result (λ written. string_bytes written ≡ spec.unescaped_text text.now) }
 {
@@ -66,14 +66,14 @@ pub(crate) fn unescaped_text(alloc: Global, text: &str) -> Result<String, AllocE
     Ok(written)
 }
 
-// Returns whether this text after the name of a tag ends the name.
+// Returns whether this text after the name of a tag ends the name: it is empty or begins with a space.
 fn ends_name(rest: &str) -> bool
     ensures { result ≡ (length rest.now == 0 || starts_with eqb rest.now (codes " ")) }
 {
     rest.is_empty() || rest.starts_with(' ')
 }
 
-// Returns whether a tag has this name, with or without attributes.
+// Returns whether a tag is this name, or begins with this name and a space.
 fn is_tag_with(tag: &str, name: &str) -> bool
     ensures { result ≡ spec.is_tag_with name.now tag.now }
 {
@@ -83,7 +83,8 @@ fn is_tag_with(tag: &str, name: &str) -> bool
     }
 }
 
-// Returns the tag of an element with this name, or `None` for another element. `piece` begins after the `<` of the element.
+// Returns the tag of an element with this name, or `None` for another element or a tag without an end. `piece` begins after the `<` of
+// the element.
 fn tag_with_name<'s>(piece: &'s str, name: &str) -> Option<&'s str>
     ensures { option_map (λ tag. tag.now) result ≡ spec.tag_with_name name.now piece.now }
 {
@@ -95,7 +96,7 @@ fn tag_with_name<'s>(piece: &'s str, name: &str) -> Option<&'s str>
     }
 }
 
-// Returns the text of an element with this name, or `None` for another element.
+// Returns the text of an element with this name, or `None` for another element or a tag without an end.
 pub(crate) fn text_with_name<'s>(piece: &'s str, name: &str) -> Option<&'s str>
     ensures { option_map (λ text. text.now) result ≡ spec.text_with_name name.now piece.now }
 {
@@ -179,7 +180,8 @@ pub(crate) fn key_list(piece: &str) -> Option<&str>
     }
 }
 
-// Appends the keys in `list`: those of a comma-separated list if `has_commas` is true, or one key otherwise.
+// Appends the keys in `list`: those of a comma-separated list if `has_commas` is true. Otherwise, `list` without the white space
+// around it is one key, unless it is empty.
 pub(crate) fn push_listed_keys<'s>(
     keys: &mut Vec<&'s str>,
     list: &'s str,

@@ -29,7 +29,7 @@ fn all_names<'s>(
     Ok(names)
 }
 
-// Returns a mark for each key: whether it is one of these names.
+// Returns a mark for each of `keys`, in their order: whether it is one of `names`.
 fn marks_among(alloc: Global, names: &[&str], keys: &[&str]) -> Result<Vec<bool>, AllocError>
     ensures { IfOk result (λ marks. marks.items ≡
         map (is_listed (map (λ n. n.now) names.now)) (map (λ k. k.now) keys.now)) }
@@ -42,8 +42,8 @@ fn marks_among(alloc: Global, names: &[&str], keys: &[&str]) -> Result<Vec<bool>
     Ok(marks)
 }
 
-/// Returns a mark for each key: whether it is a name of an entry in `text`. The names of an entry are its key and the
-/// names in its field `ids`. An entry with a syntax error has the names in its complete parts.
+/// Returns a mark for each of `keys`, in their order: whether it is a name of an entry in `text`. The names of an entry are
+/// its key and the names in its fields `ids`. An entry with a syntax error has the names in its complete parts.
 pub fn mark_known(alloc: Global, text: &str, keys: &[&str]) -> Result<Vec<bool>, AllocError>
     ensures { IfOk result (λ marks. IsKnownIn text.now (map (λ k. k.now) keys.now) marks.items) }
 {
@@ -101,7 +101,7 @@ fn uncited_among<'s>(
 }
 
 /// Returns the keys, with their spans, of the entries in `text` that have no name among `keys`. An entry with a syntax
-/// error has the key and the names in its complete parts; a block without a key is skipped.
+/// error has the key and the names in its complete parts. It is skipped if recovery keeps no part of it.
 pub fn find_uncited<'s>(
     alloc: Global,
     text: &'s str,

@@ -45,7 +45,7 @@ fn after_command(line: &str) -> Option<&str>
     }
 }
 
-// Returns the comma-separated keys that a line cites, or `None` if it cites none.
+// Returns the comma-separated keys that a line cites, or `None` if the line is no complete citation command.
 fn aux_list(line: &str) -> Option<&str>
     ensures { option_map (λ rest. rest.now) result ≡ spec.aux_list line.now }
 {
@@ -91,7 +91,7 @@ pub fn aux_input(line: &str) -> Option<&str>
     aux_name(name)
 }
 
-// Returns the comma-separated names of .bib files in a line, or `None` if it names none.
+// Returns the comma-separated names of .bib files in a line, or `None` if the line is no complete `\bibdata`.
 pub(crate) fn aux_data(line: &str) -> Option<&str>
     ensures { option_map (λ list. list.now) result ≡ spec.aux_data line.now }
 {

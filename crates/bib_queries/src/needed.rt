@@ -22,7 +22,7 @@ fn take_indices(alloc: Global, holders: &mut BTreeMap<&str, Vec<usize>>, name: &
     }
 }
 
-// Adds an index to those of a name.
+// Appends `index` to the indices of `name`.
 fn add_holder<'s>(
     alloc: Global,
     holders: &mut BTreeMap<&'s str, Vec<usize>>,
@@ -38,7 +38,7 @@ fn add_holder<'s>(
     Ok(())
 }
 
-// Adds an index to those of each of these names.
+// Appends `index` to the indices of each name in `names`.
 fn add_holders<'s>(
     alloc: Global,
     holders: &mut BTreeMap<&'s str, Vec<usize>>,

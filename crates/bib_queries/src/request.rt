@@ -3,13 +3,13 @@
 /// A request for entries of files, or for their keys.
 #[derive(Debug, Drop)]
 pub enum Request<'a> {
-    /// The keys of entries.
+    /// The keys of all entries.
     Keys,
     /// The entries with these keys.
     Get(Vec<&'a str>),
     /// The entries with a text in a field.
     Grep(Search<'a>),
-    /// The cited entries, and the entries and abbreviations that they refer to, transitively.
+    /// The cited entries, the entries and abbreviations that they refer to, transitively, and the preambles.
     Cited(CitedKeys<'a>),
 }
 
@@ -18,7 +18,7 @@ pub enum Request<'a> {
 pub struct Search<'a> {
     /// The name of the field, in any ASCII case.
     pub field: &'a str,
-    /// The text that a piece of its value contains, compared with the source text.
+    /// The text to find in the source text of one piece of the field's value. The case of letters matters.
     pub part: &'a str,
 }
 

@@ -32,7 +32,7 @@ fn file_name(alloc: Global, name: &str) -> Result<String, AllocError>
     Ok(file)
 }
 
-// Returns the names in the first line that has `\bibdata`.
+// Returns the names in the first line that begins with a complete `\bibdata`.
 fn first_data(alloc: Global, text: &str) -> Result<Vec<&str>, AllocError>
     ensures { IfOk result (λ names. text_list names ≡ spec.first_data (slice_split (λ b. b == char.line_feed) text.now)) }
 {
@@ -57,7 +57,8 @@ fn file_names(alloc: Global, names: &[&str]) -> Result<Vec<String>, AllocError>
     Ok(files)
 }
 
-// Appends the name of the file of an element `bcf:datasource`. `piece` begins after the `<` of the element.
+// Appends the file name in an element `bcf:datasource`, without the white space around it. `piece` begins after the `<` of an
+// element. For another element, appends nothing.
 fn push_source(alloc: Global, files: &mut Vec<String>, piece: &str) -> Result<(), AllocError>
     ensures { OnOk result (map string_bytes files.new.items ≡ map string_bytes files.old.items ++ source_name piece.now) }
 {

@@ -1,4 +1,4 @@
-//! Prints the preambles of a file that can't be parsed, with their source text.
+//! Prints the preambles in braces that can't be parsed, with their source text.
 
 ghost use Rattle.std.specs.Prelude.{◌≡◌, ◌++◌, [], if◌then◌else◌, OnOk};
 ghost use Rattle.std.specs.List.{AllByRecursion, flat_map};
@@ -29,7 +29,7 @@ fn is_preamble(source: &str) -> bool
     }
 }
 
-// Returns whether a skipped block is a preamble.
+// Returns whether a skipped block is a preamble in braces.
 fn is_unread(text: &str, block: &SkippedBlock) -> bool
     requires { IsSkippedIn text.now block.now }
     ensures { result ≡ is_unread_preamble text.now block.now }
@@ -37,7 +37,7 @@ fn is_unread(text: &str, block: &SkippedBlock) -> bool
     is_preamble(skipped_source(text, block))
 }
 
-// Returns whether one of these skipped blocks is a preamble.
+// Returns whether one of these skipped blocks is a preamble in braces.
 pub(crate) fn has_unread(text: &str, skipped: &[SkippedBlock]) -> bool
     requires { AllByRecursion (IsSkippedIn text.now) skipped.now }
     ensures { result ≡ has_unread_preamble text.now skipped.now }
@@ -50,7 +50,7 @@ pub(crate) fn has_unread(text: &str, skipped: &[SkippedBlock]) -> bool
     false
 }
 
-// Appends the source text of a skipped block and a line feed, if it is a preamble.
+// Appends the source text of a skipped block and a line feed, if it is a preamble in braces.
 fn print_unread(printed: &mut String, text: &str, block: &SkippedBlock) -> Result<(), AllocError>
     requires { IsSkippedIn text.now block.now }
     ensures { OnOk result (string_bytes printed.new ≡ string_bytes printed.old ++ unread_line text.now block.now) }
@@ -62,7 +62,7 @@ fn print_unread(printed: &mut String, text: &str, block: &SkippedBlock) -> Resul
     Ok(())
 }
 
-// Appends the source text of the skipped blocks that are preambles, each with a line feed.
+// Appends the source text of the skipped blocks that are preambles in braces, each with a line feed.
 pub(crate) fn print_all_unread(
     printed: &mut String,
     text: &str,

@@ -8,6 +8,7 @@ use Rattle.std.proofs.lemmas.List.{length-take-le, take-append-drop}
 use Rattle.std.proofs.lemmas.Bool.{cases_Bool, true≢false}
 use Rattle.std.proofs.lemmas.Bool.Decides.{nat_tests}
 use Rattle.std.proofs.Common.{inl, inr, Option}
+use Rattle.bib_text.proofs.BoolFacts.{or_false_left, or_false_right}
 use Rattle.bib_recode.specs.Units.{begins_unpaired, character_len, is_surrogate_pair, is_surrogate}
 
 is_lone : (u : ℕ) → not (is_some (lone_unit_char u)) ≡ is_surrogate u
@@ -49,14 +50,6 @@ left_false : (a b c : Bool) → (a || b) ≡ false → (a && c) ≡ false
 left_false true b c h = absurd (true≢false h)
 left_false false b c h = refl
 
-first_false : (a b : Bool) → (a || b) ≡ false → a ≡ false
-first_false true b h = h
-first_false false b h = refl
-
-second_false : (a b : Bool) → (a || b) ≡ false → b ≡ false
-second_false true b h = absurd (true≢false h)
-second_false false b h = h
-
 no_pair : (u v : ℕ) → is_surrogate u ≡ false → is_surrogate_pair u v ≡ false
 no_pair u v h = left_false (is_high_surrogate u) (is_low_surrogate u) (is_low_surrogate v) h
 
@@ -74,8 +67,8 @@ complete (u ∷ v ∷ us) ys h =
       | inr lone ↦
           let both = sym (has_lone u v us lone) ∙ h in
           has_lone u v (us ++ ys) lone
-          ∙ ap (λ b. b || has_unpaired_surrogate (v ∷ us ++ ys)) (first_false (is_surrogate u) (has_unpaired_surrogate (v ∷ us)) both)
-          ∙ complete (v ∷ us) ys (second_false (is_surrogate u) (has_unpaired_surrogate (v ∷ us)) both)
+          ∙ ap (λ b. b || has_unpaired_surrogate (v ∷ us ++ ys)) (or_false_left (is_surrogate u) (has_unpaired_surrogate (v ∷ us)) both)
+          ∙ complete (v ∷ us) ys (or_false_right (is_surrogate u) (has_unpaired_surrogate (v ∷ us)) both)
     ]
 
 and_true : (a b : Bool) → b ≡ false → (a && not b) ≡ false → a ≡ false

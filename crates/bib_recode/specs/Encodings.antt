@@ -45,7 +45,7 @@ length_of_mark encoding bytes = if starts_with nat_eq bytes (encoding_mark encod
 abbrev pub after_mark : Encoding → List ℕ → List ℕ
 after_mark encoding bytes = drop (length_of_mark encoding bytes) bytes
 
--- the encoding whose byte order mark is at the start of a file
+-- the encoding whose byte order mark is at the start of a file, or `None`
 abbrev pub marked_as : List ℕ → Option Encoding
 marked_as bytes =
     if starts_with nat_eq bytes byte_order_mark then Some Utf8

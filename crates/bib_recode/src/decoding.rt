@@ -5,9 +5,10 @@ ghost use Rattle.bib_recode.specs.Decoded.{IsDecoded, IsRefused, IsUtf16Refused,
 ghost use Rattle.bib_recode.specs.declared.decoding.DecodeError.TheVariants.{OutOfMemory};
 
 use crate::encoding::Encoding;
-use crate::single_bytes::{latin1_text, windows_1252_text};
+use crate::latin1::latin1_text;
 use crate::utf16::{first_unpaired, units_of};
 use bib_source::decoding;
+use bib_source::windows_1252::windows_1252_text;
 use std::alloc::{AllocError, Global};
 
 /// The reason why bytes can't be decoded. Each place is an offset in bytes of the file, from 0.
@@ -84,8 +85,8 @@ fn decode_utf16(
 /// Decodes the bytes of a file in an encoding, and removes a byte order mark in that encoding from the start. In Windows-1252 the five
 /// undefined bytes are the control characters with their numbers.
 ///
-/// Returns an error with its place if the bytes aren't valid UTF-8, if UTF-16 has an odd number of bytes, or if it has a surrogate without
-/// a partner; an odd number of bytes is reported first. The only other error is out of memory.
+/// Returns an error with its place in three cases. A file in UTF-8 isn't valid UTF-8. A file in UTF-16 has an odd number of bytes. A file
+/// in UTF-16 with an even number of bytes has a surrogate without a partner. The only other error is out of memory.
 pub fn decode(alloc: Global, bytes: &[u8], encoding: Encoding) -> Result<String, DecodeError>
     ensures decoded { IfOk result (λ text. IsDecoded encoding bytes.now (string_bytes text)) }
     ensures refused { IfErr result (IsRefused encoding bytes.now) }

@@ -57,7 +57,7 @@ impl Encoding {
         }
     }
 
-    // Returns the length in bytes of the mark of this encoding at the start of a file, or 0 if the file doesn't begin with it.
+    // Returns the length in bytes of this encoding's mark at the start of a file, or 0 if the file doesn't begin with it.
     pub(crate) fn mark_length(self, bytes: &[u8]) -> usize
         ensures is { result ≡ length_of_mark self bytes.now }
         ensures within { result ≤ length bytes.now }
@@ -98,8 +98,8 @@ fn if_utf8(bytes: &[u8]) -> Option<Encoding>
     }
 }
 
-/// Returns the encoding of a file, if its bytes tell: that of the byte order mark at its start, or UTF-8 if it has no mark and is valid
-/// UTF-8. Returns `None` for any other bytes.
+/// Returns the encoding of a file. This is the one of the byte order mark at its start, or UTF-8 if it has no mark and is valid UTF-8.
+/// Returns `None` for any other bytes.
 pub fn detect(bytes: &[u8]) -> Option<Encoding>
     ensures marked { marked_as bytes.now ≢ None → result ≡ marked_as bytes.now }
     ensures valid { marked_as bytes.now ≡ None → IsUtf8 bytes.now → result ≡ Some Encoding.Utf8 }

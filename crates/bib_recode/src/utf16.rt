@@ -82,7 +82,7 @@ fn character_len(units: &[u16]) -> usize
     }
 }
 
-// Returns the index of the first surrogate without a partner.
+// Returns the index of the first surrogate without a partner, or `None`.
 pub(crate) fn first_unpaired(units: &[u16]) -> Option<usize>
     ensures { MatchOption result (has_unpaired_surrogate units.now ≡ false) (IsFirstUnpaired units.now) }
 {

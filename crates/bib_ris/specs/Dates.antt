@@ -10,7 +10,7 @@ use Rattle.bib_csl.specs.declared.item.ItemDate.{ItemDate}
 use Rattle.bib_entry.specs.declared.entry.Entry.{Entry}
 use Rattle.bib_ris.specs.Lines.{given_line}
 
--- the only date, or the start of a range, or its end if its start is open; the year 0 stands for an open side
+-- the only date, or the start of a range, or its end if its start is open; the year 0 means an open side
 abbrev pub first_date : List DateParts → Option DateParts
 first_date [] = None
 first_date (only ∷ []) = Some only
@@ -29,12 +29,13 @@ slashed_day d = signed_decimal d.year ++ (codes "/" ++ (two_digits d.month ++ (c
 abbrev pub unparsed : ItemDate → List ℕ
 unparsed date = unwrap_or date.literal []
 
--- the line of the day of a date, if its month is known
+-- the line with the year, the month and the day of a date, if its month is known
 abbrev pub day_line : Option ℕ → DateParts → List ℕ
 day_line None first = []
 day_line (Some month) first = given_line (codes "DA") (slashed_day first)
 
--- the lines of a date of publication, given the first of its dates: its year and its day, or its text if it isn't parsed
+-- the lines of a date of publication: the year of `first`, and the whole date if its month is known. A date that isn't parsed has one line,
+-- with its text.
 abbrev pub issued_from : Option DateParts → ItemDate → List ℕ
 issued_from None date = given_line (codes "PY") (unparsed date)
 issued_from (Some first) date = given_line (codes "PY") (signed_decimal first.year) ++ day_line first.month first
@@ -43,7 +44,7 @@ issued_from (Some first) date = given_line (codes "PY") (signed_decimal first.ye
 abbrev pub issued_date : ItemDate → List ℕ
 issued_date date = issued_from (first_date date.parts) date
 
--- the text of a date of access, given the first of its dates
+-- the text of a date of access: that of the first of its dates, or the text of a date that isn't parsed
 abbrev pub access_text : Option DateParts → ItemDate → List ℕ
 access_text None date = unparsed date
 access_text (Some first) date = slashed_day first

@@ -17,11 +17,11 @@ is_one_range (Some []) = false
 is_one_range (Some (only ∷ [])) = true
 is_one_range (Some (first ∷ second ∷ rest)) = false
 
--- the digits at the start of a text
+-- the ASCII digits at the start of a text
 abbrev pub first_page : List ℕ → List ℕ
 first_page text = take (prefix_len is_ascii_digit text) text
 
--- the digits after them
+-- the ASCII digits in the text after the digits at its start
 abbrev pub last_page : List ℕ → List ℕ
 last_page text = encode_utf8_all (filter is_ascii_digit (chars (drop (prefix_len is_ascii_digit text) text)))
 

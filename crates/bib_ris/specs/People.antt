@@ -14,7 +14,7 @@ use Rattle.bib_ris.specs.Lines.{ris_line}
 abbrev pub family_name : Person → List ℕ
 family_name p = if length p.prefix == 0 then p.name else p.prefix ++ (codes " " ++ p.name)
 
--- whether a person has only a family name
+-- whether a person has only a family name, maybe with a prefix
 abbrev pub is_family_alone : Person → Bool
 is_family_alone p = (length p.given_name == 0) && (length p.suffix == 0)
 
@@ -22,12 +22,12 @@ is_family_alone p = (length p.given_name == 0) && (length p.suffix == 0)
 abbrev pub contains_byte : ℕ → List ℕ → Bool
 contains_byte byte text = list_any (λ b. b == byte) text
 
--- the comma after a name of several words without a given name, such as that of an institution: readers take the words of a name without a
--- comma for given names and a family name
+-- a comma for a name that contains a space or a tilde, such as that of an institution: without a comma, RIS readers parse its words as
+-- given names and a family name
 abbrev pub comma_alone : List ℕ → List ℕ
 comma_alone name = if contains_byte char.space name || contains_byte char.tilde name then codes "," else []
 
--- a comma and the given name, or what is after a family name alone
+-- a comma and the given name; without a given name and without a suffix, only the comma of `comma_alone`
 abbrev pub given_part : Person → List ℕ
 given_part p = if is_family_alone p then comma_alone (family_name p) else codes ", " ++ p.given_name
 
@@ -39,19 +39,19 @@ suffix_part p = if length p.suffix == 0 then [] else codes ", " ++ p.suffix
 abbrev pub person_text : Person → List ℕ
 person_text p = loosened (chars (family_name p ++ (given_part p ++ suffix_part p)))
 
--- whether a person is the word `others`, which stands for people who aren't named
+-- whether a person is the word `others`, which means people who aren't named
 abbrev pub is_others : Person → Bool
 is_others p = bytes_eq (person_text p) (codes "others")
 
--- a line for a person, unless the person is that word
+-- a line for a person, unless the person is the word `others`
 abbrev pub person_line : List ℕ → Person → List ℕ
 person_line tag p = if is_others p then [] else ris_line tag (person_text p)
 
--- a line for each person
+-- a line for each person except the word `others`
 abbrev pub person_lines : List ℕ → List Person → List ℕ
 person_lines tag people = flat_map (person_line tag) people
 
--- a line for each person of a field
+-- a line for each person of a field except the word `others`
 abbrev pub people_lines : List ℕ → Option Value → List ℕ
 people_lines tag None = []
 people_lines tag (Some chunks) = person_lines tag (people_of chunks)

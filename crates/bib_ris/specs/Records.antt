@@ -1,5 +1,5 @@
 -- Meaning: words of public contracts.
--- Entries as records of RIS. The texts are those of items of CSL-JSON, without HTML tags.
+-- Entries as records of RIS. The texts are those of items of CSL-JSON; only the publisher, its place and the genre have HTML tags.
 use Rattle.std.specs.Prelude.{ℕ, if◌then◌else◌, List, [], ◌++◌, codes, Option, Some, None, is_some}
 use Rattle.bib_csl.specs.Identifiers.{archive_text, bare_doi, url_of}
 use Rattle.bib_csl.specs.Notes.{language_of, language_value}
@@ -18,7 +18,7 @@ use Rattle.bib_ris.specs.Types.{ris_type}
 
 -- ---- people
 
--- the authors, or the holders of a patent without authors, the authors of the book that contains the work, and the translators
+-- the authors, or else the holders, such as those of a patent; the authors of the book that contains the work; and the translators
 unfoldable pub authors_part : Entry → List ℕ
 authors_part entry =
     people_lines (codes "AU") (field_or entry (codes "author") (codes "holder"))
@@ -61,7 +61,7 @@ volumes_around entry = whole_title entry (bare_named entry (codes "maintitle")) 
 unfoldable pub meeting_title : Entry → List ℕ
 meeting_title entry = joined_by_mark (codes ".") (bare_named entry (codes "eventtitle")) (bare_named entry (codes "eventtitleaddon"))
 
--- the title of what contains the work: the journal, or else the book, the work of several volumes, or the event
+-- the title of the container of the work: the journal, or else the book, the work of several volumes, or the event
 unfoldable pub host_title : Entry → List ℕ
 host_title entry = either (periodical_title entry) (either (book_around entry) (either (volumes_around entry) (meeting_title entry)))
 
@@ -69,13 +69,13 @@ host_title entry = either (periodical_title entry) (either (book_around entry) (
 unfoldable pub whole_host_part : Entry → List ℕ
 whole_host_part entry = given_line (codes "JF") (periodical_title entry) ++ given_line (codes "BT") (book_around entry)
 
--- the title of what contains the work, under two tags, and the short title of the journal
+-- the container's title, the titles of the journal and of the book once more, and the journal's short title
 unfoldable pub host_part : Entry → List ℕ
 host_part entry =
     given_line (codes "T2") (host_title entry)
     ++ (whole_host_part entry ++ given_line (codes "JA") (bare_named entry (codes "shortjournal")))
 
--- the title, its short form, the titles of what contains the work, and the title of the series
+-- the title, its short form, the titles of the container of the work, and the title of the series
 unfoldable pub titles_part : Entry → List ℕ
 titles_part entry =
     given_line (codes "TI") (work_title entry)
@@ -93,7 +93,7 @@ volume_part entry =
     ++ (given_line (codes "ET") (bare_named_or entry (codes "edition") (codes "version"))
     ++ given_line (codes "SE") (bare_named entry (codes "chapter")))))
 
--- the number of pages, unless there are pages
+-- the field `pagetotal`, the number of pages, unless the entry has the field `pages`
 unfoldable pub page_total : Entry → List ℕ
 page_total entry = if is_some (field entry (codes "pages")) then [] else bare_named entry (codes "pagetotal")
 
@@ -109,7 +109,7 @@ pages_part entry =
 unfoldable pub publication_place : Entry → List ℕ
 publication_place entry = either (listed_field (field_or entry (codes "location") (codes "address"))) (bare_named entry (codes "venue"))
 
--- the publisher, the place, and the kind of thesis, report or patent
+-- the publisher, the place and the genre
 unfoldable pub publisher_part : Entry → List ℕ
 publisher_part entry =
     given_line (codes "PB") (publisher_of entry)
@@ -127,7 +127,7 @@ links_part entry =
 
 -- ---- contents
 
--- a line for each keyword
+-- a line for each part of the comma list `keywords`, also for an empty part
 unfoldable pub keyword_lines : Option Value → List ℕ
 keyword_lines None = []
 keyword_lines (Some chunks) = ris_lines (codes "KW") (strings_read chunks)

@@ -21,7 +21,7 @@ abbrev pub article_type : Option Value → List ℕ
 article_type None = codes "JOUR"
 article_type (Some subtype) = periodical_type (text subtype)
 
--- the type of a work of a type that only BibLaTeX's data model has, by the type of its item
+-- the type of the record of an entry whose type is unknown, by the type of its item
 abbrev pub type_of_work : ItemType → List ℕ
 type_of_work item_type.Graphic = codes "ART"
 type_of_work item_type.LegalCase = codes "CASE"

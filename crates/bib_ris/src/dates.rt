@@ -52,7 +52,8 @@ fn unparsed(date: &ItemDate) -> &str
     }
 }
 
-// Appends the lines of the date of publication: its year, and its day if its month is known.
+// Appends the lines of the date of publication: its year, and the whole date if its month is known. A date that isn't parsed has
+// one line, with its text.
 fn push_issued(out: &mut String, alloc: Global, date: &ItemDate) -> Result<(), AllocError>
     ensures { OnOk result (string_bytes out.new ≡ string_bytes out.old ++ spec.issued_date date.now) }
 {

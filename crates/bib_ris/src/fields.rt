@@ -14,7 +14,7 @@ use bib_entry::entry::Entry;
 use bib_text::text::Text;
 use std::alloc::{AllocError, Global};
 
-// Returns the text of chunks without LaTeX commands, or an empty text if the field is missing.
+// Returns the text of a field with its LaTeX commands replaced, as by `bare_text`, or an empty text if the field is missing.
 fn bare_value(alloc: Global, field: Option<ChunksRef<'_>>) -> Result<Text, AllocError>
     ensures { IfOk result (λ text. text ≡ spec.bare_value (option_copied field.entry)) }
 {
@@ -24,7 +24,7 @@ fn bare_value(alloc: Global, field: Option<ChunksRef<'_>>) -> Result<Text, Alloc
     }
 }
 
-/// Returns the text of the field of this name without LaTeX commands, or an empty text if the field is missing.
+/// Returns the text of the field of this name with its LaTeX commands replaced, or an empty text if the field is missing.
 #[tactic(auto, unfolding(crate::specs::Bare::bare_named))]
 pub(crate) fn bare_named(alloc: Global, entry: &Entry, name: &str) -> Result<Text, AllocError>
     ensures { IfOk result (λ text. text ≡ spec.bare_named entry.now name.now) }
@@ -32,7 +32,7 @@ pub(crate) fn bare_named(alloc: Global, entry: &Entry, name: &str) -> Result<Tex
     bare_value(alloc, entry.get(name))
 }
 
-/// Returns the text of the field `name`, or else of the field `other`, without LaTeX commands.
+/// Returns the text of the field `name`, or else of the field `other`, with its LaTeX commands replaced. It is empty if both are missing.
 #[tactic(auto, unfolding(crate::specs::Bare::bare_named_or))]
 pub(crate) fn bare_named_or(
     alloc: Global,

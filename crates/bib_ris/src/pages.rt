@@ -25,7 +25,7 @@ fn is_one_range(alloc: Global, chunks: ChunksRef<'_>) -> Result<bool, AllocError
     }
 }
 
-// Returns the number of digits at the start of a text.
+// Returns the number of ASCII digits at the start of a text.
 fn digits(text: &str) -> usize
     ensures { result ≡ prefix_len is_ascii_digit text.now }
 {
@@ -35,7 +35,7 @@ fn digits(text: &str) -> usize
         .count()
 }
 
-// Returns the digits of a text.
+// Returns the ASCII digits of a text.
 fn all_digits(alloc: Global, text: &str) -> Result<String, AllocError>
     ensures { IfOk result (λ all. string_bytes all ≡ encode_utf8_all (filter is_ascii_digit (chars text.now))) }
 {

@@ -31,7 +31,7 @@ fn contains_byte(text: &str, byte: u8) -> bool
     text.as_bytes().contains(&byte)
 }
 
-// Returns the comma after a name of several words without a given name.
+// Returns `,` for a family name that contains a space or a tilde, and an empty text for any other.
 fn comma_alone(family_name: &str) -> &'static str
     ensures { result.now ≡ spec.comma_alone family_name.now }
 {
@@ -42,7 +42,8 @@ fn comma_alone(family_name: &str) -> &'static str
     }
 }
 
-// Appends a comma and the given name, or a comma alone after a family name of several words.
+// Appends a comma and the given name. If the person has neither a given name nor a suffix, appends only the comma of `comma_alone`.
+// `out` is the family name with its prefix.
 fn push_given_part(out: &mut Text, person: &Person) -> Result<(), AllocError>
     requires { out.old ≡ spec.family_name person.now }
     ensures { OnOk result (out.new ≡ out.old ++ spec.given_part person.now) }
@@ -93,7 +94,7 @@ fn push_person(
     push_line(out, tag, text.as_str())
 }
 
-// Appends a line for each person.
+// Appends a line for each person except the word `others`.
 fn push_people(
     out: &mut String,
     alloc: Global,
@@ -108,7 +109,7 @@ fn push_people(
     Ok(())
 }
 
-/// Appends a line for each person of a field.
+/// Appends a line for each person of a field except the word `others`.
 pub(crate) fn push_people_of(
     out: &mut String,
     alloc: Global,

@@ -30,7 +30,7 @@ fn push_type(out: &mut String, alloc: Global, entry: &Entry) -> Result<(), Alloc
     push_line(out, "TY", name)
 }
 
-// Appends the lines of the authors, of the authors of the book that contains the work, and of the translators.
+// Appends the lines of the authors (or else of the holders), of the authors of the book that contains the work, and of the translators.
 #[tactic(auto, unfolding(crate::specs::Records::authors_part))]
 fn push_authors(out: &mut String, alloc: Global, entry: &Entry) -> Result<(), AllocError>
     ensures { OnOk result (string_bytes out.new ≡ string_bytes out.old ++ spec.authors_part entry.now) }
@@ -63,7 +63,7 @@ fn push_volume(out: &mut String, alloc: Global, entry: &Entry) -> Result<(), All
     push_field(out, alloc, entry, "SE", "chapter")
 }
 
-// Returns the number of pages, or an empty text if there are pages.
+// Returns the field `pagetotal`, the number of pages, or an empty text if the entry has the field `pages`.
 #[tactic(auto, unfolding(crate::specs::Records::page_total))]
 fn page_total(alloc: Global, entry: &Entry) -> Result<Text, AllocError>
     ensures { IfOk result (λ text. text ≡ spec.page_total entry.now) }
@@ -93,7 +93,7 @@ fn publication_place(alloc: Global, entry: &Entry) -> Result<Text, AllocError>
     Ok(either(place, bare_named(alloc, entry, "venue")?))
 }
 
-// Appends the lines of the publisher, the place, and the kind of thesis, report or patent.
+// Appends the lines of the publisher, the place and the genre.
 #[tactic(auto, unfolding(crate::specs::Records::publisher_part))]
 fn push_publisher(out: &mut String, alloc: Global, entry: &Entry) -> Result<(), AllocError>
     ensures { OnOk result (string_bytes out.new ≡ string_bytes out.old ++ spec.publisher_part entry.now) }
@@ -117,7 +117,7 @@ fn push_links(out: &mut String, alloc: Global, entry: &Entry) -> Result<(), Allo
     push_field(out, alloc, entry, "CN", "library")
 }
 
-// Appends a line for each keyword.
+// Appends a line for each part of the comma list `keywords`, also for an empty part.
 #[tactic(auto, unfolding(crate::specs::Records::keyword_lines))]
 fn push_keywords(out: &mut String, alloc: Global, entry: &Entry) -> Result<(), AllocError>
     ensures { OnOk result (string_bytes out.new ≡ string_bytes out.old ++

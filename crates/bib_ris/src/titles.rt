@@ -77,7 +77,7 @@ fn meeting_title(alloc: Global, entry: &Entry) -> Result<Text, AllocError>
     )
 }
 
-// Returns the title of what contains the work: the journal, or else the book, the work of several volumes, or the event.
+// Returns the title of the container of the work: the journal, or else the book, the work of several volumes, or the event.
 #[tactic(auto, unfolding(crate::specs::Records::host_title))]
 fn host_title(alloc: Global, entry: &Entry) -> Result<Text, AllocError>
     ensures { IfOk result (λ text. text ≡ spec.host_title entry.now) }
@@ -94,7 +94,7 @@ fn push_work_title(out: &mut String, alloc: Global, entry: &Entry) -> Result<(),
     push_given(out, "TI", work_title(alloc, entry)?.as_str())
 }
 
-// Appends the line of the title of what contains the work.
+// Appends the line of the title of the container of the work.
 fn push_host_title(out: &mut String, alloc: Global, entry: &Entry) -> Result<(), AllocError>
     ensures { OnOk result (string_bytes out.new ≡ string_bytes out.old ++ given_line (codes "T2") (spec.host_title entry.now)) }
 {
@@ -124,7 +124,7 @@ fn push_whole_hosts(out: &mut String, alloc: Global, entry: &Entry) -> Result<()
     push_book_title(out, alloc, entry)
 }
 
-// Appends the lines of the title of what contains the work, under two tags, and of the short title of the journal.
+// Appends the lines of the container's title, of the titles of the journal and of the book once more, and of the journal's short title.
 #[tactic(auto, unfolding(crate::specs::Records::host_part))]
 fn push_host(out: &mut String, alloc: Global, entry: &Entry) -> Result<(), AllocError>
     ensures { OnOk result (string_bytes out.new ≡ string_bytes out.old ++ spec.host_part entry.now) }
@@ -134,7 +134,7 @@ fn push_host(out: &mut String, alloc: Global, entry: &Entry) -> Result<(), Alloc
     push_field(out, alloc, entry, "JA", "shortjournal")
 }
 
-/// Appends the lines of the title, its short form, the titles of what contains the work, and the title of the series.
+/// Appends the lines of the title, its short form, the titles of the container of the work, and the title of the series.
 #[tactic(auto, unfolding(crate::specs::Records::titles_part))]
 pub(crate) fn push_titles(out: &mut String, alloc: Global, entry: &Entry) -> Result<(), AllocError>
     ensures { OnOk result (string_bytes out.new ≡ string_bytes out.old ++ spec.titles_part entry.now) }

@@ -36,7 +36,7 @@ fn article_type(alloc: Global, subtype: Option<ChunksRef<'_>>) -> Result<&'stati
     }
 }
 
-// Returns the type of a work of a type that only BibLaTeX's data model has, by the type of its item.
+// Returns the type of the record of an entry whose type is unknown, by the type of its item.
 fn type_of_work(kind: ItemType) -> &'static str
     ensures { result.now ≡ spec.type_of_work kind }
 {

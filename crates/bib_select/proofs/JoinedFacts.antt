@@ -2,7 +2,7 @@
 use Rattle.std.proofs.Common.{◌≡◌, ℕ, Bool, true, false, List, [], ◌∷◌, ◌++◌, refl, sym, ap, subst, ◌∙◌, append_assoc}
 use Rattle.std.specs.Prelude.{codes, Result, Ok, if◌then◌else◌, ◌↔◌, ◌||◌}
 use Rattle.std.specs.List.{list_any}
-use Rattle.std.proofs.lemmas.Bool.{cond-true, cond-false}
+use Rattle.std.proofs.lemmas.Bool.{cond-true, cond-false, or_parts}
 use Rattle.std.proofs.lemmas.List.{append-nil}
 use Rattle.std.proofs.lemmas.List.Folds.{list_any-append}
 use Rattle.bib_select.specs.Conditions.{alternatives_reading, term_reading, terms_reading}
@@ -20,15 +20,11 @@ ReadsBy {A} f Is = (s : Segment) (a : A) → (f s ≡ Ok a) ↔ Is s.tokens a
 
 -- ---- parts are segments
 
-either_false : (a b : Bool) → (a || b) ≡ false → (a ≡ false) × (b ≡ false)
-either_false false b is = (refl, is)
-either_false true b is = absurd (cc)
-
 segment_alone : (joint : List ℕ) (end : ℕ) (tokens : List Placed) → LacksWord joint tokens
     → segments_between joint end tokens ≡ up_to end tokens ∷ []
 segment_alone joint end [] lacks = refl
 segment_alone joint end (first ∷ tokens) lacks =
-    let (other, rest) = either_false (is_keyword joint first.token) (list_any (λ p. is_keyword joint p.token) tokens) lacks in
+    let (other, rest) = or_parts (is_keyword joint first.token) (list_any (λ p. is_keyword joint p.token) tokens) lacks in
     cond-false (is_keyword joint first.token) _ _ other ∙ ap (with_token first) (segment_alone joint end tokens rest)
 
 segment_before : (joint : List ℕ) (end : ℕ) (tokens : List Placed) (placed : Placed) (more : List Placed) → LacksWord joint tokens
@@ -36,7 +32,7 @@ segment_before : (joint : List ℕ) (end : ℕ) (tokens : List Placed) (placed :
     → segments_between joint end (tokens ++ placed ∷ more) ≡ up_to placed.at tokens ∷ segments_between joint end more
 segment_before joint end [] placed more lacks is = cond-true (is_keyword joint placed.token) _ _ is
 segment_before joint end (first ∷ tokens) placed more lacks is =
-    let (other, rest) = either_false (is_keyword joint first.token) (list_any (λ p. is_keyword joint p.token) tokens) lacks in
+    let (other, rest) = or_parts (is_keyword joint first.token) (list_any (λ p. is_keyword joint p.token) tokens) lacks in
     cond-false (is_keyword joint first.token) _ _ other ∙ ap (with_token first) (segment_before joint end tokens placed more rest is)
 
 -- the readings of two steps

@@ -1,5 +1,5 @@
 -- Meaning: words of public contracts.
--- A parsed condition has the tests of its text. Its regular expressions are compiled, and its names are in lower case.
+-- A parsed condition has the tests of its text. Its regular expressions are compiled, and its field names are in ASCII lower case.
 use Rattle.std.specs.Prelude.{◌≡◌, ◌≢◌, ℕ, List, ⊤}
 use Rattle.std.specs.List.{Any}
 use Rattle.std.specs.Str.{str_to_ascii_lowercase}

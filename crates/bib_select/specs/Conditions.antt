@@ -1,5 +1,5 @@
 -- Meaning: words of public contracts.
--- Conditions: what a test, a term and a condition are as lists of tokens, and the place of the first token that doesn't fit.
+-- Tests, terms and conditions as lists of tokens, and the place of the first token that doesn't fit.
 use Rattle.std.specs.Prelude.{ℕ, ℤ, Bool, true, false, if◌then◌else◌, List, [], ◌∷◌, codes, Option, Some, None, Result, Ok}
 use Rattle.std.specs.Option.{option_map, option_and_then}
 use Rattle.bib_text.specs.Enums.{value_named}
@@ -35,7 +35,7 @@ pub record TermReading : Type 0 where
   pub negated : Bool
   pub test : TestReading
 
--- what a test is about: `type`, `key`, `year`, or the field with another name; a name between quotes is always that of a field
+-- the subject of a test: `type`, `key`, `year`, or the field with another name; a name between quotes is always that of a field
 pub data SubjectReading : Type 0 where
   the_type : SubjectReading
   the_key : SubjectReading

@@ -1,5 +1,5 @@
 -- Meaning: words of public contracts.
--- Parsing a condition: which condition a text is, and what error it gives if it is none.
+-- Parsing a condition: the condition that a text is, or the error of a text that is no condition.
 use Rattle.std.specs.Prelude.{◌≡◌, ℕ, List, length, Ok, Err, ⊤}
 use Rattle.std.specs.List.{AllZip}
 use Rattle.bib_text.specs.Places.{place}
@@ -41,8 +41,8 @@ pub record IsExpressionRefused (text : List ℕ) (error : SelectionError) : Type
   pub is : IsConditionText text condition
   pub refused : IsCompileError (HasAnyExpression condition) error
 
--- the error of parsing a text: a quote that isn't closed, the error of a regular expression, the first token that doesn't fit, or
--- out of memory
+-- the error of parsing a text: a quote that isn't closed, the error of a regular expression, the first token that doesn't fit, an end that
+-- is too early, or out of memory
 abbrev pub IsParseError : List ℕ → SelectionError → Type 0
 IsParseError text OutOfMemory = ⊤
 IsParseError text (Malformed UnclosedQuote at) = AreTokens (place text 0) (Err at)

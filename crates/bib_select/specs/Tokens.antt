@@ -26,7 +26,7 @@ is_sign_character c =
     (c == char.equals) || (c == exclamation) || (c == char.tilde) || (c == char.less) || (c == char.greater)
     || (c == char.open_parenthesis) || (c == char.close_parenthesis)
 
--- the characters around a text
+-- the quotes that can be around a text
 abbrev pub is_quote : ℕ → Bool
 is_quote c = (c == char.quote) || (c == char.apostrophe)
 
@@ -44,7 +44,7 @@ pub data IsToken : Place → Token → Place → Type 0 where
   a_quoted_text : {u v w x : Place} {q : ℕ} → CharAt u q v → is_quote q ≡ true → Longest (λ c. not (c == q)) v w → CharAt w q x
       → IsToken u (quoted (between v w)) x
 
--- a quote is at this place, and no closing quote comes after it
+-- a quote is at this place, and the same quote doesn't occur after it
 pub data IsUnclosed : Place → Type 0 where
   unclosed : {u v w : Place} {q : ℕ} → CharAt u q v → is_quote q ≡ true → Longest (λ c. not (c == q)) v w → AtEnd w → IsUnclosed u
 

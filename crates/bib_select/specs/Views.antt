@@ -58,7 +58,7 @@ test_reading_of (raw.Year comparison number) = test.year comparison number
 abbrev pub term_reading_of : RawTerm → TermReading
 term_reading_of term = record { negated = term.negated; test = test_reading_of term.test }
 
--- what a test is about
+-- the subject of a test
 abbrev pub subject_of : Subject → SubjectReading
 subject_of subjects.EntryType = subject.the_type
 subject_of subjects.Key = subject.the_key

@@ -1,4 +1,4 @@
-//! Compiles a condition: its regular expressions, the names of entry types, and the names of fields in lower case.
+//! Compiles a condition: its regular expressions, the names of entry types, and the names of fields in ASCII lower case.
 
 ghost use Rattle.std.specs.Prelude.{◌≡◌, ◌≢◌, ℕ, List, map, IfOk, IfErr};
 ghost use Rattle.std.specs.List.{AllZip};
@@ -55,7 +55,7 @@ fn text_test(alloc: Global, text: RawText<'_>) -> Result<TextTest, SelectionErro
     }
 }
 
-// Returns the name of a field in lower case.
+// Returns the name of a field in ASCII lower case.
 fn field_name(alloc: Global, name: &str) -> Result<Text, AllocError>
     ensures { IfOk result (λ lowered. lowered ≡ str_to_ascii_lowercase name.now) }
 {

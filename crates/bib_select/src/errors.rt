@@ -16,7 +16,7 @@ pub enum SelectionErrorKind {
     MissingTest,
     /// The name of a field is missing after `has`.
     MissingField,
-    /// No operator comes after a key or a field.
+    /// No operator comes after `key` or the name of a field.
     MissingOperator,
     /// No operator comes after `type`.
     MissingTypeOperator,
@@ -26,7 +26,7 @@ pub enum SelectionErrorKind {
     MissingText,
     /// A year is missing after an operator.
     MissingYear,
-    /// Neither `and` nor `or` comes after a test.
+    /// A token other than `and` and `or` comes after a test.
     MissingJoint,
     /// A regular expression can't be compiled.
     Regex(regex::Error),

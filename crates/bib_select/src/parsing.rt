@@ -12,7 +12,7 @@ use std::alloc::Global;
 
 impl Selection {
     /// Parses a condition. The error is out of memory, or has the byte offset of the first token that doesn't fit, of a quote
-    /// that isn't closed, or of the token with a malformed regular expression.
+    /// that isn't closed, or of the token with a malformed regular expression. If the text ends too early, the offset is its length.
     pub fn parse(alloc: Global, text: &str) -> Result<Selection, SelectionError>
         ensures found { IfOk result (IsParsed text.now) }
         ensures refused { IfErr result (IsParseError text.now) }

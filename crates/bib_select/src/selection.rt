@@ -19,7 +19,7 @@ use bib_text::text::Text;
 use regex::Regex;
 use std::alloc::{AllocError, Global};
 
-/// A test of a text. The case of letters matters.
+/// A test of a text. The case of letters matters, unless a regular expression ignores it.
 #[derive(Drop)]
 pub enum TextTest {
     /// The text is this one.
@@ -69,7 +69,7 @@ pub enum Test {
 /// A test of an entry, or its negation.
 #[derive(Drop)]
 pub struct Term {
-    /// Whether the word `not` is before the test: an entry meets the term if it doesn't pass the test.
+    /// Whether the word `not` is before the test. If it is, an entry meets the term if it doesn't pass the test.
     pub negated: bool,
     /// The test.
     pub test: Test,

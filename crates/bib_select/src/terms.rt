@@ -12,7 +12,7 @@ use crate::segments::Segment;
 use crate::selection::Comparison;
 use crate::tokens::{Placed, Token};
 
-/// How the text of an entry is compared with that of a test.
+/// The comparison of the text of an entry with that of a test.
 #[derive(Clone, Copy)]
 pub(crate) enum Operator {
     /// The texts are equal.
@@ -62,7 +62,7 @@ pub(crate) struct RawTerm<'s> {
     pub(crate) test: RawTest<'s>,
 }
 
-/// What a test is about.
+/// The subject of a test.
 #[derive(Clone, Copy)]
 pub(crate) enum Subject<'s> {
     /// The type of the entry.
@@ -82,11 +82,11 @@ pub(crate) enum Question<'s> {
     OfType,
     /// Whether it isn't of a type.
     OfOtherType,
-    /// How its key compares.
+    /// The comparison of its key.
     Key(Operator),
-    /// How a field compares.
+    /// The comparison of a field.
     Field(&'s str, Operator),
-    /// How its year compares.
+    /// The comparison of its year.
     Year(Comparison),
 }
 

@@ -103,7 +103,7 @@ cut_between start removed added lines hunk all cut =
           (omega (arith, found.0, count, cut.new_is), omega (arith, found.1, count, cut.new_is));
     }
 
--- what each hunk of a list has, from what it is cut from
+-- a property of each hunk that is cut out of the lines is one of all hunks of a list of such hunks
 all_cut : (lines : List Line) (P : Hunk → Type 0) → ((hunk : Hunk) → IsCutOut lines hunk → P hunk) → (hunks : List Hunk)
     → AllByRecursion (IsCutOut lines) hunks → AllByRecursion P hunks
 all_cut lines P each [] cut = tt
@@ -166,7 +166,7 @@ skipped_new lines at start number low within context is =
 abbrev d : Line
 d = Context no_line
 
--- a hunk between two lines that aren't shown is cut from all lines
+-- a hunk is cut out of the list of all lines if neither the line before it nor the line after it, if there is one, is shown
 pub cut_of : (lines : List Line) (start end old new : ℕ) → start < end → end ≤ length lines
     → old ≡ 1 + length (old_side (take start lines)) → new ≡ 1 + length (new_side (take start lines))
     → (0 < start → is_visible lines (start - 1) ≡ false) → (end < length lines → is_visible lines end ≡ false)

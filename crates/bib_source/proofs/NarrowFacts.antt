@@ -157,7 +157,3 @@ shown_after lines at start end low some within hidden ended shown after = elim (
       (sym (ended (omega (arith, same, after)) (omega (arith, same, some, within))) ∙ ap (is_visible lines) same
       ∙ shown))
 ]
-
-pub not_shown : (b : Bool) → (b ≡ true → ⊥) → b ≡ false
-not_shown true none = absurd (none refl)
-not_shown false none = refl

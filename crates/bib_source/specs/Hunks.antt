@@ -35,8 +35,8 @@ old_number hunk index = hunk.old + length (old_side (take index hunk.lines))
 abbrev pub new_number : Hunk → ℕ → ℕ
 new_number hunk index = hunk.new + length (new_side (take index hunk.lines))
 
--- after the first `start` lines of each text, the removed lines of a hunk are among the next `removed` lines of the old text, and
--- its added lines are among the next `added` lines of the new text
+-- Lines are counted after the first `start` lines of each text. The removed lines of a hunk are among the next `removed` lines
+-- of the old text. Its added lines are among the next `added` lines of the new text.
 pub record IsBetween (start removed added : ℕ) (hunk : Hunk) : Type 0 where
   pub old : (index : ℕ) (line : Bor (List ℕ)) → slice_get hunk.lines index ≡ Some (Removed line)
       → (start < old_number hunk index) × (old_number hunk index ≤ start + removed)

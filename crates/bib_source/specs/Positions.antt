@@ -10,7 +10,7 @@ use Rattle.bib_source.specs.declared.positions.Position.{Position}
 abbrev pub is_line_feed : ℕ → Bool
 is_line_feed byte = byte == char.line_feed
 
--- whether a UTF-8 character begins with `byte`: the other bytes of a character are from 80 to BF
+-- whether `byte` of a UTF-8 text begins a character: the other bytes of a character are from 80 to BF
 abbrev pub begins_character : ℕ → Bool
 begins_character byte = not (is_in_range 0x80 0xBF byte)
 

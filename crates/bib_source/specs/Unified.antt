@@ -18,7 +18,7 @@ line_end line = cond (ends_with eqb line (codes "\n")) [] (codes "\n\\ No newlin
 abbrev pub line_after : List ℕ → List ℕ → List ℕ
 line_after sign line = sign ++ (line ++ line_end line)
 
--- a line after its sign: a space for both texts, `-` for only the old text, `+` for only the new text
+-- a line after its sign: a space for a line of both texts, `-` for a removed line, `+` for an added line
 abbrev pub diff_line : Line → List ℕ
 diff_line (Context line) = line_after (codes " ") line.now
 diff_line (Removed line) = line_after (codes "-") line.now

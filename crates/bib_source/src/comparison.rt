@@ -13,11 +13,11 @@ use std::alloc::{AllocError, Global};
 /// A line of two compared texts.
 #[derive(Debug, Clone, Copy, PartialEq, Eq)]
 pub enum Line<'t> {
-    /// A line of both texts.
+    /// A line of the old text, and the equal line of the new text that it is paired with.
     Context(&'t str),
-    /// A line only of the old text.
+    /// A line of the old text that isn't paired with one of the new text.
     Removed(&'t str),
-    /// A line only of the new text.
+    /// A line of the new text that isn't paired with one of the old text.
     Added(&'t str),
 }
 
@@ -31,7 +31,7 @@ fn push_context<'t>(compared: &mut Vec<Line<'t>>, lines: &[&'t str]) -> Result<(
     Ok(())
 }
 
-// Appends `lines` as lines only of the old text.
+// Appends `lines` as removed lines.
 fn push_removed<'t>(compared: &mut Vec<Line<'t>>, lines: &[&'t str]) -> Result<(), AllocError>
     ensures { OnOk result (compared.new.items ≡ compared.old.items ++ map Removed lines.now) }
 {
@@ -41,7 +41,7 @@ fn push_removed<'t>(compared: &mut Vec<Line<'t>>, lines: &[&'t str]) -> Result<(
     Ok(())
 }
 
-// Appends `lines` as lines only of the new text.
+// Appends `lines` as added lines.
 fn push_added<'t>(compared: &mut Vec<Line<'t>>, lines: &[&'t str]) -> Result<(), AllocError>
     ensures { OnOk result (compared.new.items ≡ compared.old.items ++ map Added lines.now) }
 {

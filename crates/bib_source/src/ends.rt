@@ -3,7 +3,7 @@
 ghost use Rattle.std.specs.Prelude.{◌≡◌, ◌≤◌, ◌-◌, drop, length, take};
 ghost use Rattle.bib_source.specs.Comparison.{BeginDifferently, EndDifferently, HaveCommonEnds, line_texts};
 
-// Two lists of lines, cut into their common start, the lines of each list after it, and their common end.
+// Two lists of lines, cut into their common start, their common end, and the lines of each list between these.
 #[derive(Clone, Copy)]
 pub(crate) struct Ends<'s, 't> {
     pub(crate) start: &'s [&'t str],
@@ -12,7 +12,7 @@ pub(crate) struct Ends<'s, 't> {
     pub(crate) end: &'s [&'t str],
 }
 
-// Returns with how many equal lines both lists begin.
+// Returns the number of equal lines at the start of both lists.
 fn common_start(old: &[&str], new: &[&str]) -> usize
     ensures in_old { result ≤ length old.now }
     ensures in_new { result ≤ length new.now }
@@ -28,7 +28,7 @@ fn common_start(old: &[&str], new: &[&str]) -> usize
     limit
 }
 
-// Returns with how many equal lines both lists end.
+// Returns the number of equal lines at the end of both lists.
 fn common_end(old: &[&str], new: &[&str]) -> usize
     ensures in_old { result ≤ length old.now }
     ensures in_new { result ≤ length new.now }

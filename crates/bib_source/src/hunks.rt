@@ -19,7 +19,7 @@ pub(crate) struct Hunk<'c, 't> {
     pub(crate) lines: &'c [Line<'t>],
 }
 
-// Returns whether a line is only in one of the texts.
+// Returns whether a line is removed or added.
 fn is_changed(line: &Line<'_>) -> bool
     ensures { result ≡ comparison.is_changed line.now }
 {

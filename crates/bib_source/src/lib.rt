@@ -9,8 +9,9 @@
 //! `unified_diff` prints the differences of two texts in the unified format. `lines` cuts a text into lines. `ends` finds the
 //! lines that both texts begin and end with, and `partners` pairs equal lines between them. `comparison` merges the lines of
 //! both texts into one list by these pairs. `hunks` cuts out the changed lines and their context. Which equal lines are paired
-//! is a choice. For each choice it is proved that the hunks turn the old text into the new one, that the common start and the
-//! common end aren't shown as changed, and that no run of changed lines begins or ends with a line that both texts have there.
+//! is a choice. Three facts are proved for each choice. The hunks turn the old text into the new one. The common start and the
+//! common end aren't shown as changed. In no run of changed lines do the removed and the added lines begin or end with the same
+//! line.
 #![tactic(auto)]
 
 pub mod comparison;
@@ -22,4 +23,4 @@ mod lines;
 mod partners;
 pub mod positions;
 pub mod unified;
-mod windows_1252;
+pub mod windows_1252;

@@ -1,8 +1,8 @@
 //! Pairs lines of an old text with equal lines of a new text.
 //!
 //! The lines that occur once in each text are candidates for anchors. The anchors are a longest chain of candidates that have
-//! the same order in both texts. Any other line is paired with the first equal line in a range of the new text. This range
-//! begins after the last paired line. It ends before the next anchor, and has at most 64 lines.
+//! the same order in both texts. Any other line is paired with the first equal line, if any, in a range of the new text. This
+//! range begins after the last paired line. It ends before the next anchor, and has at most 64 lines.
 
 use std::alloc::{AllocError, Global};
 use std::collections::BTreeMap;
@@ -22,7 +22,7 @@ enum Seen {
 }
 
 impl Seen {
-    // Returns how often the line occurs with one more occurrence, at `index`.
+    // Returns the count of a line after one more occurrence of it, at `index`.
     fn again(self, index: usize) -> Self {
         match self {
             Seen::Never => Seen::Once(index),
@@ -107,7 +107,7 @@ fn new_index(pairs: &[Pair], index: usize) -> usize {
     }
 }
 
-// For each pair the one before it in the longest chain that ends with it, and the last pair of the longest chain of all.
+// For each pair, the pair before it in a longest chain that ends with it; and the last pair of a longest chain of all.
 #[derive(Drop)]
 struct Chains {
     before: Vec<Option<usize>>,
@@ -122,7 +122,7 @@ fn element_before(elements: &[usize], index: usize) -> Option<usize> {
     }
 }
 
-// Replaces the element at `index`, or appends `element` if there is none.
+// Replaces the element at `index` by `element`, or appends `element` if there is none.
 fn put(elements: &mut Vec<usize>, index: usize, element: usize) -> Result<(), AllocError> {
     match elements.get_mut(index) {
         Some(place) => *place = element,
@@ -144,7 +144,7 @@ fn chain_pairs(alloc: Global, pairs: &[Pair]) -> Result<Chains, AllocError> {
     Ok(Chains { before, last })
 }
 
-// Returns the pairs of the longest chain, in order.
+// Returns the pairs of a longest chain, in order.
 fn longest_chain(alloc: Global, pairs: &[Pair]) -> Result<Vec<Pair>, AllocError> {
     let chains = chain_pairs(alloc, pairs)?;
     let mut chain = Vec::new(alloc);
@@ -178,8 +178,8 @@ fn near(new: &[&str], line: &str, start: usize, limit: usize) -> Option<usize> {
     None
 }
 
-// Returns for each line of the old text the index of its partner: that of `chain`, or else an equal line soon after the last
-// partner. A line without either has `None`.
+// Returns for each line of the old text the index of its partner. This is the one in `chain`, or else an equal line soon after
+// the last partner. A line without either has `None`.
 fn pair_lines(
     alloc: Global,
     old: &[&str],

@@ -42,8 +42,8 @@ fn windows_1252(byte: u8) -> char
     }
 }
 
-// Decodes `bytes` as Windows-1252. Returns an error only if out of memory.
-pub(crate) fn windows_1252_text(alloc: Global, bytes: &[u8]) -> Result<String, AllocError>
+/// Decodes `bytes` as Windows-1252. The only error is out of memory.
+pub fn windows_1252_text(alloc: Global, bytes: &[u8]) -> Result<String, AllocError>
     ensures { IfOk result (λ text. string_bytes text ≡ windows_1252_text bytes.now) }
 {
     bytes.iter().map(|byte| windows_1252(*byte)).collect(alloc)

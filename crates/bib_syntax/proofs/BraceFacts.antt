@@ -7,6 +7,7 @@ use Rattle.bib_text.specs.Braces.Parts.{none, plain, hidden, nested}
 use Rattle.bib_syntax.specs.OpenBraces.{ClosesOpen, SameBraced}
 use Rattle.bib_syntax.specs.OpenBraces.ClosesOpen.{last, level}
 use Rattle.bib_text.proofs.PlaceFacts.{same_char, char_clash, pass_clash, no_char_at_end}
+use Rattle.bib_text.proofs.BraceFacts.{no_parts, parts_end}
 
 pub same_braced : (n : ℕ) (u : Place) → SameBraced n u n u
 same_braced n u = record { there = λ x y p c. p; back = λ x y p c. p }
@@ -71,19 +72,13 @@ opened_back brace (last parts) closing = let o = opened_parts brace parts closin
 opened_back brace (level parts close' rest) closing =
     let o = opened_parts brace parts close' in level o.inner o.close (level o.rest close' rest)
 
-closes_suc : {n : ℕ} {u v x : Place} → CharAt u 123 v → ClosesOpen (suc n) v x → ClosesOpen n u x
+-- an opening brace before a text that closes one brace more
+pub closes_suc : {n : ℕ} {u v x : Place} → CharAt u 123 v → ClosesOpen (suc n) v x → ClosesOpen n u x
 closes_suc brace (level parts close rest) = opened_there brace parts close rest
 
 -- moving past an opening brace opens one brace
 pub braced_open : {u v : Place} (n : ℕ) → CharAt u 123 v → SameBraced n u (suc n) v
 braced_open n brace = record { there = λ x y p c. closes_suc brace p; back = λ x y p c. opened_back brace p c }
-
--- no parts begin at a closing brace
-pub no_parts : {u v x : Place} → CharAt u 125 v → Parts u x → u ≡ x
-no_parts close none = refl
-no_parts close (plain char passes parts) = absurd (pass_clash is_plain char passes close refl)
-no_parts close (hidden slash any parts) = absurd (char_clash close slash refl)
-no_parts close (nested brace inner close' rest) = absurd (char_clash close brace refl)
 
 closed_back : {n : ℕ} {u v x : Place} → CharAt u 125 v → ClosesOpen (suc n) u x → ClosesOpen n v x
 closed_back {n} {u} {v} {x} close (level {w = w} parts close' rest) =
@@ -93,13 +88,6 @@ closed_back {n} {u} {v} {x} close (level {w = w} parts close' rest) =
 -- moving past a closing brace closes one brace
 pub braced_close : {u v : Place} (n : ℕ) → CharAt u 125 v → SameBraced (suc n) u n v
 braced_close n close = record { there = λ x y p c. level none close p; back = λ x y p c. closed_back close p }
-
--- no parts are after the end of the text
-parts_end : {u x : Place} → AtEnd u → Parts u x → u ≡ x
-parts_end end none = refl
-parts_end end (plain char passes parts) = absurd (no_char_at_end end char)
-parts_end end (hidden slash any parts) = absurd (no_char_at_end end slash)
-parts_end end (nested brace inner close rest) = absurd (no_char_at_end end brace)
 
 pub closes_end : {n : ℕ} {u x y : Place} → AtEnd u → ClosesOpen n u x → CharAt x 125 y → ⊥
 closes_end {n} {u} {x} {y} end (last parts) closing = no_char_at_end end (subst (λ p. CharAt p 125 y) (sym (parts_end end parts)) closing)

@@ -3,6 +3,7 @@ use Rattle.std.proofs.Common.{◌≡◌, ℕ, Bool, true, false, refl, subst, in
 use Rattle.std.specs.Prelude.{◌==◌, ◌||◌, ◌⊎◌}
 use Rattle.bib_text.specs.Braces.{is_plain}
 use Rattle.std.specs.Char.{is_ascii_digit}
+use Rattle.std.proofs.lemmas.Bool.{false_from_ne_true}
 use Rattle.bib_text.specs.Places.{Place, place, CharAt, Stops, AtEnd, EndsOr}
 use Rattle.bib_text.proofs.PlaceFacts.{Ahead, same_place, test_clash, stops_without}
 use Rattle.bib_syntax.specs.declared.raw.ParseErrorKind.{ParseErrorKind}
@@ -88,13 +89,9 @@ no_beginning opens quote digit start =
 pub reported_same : {u v : Place} {kind : ParseErrorKind} {e : ParseError} → e ≡ error_at_place kind u → u ≡ v → e ≡ error_at_place kind v
 reported_same {u} {v} {kind} {e} is same = subst (λ p. e ≡ error_at_place kind p) same is
 
-false_unless : (b : Bool) → (b ≡ true → ⊥) → b ≡ false
-false_unless true not_true = absurd (not_true refl)
-false_unless false not_true = refl
-
 -- any character at a place fails a test if none there passes it
 pub stops_unless : (test : ℕ → Bool) {u : Place} → ((c : ℕ) (v : Place) → CharAt u c v → test c ≡ true → ⊥) → Stops test u
-stops_unless test none c v char = false_unless (test c) (none c v char)
+stops_unless test none c v char = false_from_ne_true (test c) (none c v char)
 
 -- the text ends if a search for a closing brace stopped and no brace is there
 pub comment_at_end : {Holds : ℕ → Type 0} {u : Place} → EndsOr Holds u → ((c : ℕ) → Holds c → c == 125 ≡ true)

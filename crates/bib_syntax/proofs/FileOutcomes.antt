@@ -4,7 +4,7 @@ use Rattle.std.specs.Prelude.{not, ◌==◌, take}
 use Rattle.std.specs.Char.{is_whitespace}
 use Rattle.std.proofs.lemmas.Bool.{cases_Bool}
 use Rattle.bib_text.specs.Places.{Place, place, CharAt, AtEnd}
-use Rattle.bib_text.proofs.PlaceFacts.{char_clash, test_clash}
+use Rattle.bib_text.proofs.PlaceFacts.{char_clash, test_clash, char_within}
 use Rattle.bib_syntax.specs.declared.raw.ParseErrorKind.{ParseErrorKind}
 use Rattle.bib_syntax.specs.declared.raw.ParseError.{ParseError}
 use Rattle.bib_syntax.specs.declared.raw.recovery.SkippedBlock.{SkippedBlock}
@@ -32,7 +32,7 @@ use Rattle.bib_syntax.proofs.WordOutcomes.{name_outcome, quoted_outcome}
 use Rattle.bib_syntax.proofs.FailureFacts.{identifier_unread, field_unread}
 use Rattle.bib_syntax.proofs.FieldOutcomes.{line_comment_found, gap_found, field_outcome, fields_outcome}
 use Rattle.bib_syntax.proofs.FileFacts.{is_skipped, closes_preamble, opens_body}
-use Rattle.bib_syntax.proofs.KeptFacts.{ahead_passed, char_cut, in_text, left_cut, unbracketed, unnamed}
+use Rattle.bib_syntax.proofs.KeptFacts.{ahead_passed, char_cut, left_cut, unbracketed, unnamed}
 
 -- ---- blocks
 
@@ -340,7 +340,7 @@ block_kept {u = u} char left = elim (opening_found char left) [
 keeps_found : (keeps : Bool) {u v w : Place} → CharAt u 64 v → GoesOnAt v w → (says : FileReading) × Keeps keeps u w says
 keeps_found false char on = (empty_reading, keep.nothing)
 keeps_found true {u} {v} {w} char on =
-    let passed = left_cut on.passed (in_text char) in
+    let passed = left_cut on.passed (char_within char) in
     let same : w.text ≡ u.text = (ahead_passed on.passed).text ∙ char.same in
     let sign : CharAt (place (take w.at w.text) u.at) 64 (place (take w.at w.text) v.at) =
     subst (λ t. CharAt (place (take w.at t) u.at) 64 (place (take w.at t) v.at)) (sym same)

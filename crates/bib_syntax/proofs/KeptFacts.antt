@@ -7,7 +7,7 @@ use Rattle.std.proofs.lemmas.List.{drop-take, length-take-le}
 use Rattle.std.proofs.lemmas.Str.{length-encode}
 use Rattle.std.proofs.Math.Seq.{take-append-add}
 use Rattle.bib_text.specs.Places.{Place, place, CharAt, Longest, Stops, AtEnd}
-use Rattle.bib_text.proofs.PlaceFacts.{same_char, char_left, longest_same, Ahead, ahead_here, ahead_then, ahead_char, ahead_run}
+use Rattle.bib_text.proofs.PlaceFacts.{same_char, longest_same, Ahead, ahead_here, ahead_then, ahead_char, ahead_run, char_within}
 use Rattle.bib_syntax.specs.Characters.{is_key, is_id_start}
 use Rattle.bib_syntax.specs.Reading.{Part, part, EntryReading, FieldReading, FileReading, empty_reading}
 use Rattle.bib_syntax.specs.Grammar.{BlockKind, Field, Identifier, LineComment, block_kind, longest}
@@ -58,16 +58,11 @@ char_cut {u} {v} {c} end char within =
 end_cut : (text : List ℕ) (end : ℕ) → end ≤ length text → AtEnd (place (take end text) end)
 end_cut text end within = sym (length-take-le end text within)
 
--- a place after a character is in its text
-pub in_text : {u v : Place} {c : ℕ} → CharAt u c v → v.at ≤ length v.text
-in_text {u} {v} {c} char =
-    subst (λ t. v.at ≤ length t) (sym char.same) (subst (λ n. n ≤ length u.text) (sym char.next) (char_left char))
-
 -- the characters from one place to another are all that is left in the text up to the other
 pub left_cut : {u w : Place} → Passed u w → u.at ≤ length u.text → (n : ℕ) × Left n (place (take w.at w.text) u.at)
 left_cut {u} passed.stop within = (zero, Left.none (end_cut u.text u.at within))
 left_cut {u} {w} (passed.step {v = v} {c = c} char other rest) within =
-    let more = left_cut rest (in_text char) in
+    let more = left_cut rest (char_within char) in
     let ahead = ahead_passed (passed.step char other rest) in
     let here : CharAt (place (take w.at w.text) u.at) c (place (take w.at w.text) v.at) =
     subst (λ t. CharAt (place (take w.at t) u.at) c (place (take w.at t) v.at)) (sym ahead.text)

@@ -9,6 +9,7 @@ use Rattle.bib_text.specs.Places.Run.{stop}
 use Rattle.bib_text.specs.Braces.{Parts}
 use Rattle.bib_text.specs.Braces.{Parts as parts}
 use Rattle.bib_text.proofs.PlaceFacts.{same_char, char_clash, pass_clash, longest_same, test_clash, stops_at}
+use Rattle.bib_text.proofs.BraceFacts.{no_parts}
 use Rattle.bib_syntax.specs.Characters.{is_id_start, is_id_continue, is_delimiter, is_key}
 use Rattle.bib_syntax.specs.Reading.{Part, part, Piece, FieldReading}
 use Rattle.bib_syntax.specs.Reading.Piece.{literal, abbreviation}
@@ -48,7 +49,7 @@ number_same (broken c d r p s e) (broken c' d' r' p' s' e') =
     longest_same (moved (Longest is_ascii_digit) point s) s'
 
 pub parts_same : {u v w x y : Place} → Parts u v → CharAt v 125 x → Parts u w → CharAt w 125 y → v ≡ w
-parts_same parts.none c second d = brace.no_parts c second
+parts_same parts.none c second d = no_parts c second
 parts_same (parts.plain char p rest) c second d = parts_same rest c (brace.plain_back char p second d) d
 parts_same (parts.hidden slash any rest) c second d = parts_same rest c (brace.hidden_back slash any second d) d
 parts_same {u} {v} {w} (parts.nested o inner close rest) c second d =

@@ -3,11 +3,12 @@
 use Rattle.std.proofs.Common.{◌≡◌, ℕ, Bool, true, false, List, [], ◌∷◌, refl, subst, inl, inr, arith}
 use Rattle.std.specs.Prelude.{not, ◌&&◌, ◌||◌, ◌==◌}
 use Rattle.std.specs.Char.{is_whitespace, is_control, is_ascii_digit}
-use Rattle.std.proofs.lemmas.Bool.{and_parts, not-true, cases_Bool, ne_eqb, and_right, not_from_true}
+use Rattle.std.proofs.lemmas.Bool.{cases_Bool, ne_eqb, and_right, not_from_true}
 use Rattle.std.proofs.lemmas.Bool.Decides.{nat_tests}
 use Rattle.bib_text.specs.Places.{Place, CharAt, Run, Stops, Longest}
 use Rattle.bib_text.specs.Places.Run.{stop, step}
 use Rattle.bib_text.proofs.PlaceFacts.{run_append, run_push, stops_at, test_clash}
+use Rattle.bib_text.proofs.DigitFacts.{digit_dark, white_no_digit}
 use Rattle.bib_syntax.specs.Characters.{is_id_start, is_id_continue, is_delimiter, is_key}
 use Rattle.bib_syntax.specs.Reading.{Part, Piece, FieldReading, FileReading, empty_reading}
 use Rattle.bib_syntax.specs.Grammar.{Identifier, Element, Elements, Field, Gap, Fields, Head, Body, File, any, longest}
@@ -19,12 +20,9 @@ use Rattle.bib_syntax.specs.Grammar.{Fields as fields}
 use Rattle.bib_syntax.specs.Grammar.{Body as body}
 use Rattle.bib_syntax.specs.Grammar.{File as file}
 use Rattle.bib_syntax.specs.Grammar.{BlockKind}
-use Rattle.bib_syntax.proofs.LawFacts.{start_not_white}
+use Rattle.bib_syntax.proofs.LawFacts.{start_not_white, key_dark}
 
 -- white space isn't in any other class of characters that the grammar has runs of
-
-digit_not_white : (c : ℕ) → is_whitespace c ≡ true → is_ascii_digit c ≡ false
-digit_not_white c white = grind (arith, nat_tests)
 
 white_not_continue : (c : ℕ) → is_whitespace c ≡ true → is_id_continue c ≡ false
 white_not_continue c white = and_right (not (is_delimiter c) && not (is_control c)) (not (is_whitespace c)) (not_from_true _ white)
@@ -64,20 +62,17 @@ end_not_digit c ends = grind (arith, nat_tests)
 end_not_point : (c : ℕ) → is_end c ≡ true → c == 46 ≡ false
 end_not_point c ends = grind (arith, nat_tests)
 
-end_not_white : (c : ℕ) → is_end c ≡ true → is_whitespace c ≡ false
-end_not_white c ends = grind (arith, nat_tests)
-
 end_not_continue : (c : ℕ) → is_end c ≡ true → is_id_continue c ≡ false
 end_not_continue c ends = grind (arith, nat_tests)
 
 element_longest : {u v : Place} {e : Piece} → Element any u e v → Following v → Element longest u e v
 element_longest (element.number (number.whole {w = w} c d r e)) b =
     element.number (number.whole c d
-    (record { run = r; stops = stops_before is_ascii_digit digit_not_white b.white b.here (end_not_digit b.char b.ends) })
+    (record { run = r; stops = stops_before is_ascii_digit white_no_digit b.white b.here (end_not_digit b.char b.ends) })
     (stops_before (λ x. x == 46) white_not_point b.white b.here (end_not_point b.char b.ends)))
 element_longest (element.number (number.broken c d r p s e)) b =
     element.number (number.broken c d (longest_to is_ascii_digit r p refl) p
-    (record { run = s; stops = stops_before is_ascii_digit digit_not_white b.white b.here (end_not_digit b.char b.ends) })
+    (record { run = s; stops = stops_before is_ascii_digit white_no_digit b.white b.here (end_not_digit b.char b.ends) })
     (stops_before (λ x. x == 46) white_not_point b.white b.here (end_not_point b.char b.ends)))
 element_longest (element.named none i) b =
     element.named none (record {
@@ -146,9 +141,6 @@ record Visible (u : Place) : Type 0 where
   visible : is_whitespace char ≡ false
   no_line_comment : char == 37 ≡ false
 
-digit_visible : (c : ℕ) → is_ascii_digit c ≡ true → is_whitespace c ≡ false
-digit_visible c digit = grind (arith, nat_tests)
-
 digit_no_percent : (c : ℕ) → is_ascii_digit c ≡ true → c == 37 ≡ false
 digit_no_percent c digit = grind (arith, nat_tests)
 
@@ -160,7 +152,7 @@ digit_first {u} {x} {c} char digit = record {
   char = c;
   following = x;
   here = char;
-  visible = digit_visible c digit;
+  visible = digit_dark c digit;
   no_line_comment = digit_no_percent c digit;
 }
 
@@ -384,9 +376,6 @@ head_longest h white = record {
   white' = white;
 }
 
-key_visible : (c : ℕ) → is_key c ≡ true → is_whitespace c ≡ false
-key_visible c key = not-true (is_whitespace c) (and_parts (not (c == 44 || c == 125) && not (is_control c)) (not (is_whitespace c)) key).1
-
 -- the longest white space, and the body of a block after it
 record WhiteBody (start : Place) (p : Part) (k : BlockKind) (u v : Place) : Type 0 where
   inside : Place
@@ -430,7 +419,7 @@ body_longest {u = u} run (body.entry b (step {c = c} first passes rest) white co
     record {
       inside = u;
       says = _;
-      white = longest_to is_whitespace run first (key_visible c passes);
+      white = longest_to is_whitespace run first (key_dark c passes);
       body = body.entry b (record { run = step first passes rest; stops = stops_before is_key white_not_key white comma refl })
           (longest_to is_whitespace white comma refl) comma cut.before cut.fields.fields close;
     }

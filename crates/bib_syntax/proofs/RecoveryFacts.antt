@@ -5,7 +5,7 @@ use Rattle.std.specs.List.{AllByRecursion, Contains}
 use Rattle.std.proofs.lemmas.List.Elements.{Contains-append_left, Contains-append_right}
 use Rattle.std.specs.Str.{IsCharBoundary}
 use Rattle.std.proofs.lemmas.Str.{IsCharBoundary-before_ascii, byte_from_char, len_utf8_bounds}
-use Rattle.std.proofs.lemmas.Bool.{eqb-true}
+use Rattle.std.proofs.lemmas.Bool.{eqb-true, cases_lt}
 use Rattle.bib_text.specs.Places.{Place, place, CharAt, Run, Longest, AtEnd, EndsOr}
 use Rattle.bib_text.specs.Places.Run.{stop, step}
 use Rattle.bib_text.proofs.PlaceFacts.{same_place, char_left, same_char, char_clash, pass_clash, no_char_at_end, left_smaller, Ahead, ahead_here, ahead_then, ahead_char, ahead_run}
@@ -25,10 +25,11 @@ use Rattle.bib_syntax.specs.declared.raw.ParseError.{ParseError}
 use Rattle.bib_syntax.specs.declared.raw.recovery.SkippedBlock.{SkippedBlock}
 use Rattle.bib_syntax.proofs.LawFacts.{line_comment_same}
 use Rattle.bib_syntax.proofs.FileFailureFacts.{block_unread, block_error}
-use Rattle.bib_syntax.proofs.StretchFacts.{order, first_byte, byte_in}
+use Rattle.bib_syntax.proofs.StretchFacts.{first_byte, byte_in}
 use Rattle.bib_syntax.proofs.FileFacts.{ahead_block, ahead_line_comment, block_same, is_skipped, then-then, then-empty_reading}
 use Rattle.bib_syntax.proofs.KeptFacts.{ahead_passed, char_cut, kept_same, kept_entries}
-use Rattle.bib_text.proofs.ListFacts.{all_append}
+use Rattle.bib_text.proofs.ListFacts.{all_append, all_weaker}
+use Rattle.bib_text.proofs.BoolFacts.{true_from_not}
 
 -- ---- where recovery continues
 
@@ -124,13 +125,8 @@ all_read (recovered.block block rest) = file.block block (all_read rest)
 
 -- ---- the search for the next line that begins with an at sign
 
--- the character at the end of a run of other characters is the one searched for
-no_other : (b : Bool) → false ≡ not b → b ≡ true
-no_other true other = refl
-no_other false other = cc
-
 at_sign_here : {u v : Place} (c : ℕ) → CharAt u c v → false ≡ not (c == 64) → (w : Place) × CharAt u 64 w
-at_sign_here {u} {v} c char other = (v, subst (λ x. CharAt u x v) (eqb-true c 64 (no_other (c == 64) other)) char)
+at_sign_here {u} {v} c char other = (v, subst (λ x. CharAt u x v) (eqb-true c 64 (true_from_not (c == 64) other)) char)
 
 -- recovery continues where the search stops, at the end of the text or at an at sign that begins a line
 stands_here : {u : Place} → EndsOr (λ c. false ≡ not (c == 64)) u → AtEnd u ⊎ (ends_blank (take u.at u.text) ≡ true)
@@ -356,11 +352,6 @@ entries_stand text same (recovered.block {first = first} {rest = rest} b x) =
 entries_stand text same (recovered.unread sign none on keep.nothing x) =
     entries_stand text ((ahead_passed on.passed).text ∙ (sign.same ∙ same)) x
 
--- if one fact implies another, a list of elements for which the first is true is one for which the second is
-all_weaker : {A : Type 0} (P Q : A → Type 0) → ((x : A) → P x → Q x) → (xs : List A) → AllByRecursion P xs → AllByRecursion Q xs
-all_weaker P Q weaker [] all = _
-all_weaker P Q weaker (x ∷ xs) all = (weaker x all.0, all_weaker P Q weaker xs all.1)
-
 -- a cut entry of some skipped blocks is one of these blocks and another one before them
 cut_later : (text : List ℕ) (block : SkippedBlock) (errors : List SkippedBlock) (e : EntryReading)
     → IsBlockOf text e ⊎ IsKeptPart text errors e → IsBlockOf text e ⊎ IsKeptPart text (block ∷ errors) e
@@ -434,9 +425,9 @@ data Next (w v u : Place) : Type 0 where
 
 next : (w v u : Place) → w.text ≡ u.text → Ahead w v → w.at ≤ u.at → Next w v u
 next w v u same ahead before = ⊎_elim
-    (λ below. ⊎_elim (λ inside. Next.begun below inside) (λ later. Next.ended later (ahead.text ∙ same)) (order u.at v.at))
+    (λ below. ⊎_elim (λ inside. Next.begun below inside) (λ later. Next.ended later (ahead.text ∙ same)) (cases_lt u.at v.at))
     (λ above. Next.reached (same_place same (omega (arith, above, before))))
-    (order w.at u.at)
+    (cases_lt w.at u.at)
 
 -- the entry `e` is recovered, or its place `u` is inside a block or a line comment, or in a skipped block
 abbrev pub Found : List SkippedBlock → Place → FileReading → EntryReading → Type 0

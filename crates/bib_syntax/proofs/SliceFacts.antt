@@ -3,9 +3,9 @@ use Rattle.std.proofs.Common.{◌≡◌, ℕ, Bool, ◌-◌, ◌≤◌, List, []
 use Rattle.std.specs.Prelude.{min}
 use Rattle.std.proofs.lemmas.List.{length-take, length-drop}
 use Rattle.std.specs.List.{AllByRecursion}
-use Rattle.bib_text.specs.Places.{Place, place, CharAt, Run, between}
+use Rattle.bib_text.specs.Places.{Place, place, Run, between}
 use Rattle.bib_text.specs.Places.Run.{stop, step}
-use Rattle.bib_text.proofs.PlaceFacts.{Ahead, ahead_then, ahead_char, ahead_run, char_left}
+use Rattle.bib_text.proofs.PlaceFacts.{Ahead, ahead_then, ahead_char, ahead_run, char_within, before_char}
 use Rattle.bib_syntax.specs.Reading.{Part, part, Piece, FieldReading, FileReading, then}
 use Rattle.bib_syntax.specs.Grammar.{BlockKind, Body, Block, Braced, Element, Elements, Field, Fields, File, Identifier, Number, Quoted, longest}
 use Rattle.bib_syntax.specs.Grammar.{Body as body}
@@ -20,23 +20,9 @@ use Rattle.bib_syntax.proofs.WordFacts.{ahead_number}
 use Rattle.bib_syntax.proofs.FileFacts.{ahead_block, ahead_head, ahead_line_comment}
 use Rattle.bib_text.proofs.ListFacts.{all_append}
 
--- the offset of a character isn't after the end of the text
-within_before : {u v w : Place} {c : ℕ} → Ahead u v → CharAt v c w → v.at ≤ length u.text
-within_before {u} {v} ahead char =
-    let left = char_left char in
-    let same : length v.text ≡ length u.text = ap length ahead.text in
-    omega (arith, left, same)
-
--- the offset after a character, and after a run from there, isn't after the end of the text
-within_after : {u v : Place} {c : ℕ} → CharAt u c v → v.at ≤ length v.text
-within_after {u} {v} char =
-    let left = char_left char in
-    let same : length v.text ≡ length u.text = ap length char.same in
-    omega (arith, left, char.next, same)
-
 within_run : {test : ℕ → Bool} {u v : Place} → u.at ≤ length u.text → Run test u v → v.at ≤ length v.text
 within_run start stop = start
-within_run start (step char passes rest) = within_run (within_after char) rest
+within_run start (step char passes rest) = within_run (char_within char) rest
 
 -- the part from a place to a place ahead is the text in its span
 part_stands : {u v : Place} (text : List ℕ) → u.text ≡ text → Ahead u v → v.at ≤ length text → StandsIn text (part u v)
@@ -55,18 +41,18 @@ part_stands {u} {v} text same ahead within =
 number_stands : {u v : Place} (text : List ℕ) → u.text ≡ text → Number longest u v → StandsIn text (part u v)
 number_stands text same (whole first digit rest ends) =
     let number : Number longest _ _ = whole first digit rest ends in
-    let end = within_run (within_after first) rest.run in
+    let end = within_run (char_within first) rest.run in
     let there = ap length ((ahead_number number).text ∙ same) in
     part_stands text same (ahead_number number) (omega (arith, end, there))
 number_stands text same (broken first digit rest point more ends) =
     let number : Number longest _ _ = broken first digit rest point more ends in
-    let end = within_run (within_after point) more.run in
+    let end = within_run (char_within point) more.run in
     let there = ap length ((ahead_number number).text ∙ same) in
     part_stands text same (ahead_number number) (omega (arith, end, there))
 
 identifier_stands : {u v : Place} {p : Part} (text : List ℕ) → u.text ≡ text → Identifier longest u p v → StandsIn text p
 identifier_stands text same i =
-    let end = within_run (within_after i.here) i.rest.run in
+    let end = within_run (char_within i.here) i.rest.run in
     let there = ap length ((ahead_identifier i).text ∙ same) in
     subst (λ p. StandsIn text p) (sym i.reading) (part_stands text same (ahead_identifier i) (omega (arith, end, there)))
 
@@ -74,14 +60,14 @@ quoted_stands : {u v : Place} {p : Part} (text : List ℕ) → u.text ≡ text �
 quoted_stands text same q =
     let inside = q.opens.same ∙ same in
     let size = ap length inside in
-    let end = within_before (ahead_quoted_parts q.parts) q.closes in
+    let end = before_char (ahead_quoted_parts q.parts) q.closes in
     subst (λ p. StandsIn text p) (sym q.reading) (part_stands text inside (ahead_quoted_parts q.parts) (omega (arith, end, size)))
 
 braced_stands : {u v : Place} {p : Part} (text : List ℕ) → u.text ≡ text → Braced u p v → StandsIn text p
 braced_stands text same b =
     let inside = b.opens.same ∙ same in
     let size = ap length inside in
-    let end = within_before (ahead_parts b.parts) b.closes in
+    let end = before_char (ahead_parts b.parts) b.closes in
     subst (λ p. StandsIn text p) (sym b.reading) (part_stands text inside (ahead_parts b.parts) (omega (arith, end, size)))
 
 element_stands : {u v : Place} {e : Piece} (text : List ℕ) → u.text ≡ text → Element longest u e v → PieceStandsIn text e
@@ -126,9 +112,9 @@ body_stands {start} {u} text same before kind (body.entry {z = z} a key white co
     let list = ahead_then (ahead_run key.run) (ahead_then (ahead_run white.run) (ahead_then (ahead_char comma) (ahead_gap gap))) in
     let size = ap length same in
     let spaced = ahead_run white.run in
-    let comma_within = within_before spaced comma in
+    let comma_within = before_char spaced comma in
     let key_text = ap length ((ahead_run key.run).text ∙ same) in
-    let end = within_before (ahead_then list (ahead_fields fs)) close in
+    let end = before_char (ahead_then list (ahead_fields fs)) close in
     let forward = (ahead_then list (ahead_fields fs)).at in
     record {
       entries = (

@@ -1,22 +1,16 @@
 -- Facts about the bytes of characters, and about stretches without some character, from each place in them.
-use Rattle.std.proofs.Common.{◌≡◌, ◌⊎◌, ⊎_elim, ℕ, zero, suc, ◌+◌, ◌-◌, ◌<◌, ◌≤◌, arith, length, length-drop, drop, get_or, true, List, [], ◌∷◌, inl, inr, sym, ap, ◌∙◌, subst}
+use Rattle.std.proofs.Common.{◌≡◌, ◌⊎◌, ⊎_elim, ℕ, ◌+◌, ◌-◌, ◌<◌, ◌≤◌, arith, length, length-drop, drop, get_or, true, List, [], ◌∷◌, inl, inr, sym, ap, ◌∙◌, subst}
 use Rattle.std.specs.Prelude.{not, ◌==◌, encode_utf8, encode_utf8_all}
 use Rattle.std.specs.Char.{len_utf8}
 use Rattle.std.specs.Str.{IsUtf8, IsCharBoundary}
 use Rattle.std.proofs.lemmas.List.{get_or-drop}
 use Rattle.std.proofs.lemmas.Str.{byte_from_char, inside_one, length-encode, drop_past_char, IsUtf8-drop}
-use Rattle.std.proofs.lemmas.Bool.{eq-eqb, ne_eqb, eqb-true}
+use Rattle.std.proofs.lemmas.Bool.{eq-eqb, ne_eqb, eqb-true, cases_lt}
 use Rattle.bib_text.specs.Places.{Place, place, CharAt, Run, Longest, EndsOr}
 use Rattle.bib_text.specs.Places.Run.{stop, step}
 use Rattle.bib_text.proofs.PlaceFacts.{same_place, char_here, char_left}
 use Rattle.bib_syntax.specs.Stretches.{IsStretch, IsStretchFrom}
 use Rattle.bib_syntax.specs.declared.raw.stretches.Stretch.{Stretch}
-
-pub order : (m n : ℕ) → (m < n) ⊎ (n ≤ m)
-order zero zero = inr (omega arith)
-order zero (suc n) = inl (omega arith)
-order (suc m) zero = inr (omega arith)
-order (suc m) (suc n) = ⊎_elim (λ below. inl (omega (arith, below))) (λ above. inr (omega (arith, above))) (order m n)
 
 -- the byte at an offset is the first byte of the text from this offset
 pub first_byte : (text : List ℕ) (at : ℕ) → get_or (drop at text) 0 0 ≡ get_or text at 0
@@ -41,7 +35,7 @@ no_sign sign k ascii stop before inside is = absurd (omega (arith, before, insid
 no_sign sign k ascii (step {v = v} {c = c} char passes rest) before inside is = ⊎_elim
     (λ here. passes_other c sign passes (byte_in k char before here (subst (λ b. b < 128) (sym is) ascii) ∙ is))
     (λ later. no_sign sign k ascii rest later inside (ap (λ t. get_or t k 0) char.same ∙ is))
-    (order k v.at)
+    (cases_lt k v.at)
 
 -- the byte `sign` is at the offset `end`, or the text ends there
 abbrev EndsAt : ℕ → List ℕ → ℕ → Type 0
@@ -67,7 +61,7 @@ not_past sign text at end c ascii below char other (inl ended) = omega (arith, e
 not_past sign text at end c ascii below char other (inr is) = ⊎_elim
     (λ inside. absurd (other (byte_in end char (omega (arith, below)) inside (subst (λ b. b < 128) (sym is) ascii) ∙ is)))
     (λ past. past)
-    (order end (at + len_utf8 c))
+    (cases_lt end (at + len_utf8 c))
 
 -- the characters from an offset to the end of a stretch are a run without `sign`
 to_sign : (sign : ℕ) (text cs : List ℕ) (at end : ℕ) → sign < 128 → encode_utf8_all cs ≡ drop at text → at ≤ end
@@ -93,7 +87,7 @@ to_sign sign text (c ∷ cs) at end ascii left to within others ends = ⊎_elim
     (λ above.
     let same : at ≡ end = omega (arith, to, above) in
     subst (λ n. Run (λ c. not (c == sign)) (place text at) (place text n)) same stop)
-    (order at end)
+    (cases_lt at end)
 
 -- a stretch continues from each place in it to its end
 pub from_inside : (sign : ℕ) (u : Place) (stretch : Stretch) → sign < 128 → IsStretch sign u.text stretch

@@ -1,6 +1,6 @@
 -- Facts about names and numbers.
 use Rattle.std.proofs.Common.{List, ◌≡◌, ℕ, Bool, true, false, refl, sym, subst, MatchBool}
-use Rattle.std.specs.Prelude.{not, ◌||◌, ◌==◌}
+use Rattle.std.specs.Prelude.{not, ◌&&◌, ◌||◌, ◌==◌}
 use Rattle.std.proofs.lemmas.Bool.{and_parts}
 use Rattle.std.specs.Char.{is_ascii_digit}
 use Rattle.bib_text.specs.Places.{Place, CharAt, Longest}
@@ -102,3 +102,11 @@ named_piece {u} {v} s t same spans no_digit i = rw (same, spans) (named no_digit
 -- no digit is at a place if each character there isn't one
 pub no_digit_without : {u : Place} → ((c : ℕ) (v : Place) → CharAt u c v → is_ascii_digit c ≡ false) → NoDigit u
 no_digit_without none c v char digit = test_clash _ digit (none c v char)
+
+-- whether a character is neither a quote nor a backslash
+abbrev pub is_unquoted : ℕ → Bool
+is_unquoted c = not (c == 34) && not (c == 92)
+
+-- a character that is neither a quote nor a backslash differs from both
+pub unquoted_is : {c : ℕ} (d : ℕ) → is_unquoted c ≡ true → is_unquoted d ≡ false → c ≡ d → ⊥
+unquoted_is d passes fails same = test_clash (is_unquoted d) (subst (λ x. is_unquoted x ≡ true) same passes) fails

@@ -15,11 +15,11 @@ NeverCloses u = (v w : Place) → Parts u v → CharAt v char.close_brace w → 
 abbrev pub ClosesAt : Place → Place → Type 0
 ClosesAt u v = Parts u v × ((w : Place) × CharAt v char.close_brace w)
 
--- `close` is where the text from `u` closes: a brace at this offset closes it, or no brace does if it is `None`
+-- `close` is the offset of the brace that closes the text from `u`, or `None` if no brace does
 abbrev pub IsCloseOf : Place → Option ℕ → Type 0
 IsCloseOf u close = MatchOption close (NeverCloses u) (λ at. ClosesAt u (place u.text at))
 
--- `closing` tells where `text` closes from an offset
+-- in `closing`, `close` is the offset of the brace that closes `text` from the offset `start`, or `None` if no brace does
 abbrev pub IsClosing : List ℕ → Closing → Type 0
 IsClosing text closing = IsCloseOf (place text closing.start) closing.close
 

@@ -1,5 +1,5 @@
 -- Meaning: words of public contracts.
--- Errors of a text, and how they are printed, as the Rust crate `biblatex` prints them.
+-- Errors of a text, out of memory, and how they are printed. Each kind that the Rust crate `biblatex` has is printed as there.
 use Rattle.std.specs.Prelude.{◌≡◌, ℕ, ◌≤◌, Bool, true, false, List, ◌++◌, Option, Some, length, codes, IsTrue, ◌⊎◌}
 use Rattle.std.specs.Fmt.{◌++?◌, decimal, debug_str}
 use Rattle.bib_tables.specs.TypeError.{type_kind_text}

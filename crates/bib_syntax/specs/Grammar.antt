@@ -20,7 +20,7 @@ pub data Mode : Type 0 where
   any : Mode
   longest : Mode
 
--- a run of characters that pass `test`; in the mode `longest`, the longest run
+-- a run of zero or more characters that pass `test`; in the mode `longest`, the longest run
 abbrev pub Chars : Mode → (ℕ → Bool) → Place → Place → Type 0
 Chars any test u v = Run test u v
 Chars longest test u v = Longest test u v
@@ -30,11 +30,11 @@ abbrev pub Ends : Mode → (ℕ → Bool) → Place → Type 0
 Ends any test u = ⊤
 Ends longest test u = Stops test u
 
--- a run of white space
+-- a run of white space, possibly empty
 abbrev pub White : Mode → Place → Place → Type 0
 White mode u v = Chars mode is_whitespace u v
 
--- an identifier: a first character, and characters after it; `name` is its text with its span
+-- an identifier: a first character, and zero or more characters after it; `name` is its text with its span
 pub record Identifier (mode : Mode) (u : Place) (name : Part) (v : Place) : Type 0 where
   pub second : Place
   pub first : ℕ
@@ -43,7 +43,7 @@ pub record Identifier (mode : Mode) (u : Place) (name : Part) (v : Place) : Type
   pub rest : Chars mode is_id_continue second v
   pub reading : name ≡ part u v
 
--- a number: a digit, and then digits with at most one point among them
+-- a number: a digit, and then zero or more digits and at most one point
 pub data Number (mode : Mode) : Place → Place → Type 0 where
   whole : {u v w : Place} {c : ℕ} → CharAt u c v → is_ascii_digit c ≡ true → Chars mode is_ascii_digit v w
       → Ends mode (λ d. d == char.point) w → Number mode u w
@@ -86,7 +86,7 @@ pub data Element (mode : Mode) : Place → Piece → Place → Type 0 where
   braced : {u v : Place} {p : Part} → Braced u p v → Element mode u (literal p) v
   quoted : {u v : Place} {p : Part} → Quoted u p v → Element mode u (literal p) v
 
--- one or more pieces separated by #, with white space after each piece and each #
+-- one or more pieces separated by `#`; white space may follow each piece and each `#`
 pub data Elements (mode : Mode) : Place → List Piece → Place → Type 0 where
   last : {u v w : Place} {e : Piece} → Element mode u e v → White mode v w → Ends mode (λ c. c == char.hash) w → Elements mode u (e ∷ []) w
   more : {u v w x y z : Place} {e : Piece} {es : List Piece} → Element mode u e v → White mode v w → CharAt w char.hash x
@@ -142,7 +142,7 @@ block_kind name =
     (cond (is_word name (codes "preamble")) BlockKind.preamble
     (cond (is_word name (codes "string")) BlockKind.strings BlockKind.entry))
 
--- the head of a block: an at sign, a name, white space, a brace or a quote, and white space; `kind` is the name
+-- the head of a block: an at sign, a name, white space, an opening brace or a quote, and white space; `kind` is the name
 pub record Head (mode : Mode) (u : Place) (kind : Part) (v : Place) : Type 0 where
   pub name_start : Place
   pub name_end : Place

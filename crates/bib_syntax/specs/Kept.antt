@@ -1,7 +1,7 @@
 -- Meaning: words of public contracts.
 -- The complete parts of a block that can't be parsed. BibTeX keeps them too: of an entry with an error, it has the key and
--- the fields before the error. Two more rules are looser than the grammar: BibTeX reads parentheses around a block, and Biber
--- several line comments in a row.
+-- the fields before the error. Two rules are looser than the grammar. As in BibTeX, a parenthesis may open a block. As in
+-- Biber, several line comments may follow each other.
 use Rattle.std.specs.Prelude.{◌≡◌, ℕ, ◌==◌, ◌||◌, Bool, true, if◌then◌else◌, List, [], ◌∷◌, length}
 use Rattle.bib_text.specs.Places.{Place, CharAt, Longest, Stops}
 use Rattle.bib_text.specs.Characters as char
@@ -13,12 +13,11 @@ use Rattle.bib_syntax.specs.Reading.{EntryReading, FieldReading, FileReading, Pa
 abbrev pub entry_alone : EntryReading → FileReading
 entry_alone e = record { preamble = []; entries = e ∷ []; abbreviations = [] }
 
--- whether `c` opens a block: a brace, a quote or a parenthesis
+-- whether `c` opens a block: an opening brace, a quote or an opening parenthesis
 abbrev pub opens_block : ℕ → Bool
 opens_block c = c == char.open_brace || c == char.quote || c == char.open_parenthesis
 
--- the opening of a block: an at sign, a name, white space, a brace, a quote or a parenthesis, and white space; `kind` is the
--- name
+-- the opening of a block: an at sign, a name, white space, a character that opens a block, and white space; `kind` is the name
 pub record Opening (u : Place) (kind : Part) (v : Place) : Type 0 where
   pub name_start : Place
   pub name_end : Place
@@ -41,8 +40,8 @@ pub data Comments : Place → Place → Type 0 where
 abbrev pub NoField : Place → Type 0
 NoField u = (f : FieldReading) (v : Place) → Field longest u f v → ⊥
 
--- The fields from a place up to the first that isn't complete, or up to one without a comma after it. The last place is the
--- end of these fields, with the comma, white space and line comments after the last one.
+-- The complete fields from a place on. They end where no complete field begins, or with a field that has no comma after it.
+-- The last place is the end of these fields, with the comma, white space and line comments after the last one.
 pub data CompleteFields : Place → List FieldReading → Place → Type 0 where
   none : {u : Place} → NoField u → CompleteFields u [] u
   last : {u v w : Place} {f : FieldReading} → Field longest u f v → Comments v w → Stops (λ c. c == char.comma) w
@@ -50,14 +49,14 @@ pub data CompleteFields : Place → List FieldReading → Place → Type 0 where
   more : {u v w x y z : Place} {f : FieldReading} {fs : List FieldReading} → Field longest u f v → Comments v w
       → CharAt w char.comma x → Comments x y → CompleteFields y fs z → CompleteFields u (f ∷ fs) z
 
--- an entry without fields that ends at `end`, if its key isn't empty
+-- an entry without fields that ends at `end`; nothing if its key is empty
 abbrev pub key_alone : Place → Part → Part → Place → FileReading
 key_alone start kind key end =
     if length key.text == 0 then empty_reading
     else entry_alone (record { key = key; kind = kind; fields = []; start = start.at; end = end.at })
 
 -- The complete parts of the rest of a block after its opening; the block begins at `start` and has the name `kind`. A comment
--- and a preamble have none. An entry whose key has no comma after it has only the key.
+-- and a preamble have none. An entry whose key has no comma after it has only the key, or nothing if the key is empty.
 pub data KeptBody (start : Place) (kind : Part) : BlockKind → Place → FileReading → Type 0 where
   comment : {u : Place} → KeptBody start kind BlockKind.comment u empty_reading
   preamble : {u : Place} → KeptBody start kind BlockKind.preamble u empty_reading

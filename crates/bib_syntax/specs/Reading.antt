@@ -30,8 +30,9 @@ pub record FieldReading : Type 0 where
   pub name : Part
   pub value : ValueReading
 
--- An entry. It starts at its @ and ends before its closing brace. An entry that is kept of a block with an error ends after
--- its last complete field and the comma, white space and line comments after it.
+-- An entry. It starts at its @ and ends before its closing brace. A kept entry of a block with an error ends after its last
+-- complete field and the comma, white space and line comments after that. Without such a field, it ends after its key and the
+-- white space after that. If a comma follows, it ends after the comma and the white space and line comments after that.
 pub record EntryReading : Type 0 where
   pub key : Part
   pub kind : Part

@@ -1,6 +1,6 @@
 -- Meaning: words of public contracts.
 -- Recovery: the reading of a text some of whose blocks can't be parsed. BibTeX reports an error, skips the rest of the block
--- and continues. Recovery continues at the next at sign that begins a line, so an unclosed brace costs only one block.
+-- and continues. Recovery continues at the next at sign that begins a line, so an unclosed brace usually costs only its block.
 use Rattle.std.specs.Prelude.{◌≡◌, ◌⊎◌, ℕ, ◌<◌, Bool, true, false, not, ◌&&◌, ◌||◌, ◌==◌, List, [], ◌∷◌, length, take, drop}
 use Rattle.std.specs.List.{list_any, Any}
 use Rattle.std.specs.Str.{trim_end}
@@ -47,14 +47,14 @@ IsUnreadBlock u e = Reports (BlockFails u) e
 abbrev pub skipped_block : ParseError → Place → Place → SkippedBlock
 skipped_block e u w = record { error = e; span = record { start = u.at; end = w.at } }
 
--- What recovery keeps of the skipped block from `u` to `w`: nothing, or its complete parts if `keeps_parts` is true. They are
--- the parts of the text that ends at `w`.
+-- The parts that recovery keeps of the skipped block from `u` to `w`: none, or its complete parts if the flag is true. They
+-- are parsed as if the text ended at `w`.
 pub data Keeps : Bool → Place → Place → FileReading → Type 0 where
   nothing : {u w : Place} → Keeps false u w empty_reading
   parts : {u w : Place} {kept : FileReading} → Kept (place (take w.at w.text) u.at) kept → Keeps true u w kept
 
 -- The rest of a file from a place, by the rules of the raw reading and one more rule. If no block begins at an at sign, its
--- error is kept, and recovery continues at the next at sign that begins a line.
+-- error is kept. Recovery then continues at the next at sign that begins a line, or at the end of the text.
 pub data Recovered (keeps_parts : Bool) : Place → FileReading → List SkippedBlock → Type 0 where
   end : {u : Place} → AtEnd u → Recovered keeps_parts u empty_reading []
   skipped : {u v : Place} {c : ℕ} {says : FileReading} {errors : List SkippedBlock} → CharAt u c v
@@ -68,11 +68,11 @@ pub data Recovered (keeps_parts : Bool) : Place → FileReading → List Skipped
       → IsUnreadBlock u e → GoesOnAt v w → Keeps keeps_parts u w kept
       → Recovered keeps_parts w says errors → Recovered keeps_parts u (then kept says) (skipped_block e u w ∷ errors)
 
--- the blocks of `text` that can be parsed have the reading `says`, and `errors` are the others
+-- `says` is the reading of the blocks of `text` that recovery parses, and `errors` are the blocks that it skips
 abbrev pub IsRecovery : List ℕ → FileReading → List SkippedBlock → Type 0
 IsRecovery text says errors = Recovered false (place text 0) says errors
 
--- the same with the complete parts of the blocks that can't be parsed
+-- the same, but `says` also has the complete parts of the skipped blocks
 abbrev pub IsFullRecovery : List ℕ → FileReading → List SkippedBlock → Type 0
 IsFullRecovery text says errors = Recovered true (place text 0) says errors
 
@@ -80,7 +80,7 @@ IsFullRecovery text says errors = Recovered true (place text 0) says errors
 abbrev pub IsBlockOf : List ℕ → EntryReading → Type 0
 IsBlockOf text e = (v : Place) × Block longest (place text e.start) (entry_alone e) v
 
--- the entry `e` begins at the start of a skipped block, and is what is kept of this block
+-- the entry `e` begins at the start of a skipped block, and is the kept part of this block
 abbrev pub IsKeptPart : List ℕ → List SkippedBlock → EntryReading → Type 0
 IsKeptPart text errors e = Any
     (λ block. (block.span.start ≡ e.start) × Kept (place (take block.span.end text) e.start) (entry_alone e))

@@ -68,8 +68,8 @@ pub data FieldFails : Place → ParseErrorKind → Place → Type 0 where
       → CharAt w char.equals x
       → White longest x y → ElementsFails y kind z → FieldFails u kind z
 
--- Fields up to the closing brace of their block fail after zero or more fields, each with a comma after it, in four cases:
--- the next field fails; neither a comma nor the brace follows it; neither a name nor the brace occurs; or the text ends.
+-- Fields up to the closing brace of their block fail after zero or more fields, each with a comma after it, in four cases. The
+-- next field fails. Neither a comma nor the brace follows that field. Neither a name nor the brace occurs. The text ends.
 pub data FieldsFails : Place → ParseErrorKind → Place → Type 0 where
   first : {u v : Place} {kind : ParseErrorKind} → FieldFails u kind v → FieldsFails u kind v
   more : {u v w x y z : Place} {f : FieldReading} {kind : ParseErrorKind} → Field longest u f v → Gap longest v w → CharAt w char.comma x

@@ -19,8 +19,8 @@ pub fn one_reading()
         IsRawReading text tells → says ≡ tells }
 {}
 
-/// The file grammar accepts exactly the texts that have a raw reading. In the file grammar, runs may end anywhere. In a raw
-/// reading, each run is as long as possible.
+/// The file grammar accepts exactly the texts that have a raw reading. In the file grammar, a run of white space or of
+/// characters of a name may end anywhere. In a raw reading, each run is as long as possible.
 pub fn same_texts()
     ensures { (text : List ℕ) → IsFile text ↔ ((says : FileReading) × IsRawReading text says) }
 {}
@@ -82,7 +82,7 @@ pub fn one_recovery()
         IsRecovery text says errors → IsFullRecovery text tells others → errors ≡ others }
 {}
 
-/// Each recovered entry is a block of the file grammar at its start. In a full recovery, it may instead be what is kept of a
+/// Each recovered entry is the raw reading of a block at its start. In a full recovery, it may instead be the kept part of a
 /// skipped block.
 pub fn recovered_entries_stand()
     ensures recovery { (text : List ℕ) (says : FileReading) (errors : List SkippedBlock) →
@@ -91,9 +91,8 @@ pub fn recovered_entries_stand()
         IsFullRecovery text says errors → AllByRecursion (λ e. IsBlockOf text e ⊎ IsKeptPart text errors e) says.entries }
 {}
 
-/// A recovery and a full recovery have each entry that the file grammar can parse at some place of the text, with two
-/// exceptions. The place is inside a block or a line comment that recovery parses, or it is in a skipped block. A block that
-/// recovery doesn't reach isn't an exception.
+/// A recovery and a full recovery have each entry that is the raw reading of a block at some place, with two exceptions. The
+/// place is inside a block or a line comment that recovery parses, or it is inside a skipped block.
 pub fn nothing_is_lost()
     ensures recovery { (text : List ℕ) (says : FileReading) (errors : List SkippedBlock) (e : EntryReading) →
         IsRecovery text says errors → IsBlockOf text e → Contains says.entries e ⊎

@@ -52,9 +52,9 @@ pub struct RawBibliography<'s> {
 impl<'s> RawBibliography<'s> {
     /// Parses a bibliography file.
     ///
-    /// If the file grammar rejects `src`, returns an error of the kind `UnexpectedEof`, `Unexpected` or `Expected`. Its span
-    /// is empty and in bytes of `src`. It is the one error that the rules in `specs/SyntaxErrors.antt` give for the text. Any
-    /// other error is `OutOfMemory`.
+    /// Returns an error if the file grammar rejects `src`, or `OutOfMemory`. The first error has the kind `UnexpectedEof`,
+    /// `Unexpected` or `Expected`, and an empty span in bytes of `src`. It is the one error that the rules in
+    /// `specs/SyntaxErrors.antt` give for the text.
     pub fn parse(alloc: Global, src: &'s str) -> Result<Self, ParseError>
         ensures read { IfOk result (λ raw. IsRawReading src.now (file_of raw)) }
         ensures accepted { OnOk result (IsFile src.now) }
@@ -64,18 +64,18 @@ impl<'s> RawBibliography<'s> {
         BiblatexParser::new(src).parse(alloc)
     }
 
-    /// Parses the blocks of a bibliography file that can be parsed, and reports the skipped ones. If the block at an at sign
-    /// can't be parsed, keeps its error and continues at the next at sign that begins a line. Skips no block if and only if
-    /// the file grammar accepts `src`. Returns an error only if out of memory.
+    /// Parses the blocks of a bibliography file, and skips those that can't be parsed. Keeps the error of a skipped block, and
+    /// continues at the next at sign that begins a line, if any. Skips no block if and only if the file grammar accepts `src`.
+    /// Returns an error only if out of memory.
     pub fn recover(alloc: Global, src: &'s str) -> Result<RawRecovery<'s>, AllocError>
         ensures { IfOk result (λ found. IsRecovery src.now (file_of found.raw) found.skipped.items) }
     {
         recover(alloc, src, false)
     }
 
-    /// Parses a file as `recover` does, and keeps the complete parts of the skipped blocks too: the key and the fields of an
-    /// entry, and the definitions of abbreviations. Keeps each field before the first one that isn't complete, or before a
-    /// missing comma. An entry that is kept begins where its skipped block begins. Returns an error only if out of memory.
+    /// Parses a file as `recover` does, and also keeps the complete parts of the skipped blocks. These are the key and the fields
+    /// of an entry, and the definitions of abbreviations. Keeps each field before the first one that isn't complete, or before a
+    /// missing comma. The span of a kept entry begins with its skipped block. Returns an error only if out of memory.
     pub fn recover_parts(alloc: Global, src: &'s str) -> Result<RawRecovery<'s>, AllocError>
         ensures { IfOk result (λ found. IsFullRecovery src.now (file_of found.raw) found.skipped.items) }
     {
@@ -171,18 +171,18 @@ pub struct ParseError {
 #[derive(Debug, PartialEq, Eq, Drop)]
 #[non_exhaustive]
 pub enum ParseErrorKind {
-    /// The text ended too soon, or the value of a field has no piece where one must occur.
+    /// The text ended too soon, or a value has no piece where one must occur.
     UnexpectedEof,
     /// A token occurs where it isn't allowed.
     Unexpected(Token),
     /// An expected token is missing.
     Expected(Token),
-    /// An abbreviation is neither defined nor the first three letters of a month. The text is its name.
+    /// An abbreviation is neither defined nor the first three letters of an English month. The text is its name.
     UnknownAbbreviation(Text),
     /// A command is malformed. Never returned; kept so that all names of the Rust crate `biblatex` exist.
     MalformedCommand,
-    /// The key of an entry is the key of an earlier entry, or one of the names in the field `ids` of one. The text is the
-    /// key.
+    /// The key of an entry is the key of an earlier loaded entry, or one of the names in the field `ids` of one. The text is
+    /// the key.
     DuplicateKey(Text),
     /// A date that an entry would inherit can't be parsed, for this reason.
     ResolutionError(TypeErrorKind),

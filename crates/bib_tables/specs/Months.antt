@@ -1,5 +1,5 @@
 -- Meaning: words of public contracts.
--- The months: their English names, and the abbreviations that every style of BibTeX defines and BibLaTeX knows.
+-- The months: their English names, and the abbreviations that the standard styles of BibTeX define and BibLaTeX knows.
 use Rattle.std.specs.Prelude.{ℕ, Bool, ◌||◌, List, [], ◌∷◌, Option, codes}
 use Rattle.std.specs.List.{find}
 use Rattle.std.specs.Str.{str_eq_ignore_ascii_case}

@@ -1,5 +1,5 @@
 -- Meaning: words of public contracts.
--- Pagination schemes: what the numbers in `pages` or in a citation count, from the BibLaTeX manual's list of values for
+-- Pagination schemes: the units that the numbers in `pages` or in a citation count, from the BibLaTeX manual's list of values for
 -- `pagination`.
 use Rattle.std.specs.Prelude.{ℕ, List, [], ◌∷◌, Option, codes}
 use Rattle.bib_tables.specs.declared.types.Pagination.{Pagination}

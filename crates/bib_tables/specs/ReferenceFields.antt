@@ -3,8 +3,8 @@
 use Rattle.std.specs.Prelude.{ℕ, Bool, ◌||◌, List, codes}
 use Rattle.std.specs.Str.{str_eq_ignore_ascii_case}
 
--- whether the value of a field lists keys of entries that its entry refers to: the reference fields of BibLaTeX, and `set` of
--- older files; in any ASCII case
+-- Whether the value of a field with this name lists keys of entries that its entry refers to. These are the reference fields of
+-- BibLaTeX, and `set` of older files, in any ASCII case.
 abbrev pub is_reference_field : List ℕ → Bool
 is_reference_field name =
     str_eq_ignore_ascii_case name (codes "crossref") || str_eq_ignore_ascii_case name (codes "xdata")

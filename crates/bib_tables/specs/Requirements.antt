@@ -25,7 +25,7 @@ texts = map (λ name. name.now)
 abbrev pub fields : String → Names
 fields names = words (codes names)
 
--- the optional fields of nearly every type
+-- fields that are optional for nearly every type
 abbrev pub core : Names
 core = fields "titleaddon subtitle url urldate doi eprint eprintclass eprinttype pubstate language addendum"
 
@@ -37,7 +37,7 @@ base = codes "note" ∷ codes "location" ∷ core
 abbrev pub base_without_location : Names
 base_without_location = codes "note" ∷ core
 
--- people who annotated or translated a work, its original language, and texts added to it
+-- the people who annotated or translated a work, or wrote an afterword, a foreword or an introduction to it, and its original language
 abbrev pub annotators : Names
 annotators = fields "annotator commentator translator origlanguage afterword foreword introduction"
 
@@ -253,7 +253,8 @@ is_container _ = false
 abbrev pub is_one_of : Names → List ℕ → Bool
 is_one_of names name = list_any (λ each. bytes_eq each name) names
 
--- Whether an entry of a type that lacks the field `name` inherits it from an entry that it refers to. No entry inherits the
--- fields of `never_inherited`. A container inherits all other fields, and any other entry those inheritable for its type.
+-- Whether an entry of a type that lacks the field `name` inherits it from an entry that it refers to; dates have rules of their
+-- own. No entry inherits the fields of `never_inherited`. A container inherits all other fields, and any other entry those
+-- inheritable for its type.
 abbrev pub inherits : EntryType → List ℕ → Bool
 inherits type name = not (is_one_of never_inherited name) && (is_container type || is_one_of (inheritable type) name)

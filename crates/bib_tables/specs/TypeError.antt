@@ -1,5 +1,6 @@
 -- Meaning: words of public contracts.
--- Errors of typed values, and how they are printed, as the Rust crate `biblatex` prints them.
+-- Errors of typed values, out of memory, and how they are printed. Each kind that the Rust crate `biblatex` has is printed as
+-- there.
 use Rattle.std.specs.Prelude.{ℕ, List, ◌++◌, codes}
 use Rattle.std.specs.Fmt.{decimal}
 use Rattle.bib_tables.specs.declared.type_error.TypeErrorKind.{TypeErrorKind}

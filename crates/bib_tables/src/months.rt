@@ -151,7 +151,7 @@ fn find_abbreviated(months: &[Month], name: &str) -> Option<Month>
     None
 }
 
-// Returns the first of some months whose English name or abbreviation `word` is, in any ASCII case.
+// Returns the first of `months` that has `word` as its English name or its abbreviation, in any ASCII case.
 fn find_named(months: &[Month], word: &str) -> Option<Month>
     ensures { result ≡ find (is_word_of word.now) months.now }
 {

@@ -31,7 +31,7 @@ pub enum TypeErrorKind {
     MonthOutOfRange,
     /// A text isn't a number, a range or a list of ranges, or a number of a time is out of range.
     InvalidNumber,
-    /// A number is missing.
+    /// A number is missing, or the span of chunks that aren't a number is empty.
     MissingNumber,
     /// A part of a date has too few or too many digits.
     WrongNumberOfDigits,

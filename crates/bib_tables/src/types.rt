@@ -36,7 +36,7 @@ impl From<AllocError> for NameError {
     }
 }
 
-/// A pagination scheme: what the numbers in the field `pages` or in a citation count (BibLaTeX manual, 2.3.12).
+/// A pagination scheme: the unit that the numbers in the field `pages` or in a citation count (BibLaTeX manual, 2.3.12).
 #[derive(Debug, Clone, Copy, PartialEq, Eq)]
 pub enum Pagination {
     /// Pages.

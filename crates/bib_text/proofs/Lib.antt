@@ -1,6 +1,11 @@
+pub mod BoolFacts
 pub mod BoundaryFacts
+pub mod BraceFacts
+pub mod BytesFacts
+pub mod DigitFacts
 pub mod EnumFacts
 pub mod ListFacts
+pub mod OptionFacts
 pub mod PlaceFacts
 pub mod ReverseFacts
 pub mod ScannedFacts

@@ -1,8 +1,12 @@
 -- Facts on lists and options that several crates need.
-use Rattle.std.proofs.Common.{◌≡◌, ◌≢◌, ℕ, zero, suc, ◌+◌, ◌-◌, ◌||◌, ◌⊎◌, inl, inr, Bool, true, false, cond, List, [], ◌∷◌, ◌++◌, length, Option, Some, refl, ap, ◌∙◌, arith, eqb}
-use Rattle.std.specs.List.{AllByRecursion, Contains, count_by, find, list_any, starts_with}
-use Rattle.std.specs.Prelude.{slice_get}
+use Rattle.std.proofs.Common.{◌≡◌, ◌≢◌, ℕ, zero, suc, ◌+◌, ◌-◌, ◌<◌, ◌||◌, ◌⊎◌, inl, inr, Bool, true, false, cond, List, [], ◌∷◌, ◌++◌, drop, get_or, length, map, take, Option, Some, refl, sym, ap, ◌∙◌, subst, arith, eqb}
+use Rattle.std.specs.List.{AllByRecursion, Contains, count_by, find, list_all, list_any, prefix_len, remove, starts_with}
+use Rattle.std.specs.List.Sorted.{IsSortedBy}
+use Rattle.std.specs.Prelude.{slice_get, slice_set}
+use Rattle.std.proofs.lemmas.Bool.{and_from, and_parts}
 use Rattle.std.proofs.lemmas.Bool.Decides.{Decides-eqb}
+use Rattle.std.proofs.lemmas.List.{drop_more, get_or-map, length-map, map-append, take_more}
+use Rattle.std.proofs.lemmas.List.Folds.{list_all-append}
 use Rattle.std.proofs.lemmas.List.Sums.{sum_by-append}
 use Rattle.std.proofs.lemmas.Slice.Eq.{starts_is}
 
@@ -57,3 +61,102 @@ begins_not part text never = of (starts_with eqb text part) refl where
   of : (b : Bool) → starts_with eqb text part ≡ b → starts_with eqb text part ≡ false
   of true is = absurd (never _ ((starts_is Decides-eqb text part (starts_with eqb text part) refl).0 is))
   of false is = is
+
+-- ---- the element at an index
+
+-- there is an element at each index below the length
+pub element_at : {A : Type 0} (xs : List A) (i : ℕ) → i < length xs → (x : A) × (slice_get xs i ≡ Some x)
+element_at [] i within = absurd (omega (arith, within))
+element_at (x ∷ xs) zero within = (x, refl)
+element_at (x ∷ xs) (suc i) within = element_at xs i (omega (arith, within))
+
+-- the element that was put at an index is there
+pub get_set : {A : Type 0} (xs : List A) (k : ℕ) (x y : A) → slice_get xs k ≡ Some x → slice_get (slice_set xs k y) k ≡ Some y
+get_set [] k x y here = absurd (cc)
+get_set (z ∷ zs) zero x y here = refl
+get_set (z ∷ zs) (suc k) x y here = get_set zs k x y here
+
+-- the elements from an index on are the element there and those after it
+pub drop_is : {A : Type 0} (xs : List A) (i : ℕ) (x : A) → i < length xs → x ≡ get_or xs i x → drop i xs ≡ x ∷ drop (i + 1) xs
+drop_is xs i x within is = drop_more xs i x within ∙ ap (λ y. y ∷ drop (i + 1) xs) (sym is)
+
+-- ---- mapped lists
+
+-- the element at an index of a mapped list
+pub get_mapped : {A B : Type 0} (f : A → B) (xs : List A) (k : ℕ) (x : A) → slice_get xs k ≡ Some x → slice_get (map f xs) k ≡ Some (f x)
+get_mapped f [] k x here = absurd (cc)
+get_mapped f (z ∷ zs) zero x here = let same : z ≡ x = cc in ap (λ y. Some (f y)) same
+get_mapped f (z ∷ zs) (suc k) x here = get_mapped f zs k x here
+
+-- putting an element at an index and mapping
+pub map_set : {A B : Type 0} (f : A → B) (xs : List A) (k : ℕ) (y : A) → map f (slice_set xs k y) ≡ slice_set (map f xs) k (f y)
+map_set f [] k y = refl
+map_set f (x ∷ xs) zero y = refl
+map_set f (x ∷ xs) (suc k) y = ap (λ l. f x ∷ l) (map_set f xs k y)
+
+-- removing an element and mapping
+pub remove_mapped : {A B : Type 0} (f : A → B) (xs : List A) (k : ℕ) → map f (remove xs k) ≡ remove (map f xs) k
+remove_mapped f [] zero = refl
+remove_mapped f [] (suc k) = refl
+remove_mapped f (x ∷ xs) zero = refl
+remove_mapped f (x ∷ xs) (suc k) = ap (λ l. f x ∷ l) (remove_mapped f xs k)
+
+-- the first `i + 1` elements, mapped, are the first `i` and the next one
+pub mapped_more : {A B : Type 0} (f : A → B) (xs : List A) (i : ℕ) (x : A) → i < length xs → x ≡ get_or xs i x
+    → map f (take (i + 1) xs) ≡ map f (take i xs) ++ f x ∷ []
+mapped_more f xs i x within is =
+    ap (map f) (take_more xs i x within ∙ ap (λ y. take i xs ++ y ∷ []) (sym is)) ∙ map-append f (take i xs) (x ∷ [])
+
+-- a test of the elements of a mapped list is a test of the elements
+pub any_mapped : {A B : Type 0} (f : A → B) (test : B → Bool) (xs : List A) → list_any test (map f xs) ≡ list_any (λ x. test (f x)) xs
+any_mapped f test [] = refl
+any_mapped f test (x ∷ xs) = ap (λ rest. test (f x) || rest) (any_mapped f test xs)
+
+-- if a list is sorted by the values of a function, the list of these values is sorted
+pub sorted_map : {X Y : Type 0} (f : X → Y) (lt : Y → Y → Bool) (xs : List X) → IsSortedBy (λ a b. lt (f a) (f b)) xs
+    → IsSortedBy lt (map f xs)
+sorted_map f lt [] up k d from within = absurd (omega arith)
+sorted_map f lt (x ∷ xs) up k d from within =
+    let size : length (map f (x ∷ xs)) ≡ length (x ∷ xs) = length-map (x ∷ xs) f in
+    let later = get_or-map f (x ∷ xs) (k + 1) x d (omega arith) in
+    let first = get_or-map f (x ∷ xs) k x d (omega arith) in
+    ap (λ y. lt y (get_or (map f (x ∷ xs)) k d)) later ∙ ap (lt (f (get_or (x ∷ xs) (k + 1) x))) first ∙ up k x from (omega arith)
+
+-- ---- properties and tests of all elements
+
+-- if one property implies another, the first of all elements implies the second of all
+pub all_weaker : {A : Type 0} (P Q : A → Type 0) → ((x : A) → P x → Q x) → (xs : List A) → AllByRecursion P xs → AllByRecursion Q xs
+all_weaker P Q weaker [] all = tt
+all_weaker P Q weaker (x ∷ xs) all = (weaker x all.0, all_weaker P Q weaker xs all.1)
+
+-- a property of all elements is one of the element that `find` returns
+pub found_has : {A : Type 0} (P : A → Type 0) (test : A → Bool) (xs : List A) (x : A) → AllByRecursion P xs → find test xs ≡ Some x → P x
+found_has P test [] x all is = absurd (cc)
+found_has P test (y ∷ ys) x all is = by_case (test y) (found_has P test ys x all.1) is
+  where
+    by_case : (b : Bool) → (find test ys ≡ Some x → P x) → cond b (Some y) (find test ys) ≡ Some x → P x
+    by_case true later found = let same : y ≡ x = cc in subst P same all.0
+    by_case false later found = later found
+
+-- tests that agree on each value agree on a list
+pub any_same : {A : Type 0} (f g : A → Bool) → ((x : A) → f x ≡ g x) → (xs : List A) → list_any f xs ≡ list_any g xs
+any_same f g same [] = refl
+any_same f g same (x ∷ xs) = ap (λ b. b || list_any f xs) (same x) ∙ ap (λ b. g x || b) (any_same f g same xs)
+
+-- elements that pass a test pass a weaker one
+pub passed_weaker : (p q : ℕ → Bool) → ((c : ℕ) → p c ≡ true → q c ≡ true) → (cs : List ℕ) → list_all p cs ≡ true → list_all q cs ≡ true
+passed_weaker p q each [] all = refl
+passed_weaker p q each (c ∷ cs) all =
+    let parts = and_parts (p c) (list_all p cs) all in
+    and_from _ _ (each c parts.0) (passed_weaker p q each cs parts.1)
+
+-- if all elements of two lists pass a test, so do those of both together
+pub passed_append : (p : ℕ → Bool) (xs ys : List ℕ) → list_all p xs ≡ true → list_all p ys ≡ true → list_all p (xs ++ ys) ≡ true
+passed_append p xs ys first second = list_all-append p xs ys ∙ and_from _ _ first second
+
+-- the elements that pass a test at the start of a list whose first part passes it
+pub passed_prefix : (p : ℕ → Bool) (xs rest : List ℕ) → list_all p xs ≡ true → prefix_len p (xs ++ rest) ≡ length xs + prefix_len p rest
+passed_prefix p [] rest all = omega arith
+passed_prefix p (x ∷ xs) rest all =
+    let parts = and_parts (p x) (list_all p xs) all in
+    rw (parts.0, passed_prefix p xs rest parts.1) (omega arith)

@@ -1,5 +1,5 @@
 -- Facts about places and the characters between them.
-use Rattle.std.proofs.Common.{◌≡◌, ℕ, ◌+◌, ◌-◌, ◌<◌, ◌≤◌, Bool, true, false, List, ◌++◌, length, drop, get_or, refl, sym, ap, ◌∙◌, subst, arith, length-append, length-drop, inl, inr, nat_eq, MatchBool, MatchOption, Option, None, Some}
+use Rattle.std.proofs.Common.{◌≡◌, ℕ, ◌+◌, ◌-◌, ◌^◌, ◌<◌, ◌≤◌, Bool, true, false, List, ◌++◌, length, drop, get_or, refl, sym, ap, ◌∙◌, subst, arith, length-append, length-drop, inl, inr, nat_eq, MatchBool, MatchOption, Option, None, Some}
 use Rattle.std.specs.Prelude.{encode_utf8, ◌==◌}
 use Rattle.std.specs.Char.{is_whitespace, len_utf8}
 use Rattle.std.specs.Str.{IsUtf8, IsCharBoundary}
@@ -247,3 +247,20 @@ ahead_taken (Some c) char = ahead_char char
 
 pub ahead_same : {u v : Place} → v ≡ u → Ahead u v
 ahead_same {u} {v} same = subst (λ p. Ahead u p) (sym same) (ahead_here u)
+
+-- the place after a character lies in its text
+pub char_within : {u v : Place} {c : ℕ} → CharAt u c v → v.at ≤ length v.text
+char_within {u} {v} {c} char =
+    let size : length v.text ≡ length u.text = ap length char.same in
+    omega (arith, char_left char, char.next)
+
+-- the place of a later character lies in the text
+pub before_char : {u v w : Place} {c : ℕ} → Ahead u v → CharAt v c w → v.at ≤ length u.text
+before_char {u} {v} ahead char =
+    let left = char_left char in
+    let same : length v.text ≡ length u.text = ap length ahead.text in
+    omega (arith, left, same)
+
+-- the byte offset after a later character of a text that is in memory is a machine number
+pub after_char_small : {u v w : Place} {c : ℕ} → length u.text < 2 ^ 63 → Ahead u v → CharAt v c w → w.at < 2 ^ 64
+after_char_small {u} {v} {w} {c} fits ahead char = omega (arith, char_left char, ap length ahead.text, char.next)

@@ -40,20 +40,28 @@ passed_char {u} {v} {c} char utf8 =
       utf8 = IsUtf8-past_char (ahead u) (ahead v) c utf8 here;
     }
 
+-- the bytes of characters and of those after them are the bytes of all of them
+pub joined_bytes : (cs ds before middle after : List ℕ) → before ≡ encode_utf8_all cs ++ middle
+    → middle ≡ encode_utf8_all ds ++ after → before ≡ encode_utf8_all (cs ++ ds) ++ after
+joined_bytes cs ds before middle after first second =
+    first ∙ ap (λ bs. encode_utf8_all cs ++ bs) second ∙ sym (append_assoc (encode_utf8_all cs) _ _)
+    ∙ ap (λ bs. bs ++ after) (sym (encodes-append cs ds))
+
+-- the byte offset after characters and those after them
+pub joined_offset : (cs ds : List ℕ) (from middle to : ℕ) → middle ≡ from + length (encode_utf8_all cs)
+    → to ≡ middle + length (encode_utf8_all ds) → to ≡ from + length (encode_utf8_all (cs ++ ds))
+joined_offset cs ds from middle to first second =
+    let sizes : length (encode_utf8_all (cs ++ ds)) ≡ length (encode_utf8_all cs) + length (encode_utf8_all ds) =
+    ap length (encodes-append cs ds) ∙ length-append (encode_utf8_all cs) _ in
+    omega (arith, first, second, sizes)
+
 -- `MovesPast` for characters and those after them
 pub passed_append : {u v w : Place} {cs ds : List ℕ} → MovesPast u cs v → MovesPast v ds w → MovesPast u (cs ++ ds) w
 passed_append {u} {v} {w} {cs} {ds} first second =
-    let joined : encode_utf8_all (cs ++ ds) ≡ encode_utf8_all cs ++ encode_utf8_all ds = encodes-append cs ds in
-    let sizes : length (encode_utf8_all (cs ++ ds)) ≡ length (encode_utf8_all cs) + length (encode_utf8_all ds) =
-    ap length joined ∙ length-append (encode_utf8_all cs) _ in
-    let next_first : v.at ≡ u.at + length (encode_utf8_all cs) = first.next in
-    let next_second : w.at ≡ v.at + length (encode_utf8_all ds) = second.next in
     record {
       same = second.same ∙ first.same;
-      here =
-          first.here ∙ ap (λ bs. encode_utf8_all cs ++ bs) second.here ∙ sym (append_assoc (encode_utf8_all cs) _ _)
-          ∙ ap (λ bs. bs ++ ahead w) (sym joined);
-      next = omega arith;
+      here = joined_bytes cs ds _ _ _ first.here second.here;
+      next = joined_offset cs ds _ _ _ first.next second.next;
       spelt = first.spelt ∙ ap (λ bs. cs ++ bs) second.spelt ∙ sym (append_assoc cs ds _);
       utf8 = second.utf8;
     }

@@ -4,7 +4,7 @@ use Rattle.std.specs.Prelude.{encode_utf8, encode_utf8_all, not, ◌==◌, ◌||
 use Rattle.std.specs.Char.{len_utf8, is_whitespace}
 use Rattle.std.specs.Option.{unwrap_or}
 use Rattle.std.specs.Str.{IsUtf8, IsCharBoundary, chars}
-use Rattle.std.proofs.lemmas.Bool.{eqb-true, or_cases, cases_lt}
+use Rattle.std.proofs.lemmas.Bool.{eqb-true, or_cases, cases_lt, false_from_ne_true}
 use Rattle.std.proofs.lemmas.Bool.Decides.{nat_tests}
 use Rattle.std.proofs.lemmas.List.{get_or-append-add, get_or-take, get_or-drop, take-append-drop, length-take-le}
 use Rattle.std.proofs.lemmas.Str.{length-encode, len_utf8_bounds, byte_from_char, drop_past_char, encodes-chars, IsUtf8-take, IsUtf8-drop, IsCharBoundary-end, IsCharBoundary-before_ascii}
@@ -12,11 +12,6 @@ use Rattle.memchr.specs.Find.{Nowhere, IsFirstByte, is_byte, is_byte2, is_byte3}
 use Rattle.bib_text.specs.Places.{Place, place, CharAt, Run, Longest, AtEnd, EndsOr}
 use Rattle.bib_text.specs.Places.Run.{stop, step}
 use Rattle.bib_text.proofs.PlaceFacts.{char_here, ascii_here, stops_at, stops_at_end}
-
--- a test that doesn't pass fails
-not_passed : (b : Bool) → (b ≡ true → ⊥) → b ≡ false
-not_passed true fails = absurd (fails refl)
-not_passed false fails = refl
 
 -- characters without a byte that ends a run are a run
 run_of_chars : (ends passes : ℕ → Bool) → ((c : ℕ) → passes c ≡ not (ends c)) → ((c : ℕ) → ends c ≡ true → c < 128)
@@ -45,7 +40,7 @@ run_of_chars ends passes split ascii text at (c ∷ cs) rest here none =
     none (length (encode_utf8 c) + k) (omega arith)
     (subst (λ x. ends x ≡ true) (sym (get_or-append-add (encode_utf8 c) (encode_utf8_all cs) k 0)) is)) in
     let next : at + len_utf8 c + length (encode_utf8_all cs) ≡ at + length (encode_utf8_all (c ∷ cs)) = omega arith in
-    step (char_here text (encode_utf8_all cs ++ rest) at c begins) (split c ∙ ap not (not_passed (ends c) fails))
+    step (char_here text (encode_utf8_all cs ++ rest) at c begins) (split c ∙ ap not (false_from_ne_true (ends c) fails))
     (subst (λ n. Run passes (place text (at + len_utf8 c)) (place text n)) next more)
 
 -- the longest run from `u` ends at `v`, a character boundary, at the end of the text or at a failing character

@@ -1,5 +1,5 @@
 -- Meaning: words of public contracts.
--- Unicode code points of the characters with a meaning in files, names and dates.
+-- Unicode code points of the characters that definitions and contracts name.
 use Rattle.std.specs.Prelude.{ℕ}
 
 abbrev pub tab : ℕ

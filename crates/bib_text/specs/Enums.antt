@@ -22,7 +22,7 @@ abbrev pub between_spaces : List ℕ → List (List ℕ)
 between_spaces [] = [] ∷ []
 between_spaces (c ∷ text) = if c == char.space then [] ∷ between_spaces text else before_words c (between_spaces text)
 
--- the words of a text with single spaces between words; the empty text has no words
+-- the parts of a text between its spaces (U+0020), possibly empty, but none for the empty text
 abbrev pub words : List ℕ → List (List ℕ)
 words [] = []
 words text = between_spaces text

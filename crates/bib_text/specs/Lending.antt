@@ -10,10 +10,10 @@ use Rattle.bib_text.specs.contracts.items.Items.{the_row}
 abbrev pub with_elements : {T : Type 0} → List T → List T → List T
 with_elements list elements = take (length list) (elements ++ drop (length elements) list)
 
--- when the borrow ends, the elements of `list` are replaced by the final elements of the borrowed `slice`
+-- when the borrow ends, the first elements of `list` are replaced by the final elements of the borrowed `slice`
 abbrev pub LendsSlice : (T : RattleType) → MutBor (List T.Denot) → MutBor (List T.Denot) → Fml
 LendsSlice T list slice = Lends (the_row T) (Array T 0) list slice (with_elements list.now)
 
--- when the borrow ends, the elements of `list` are replaced by the final values of the iterator's references, in order
+-- when the borrow ends, the first elements of `list` are replaced by the final values of the iterator's references, in order
 abbrev pub LendsElements : (T : RattleType) → MutBor (List T.Denot) → IterMut T.Denot → Fml
 LendsElements T list elements = follows (the_row T) (Array T 0) list.ghost_name (iter_mut_name elements) (with_elements list.now)

@@ -1,4 +1,4 @@
-//! Values with the span that they were parsed from.
+//! Values with their spans in a text.
 
 ghost use Rattle.std.specs.Prelude.{◌≡◌, ◌^◌, ◌-◌, ◌↔◌, IsTrue};
 
@@ -7,7 +7,7 @@ use std::ops::Range;
 /// A range of byte offsets in a text.
 pub type Span = Range<usize>;
 
-/// A value and the span of the text that it was parsed from.
+/// A value and the span of the text that it was parsed from, or an empty span if it wasn't parsed.
 #[derive(Debug, Clone, PartialEq, Eq, Drop)]
 pub struct Spanned<T> {
     /// The value.

@@ -123,7 +123,7 @@ impl AsStr for Text {
     }
 }
 
-/// Writes the text with the padding of the format.
+/// Writes the text as `str` does, with the width, alignment and precision of the format.
 impl fmt::Display for Text {
     ghost output = { λ t. Some t };
 

@@ -31,9 +31,9 @@ retrieval_error _ e = TypeError e
 abbrev pub field_as : {M : Type 0} → (Value → Option M) → Option Value → Option M
 field_as reads field = option_and_then reads field
 
--- the result of getting a field as a value of a type: a value with the parsed meaning; `Missing` with this name, if there is
--- no field; a `TypeError` at the span of all chunks, of a kind that parsing them may return, if they can't be parsed; or out
--- of memory
+-- the result of getting a field as a value of a type: a value with the parsed meaning, or an error. It is `Missing` with
+-- this name if there is no field. If the chunks can't be parsed, it is a `TypeError` at their span, of a kind that parsing
+-- them may return. It may also be out of memory
 abbrev pub IsRetrieved : {V : Type 0} → Ghosts V → Option Value → List ℕ → Result V RetrievalError → Type 0
 IsRetrieved type field name (Ok v) = field_as type.reads field ≡ Some (type.meaning v)
 IsRetrieved type field name (Err (Missing reported)) = (field ≡ None) × (reported ≡ name)
@@ -44,8 +44,8 @@ IsRetrieved type field name (Err (TypeError e)) =
     × (e.span ≡ whole_span chunks))
 IsRetrieved type field name (Err OutOfMemory) = ⊤
 
--- the result of getting the chunks of a field: its chunks; `Missing` with this name, if there is no field; or out of memory
--- for the name, if there is no field
+-- the result of getting the chunks of a field: its chunks. If there is no field, it is `Missing` with this name, or out of
+-- memory for the name
 abbrev pub AreChunksOf : Option Value → List ℕ → Result (Bor Value) RetrievalError → Type 0
 AreChunksOf field name (Ok chunks) = field ≡ Some chunks.now
 AreChunksOf field name (Err (Missing reported)) = (field ≡ None) × (reported ≡ name)

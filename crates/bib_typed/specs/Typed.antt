@@ -10,7 +10,7 @@ use Rattle.bib_chunks.specs.Values.{Value}
 use Rattle.bib_typed.specs.declared.typed.PermissiveType.{PermissiveType}
 use Rattle.bib_typed.specs.declared.typed.PermissiveType.TheVariants.{Typed, Chunks}
 
--- the meaning of a permissive value, given the meaning of the values of the type
+-- the meaning of a permissive value; `meaning` is that of the values of the type
 abbrev pub permissive_meaning : {V M : Type 0} → (V → M) → PermissiveType V → Permissive M
 permissive_meaning meaning (Typed v) = typed (meaning v)
 permissive_meaning meaning (Chunks chunks) = as_chunks chunks

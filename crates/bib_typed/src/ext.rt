@@ -27,7 +27,8 @@ pub trait ChunksExt {
         ensures place { LiesAt (whole_span (contents self.now)) result };
 
     /// Returns the text of the chunks. Math is written between dollar signs. A line break in normal text becomes a space, or
-    /// nothing if the last character written before it, outside math, is white space.
+    /// nothing if the last character written before it is white space. Math doesn't count as written, and an empty verbatim
+    /// chunk counts as a character other than white space.
     fn format_verbatim(&self, alloc: Global) -> Result<String, AllocError>
         ensures { IfOk result (λ text. string_bytes text ≡
             encode_utf8_all (formatted_chars (contents self.now))) };
@@ -43,8 +44,8 @@ pub trait ChunksExt {
         ensures { result ≡ whole_span (contents self.now) };
 
     /// Returns the value as a text with escapes, in braces. An unknown command was parsed as plain text, so it is escaped:
-    /// `\emph{x}` is written `\\emph\{x\}`. Outside verbatim fields `~` is written `\textasciitilde{}`. The edits and
-    /// `convert` of `bibkit` preserve the source of a file instead.
+    /// `\emph{x}` is written `\\emph\{x\}`. Outside verbatim fields and math, `~` is written `\textasciitilde{}`. The edits
+    /// of `bibkit` and its `convert --to biblatex` keep such commands.
     ///
     /// `is_verbatim` tells whether the field is verbatim. The only error is out of memory.
     fn to_biblatex_string(&self, alloc: Global, is_verbatim: bool) -> Result<String, AllocError>

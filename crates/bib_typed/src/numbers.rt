@@ -23,9 +23,9 @@ fn number_error(chunks: ChunksRef<'_>) -> TypeErrorKind
     TypeErrorKind::MissingNumber
 }
 
-/// Parses digits with an optional sign, or a roman numeral from 1 to 3,999, all in uppercase or all in lowercase. White space
-/// around them is ignored. The error is `MissingNumber` if the chunks have no bytes in the file, and `InvalidNumber`
-/// otherwise. Written in digits, as one normal chunk.
+/// Parses digits with an optional sign if the number fits in 64 bits. Also parses a roman numeral from 1 to 3,999, all in
+/// uppercase or all in lowercase. White space around them is ignored. The error is `MissingNumber` if the span of the chunks
+/// is empty, and `InvalidNumber` otherwise. Written in digits, as one normal chunk.
 impl Type for i64 {
     ghost Meaning = { ℤ };
 

@@ -13,7 +13,7 @@ use std::alloc::{AllocError, AllocFailed};
 use std::error::Error;
 use std::fmt;
 
-/// The error of setting a field: out of memory. It returns the chunks.
+/// The error of setting a field: out of memory. It contains the chunks.
 #[derive(Debug, Drop)]
 pub struct SetError {
     /// The chunks that the field was to be set to.
@@ -49,7 +49,7 @@ impl From<SetError> for AllocError {
 }
 
 impl SetError {
-    // Returns the error for chunks, when memory ran out before the field was searched for.
+    // Returns the error that contains `chunks`, if memory runs out before the field is set.
     fn for_chunks(_error: AllocError, chunks: Chunks) -> SetError
         ensures { result.chunks ≡ chunks }
     {
@@ -57,8 +57,8 @@ impl SetError {
     }
 }
 
-/// Sets the field whose name is `name` in lowercase ASCII letters, and returns its previous chunks. If memory runs out, the
-/// map stays unchanged, and the error contains `chunks`.
+/// Sets the field whose name is `name` with ASCII letters in lowercase, and returns its previous chunks. If memory runs out,
+/// the map stays unchanged, and the error contains `chunks`.
 pub fn set(
     fields: &mut TextMap<Chunks>,
     name: &str,
@@ -77,8 +77,8 @@ pub fn set(
     Ok(fields.insert(Text::from_string(lowered), chunks)?)
 }
 
-/// Sets the field whose name is `name` in lowercase ASCII letters to the chunks that `value` is written as. If the type keeps
-/// the value, the field then parses back to it. If memory runs out, the map stays unchanged.
+/// Sets the field whose name is `name` with ASCII letters in lowercase to the chunks that `value` is written as. If the type
+/// keeps the value, the field then parses back to it. If memory runs out, the map stays unchanged.
 pub fn set_as<T: Type>(
     fields: &mut TextMap<Chunks>,
     name: &str,

@@ -10,12 +10,13 @@ use Rattle.std.specs.Option.{option_map}
 use Rattle.bib_chunks.specs.Formatted.{formatted_chars}
 use Rattle.bib_chunks.specs.Values.{Value}
 use Rattle.std.proofs.lemmas.List.{map_more, drop_more, take-append-drop, take_all, map-append}
-use Rattle.std.proofs.lemmas.Str.{chars-nil, chars_from_encodes}
+use Rattle.std.proofs.lemmas.Str.{chars_from_encodes}
 use Rattle.std.proofs.lemmas.Str.Parse.{parse_digits}
 use Rattle.bib_chunks.proofs.StyledFacts.{no_characters}
 use Rattle.bib_values.proofs.NumberFacts.{digits_model}
 use Rattle.bib_values.specs.Ranges.{is_small, leading_number, is_dash, after_dash, ends_at, up_to, goes_on_with, with_first, all_of}
 use Rattle.bib_text.specs.Runs.{leading_run, rest_after}
+use Rattle.bib_text.proofs.BytesFacts.{chars_empty}
 
 -- the digits at the start of a text are digits
 prefix_digits : (cs : List ℕ) → all_ascii_digits (leading_run is_ascii_digit cs) ≡ true
@@ -70,11 +71,6 @@ undashed cs rest c is dash = ap after_dash is ∙ cond-false (is_dash c) _ _ das
 pub undashed_end : (cs : List ℕ) → cs ≡ [] → after_dash cs ≡ None
 unfolding after_dash
 undashed_end cs is = ap after_dash is
-
--- an empty text has no characters
-pub chars_empty : (bs : List ℕ) → length bs ≡ 0 → chars bs ≡ []
-chars_empty [] none = chars-nil
-chars_empty (b ∷ bs) none = absurd (omega arith)
 
 -- a non-empty text has characters
 pub chars_some : (bs : List ℕ) → IsUtf8 bs → 0 < length bs → (c : ℕ) × (cs : List ℕ) × (chars bs ≡ c ∷ cs)

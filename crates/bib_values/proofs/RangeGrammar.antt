@@ -10,6 +10,7 @@ use Rattle.std.proofs.lemmas.Bool.Decides.{nat_tests}
 use Rattle.bib_values.specs.Ranges.{is_small, leading_number, is_dash, after_dash, ends_at, up_to, goes_on_with, starts_with, range_of, IsNumber, EndsRange, IsRange}
 use Rattle.bib_text.specs.Runs.{leading_run, rest_after}
 use Rattle.bib_text.proofs.ScannedFacts.{split_prefix, split_after}
+use Rattle.bib_text.proofs.DigitFacts.{digit_dark, white_no_digit, digit_no_hyphen}
 use Rattle.bib_values.proofs.OptionFacts.{given}
 use Rattle.bib_values.proofs.RangeFacts.{small_yes}
 
@@ -40,15 +41,6 @@ halts_some : (test other : ℕ → Bool) → ((c : ℕ) → other c ≡ true →
 halts_some test other apart [] rest all some = absurd (omega (arith, some))
 halts_some test other apart (c ∷ run) rest all some =
     halts_at test c (run ++ rest) (apart c (and_parts (other c) (list_all other run) all).0)
-
-digit_not_white : (c : ℕ) → is_ascii_digit c ≡ true → is_whitespace c ≡ false
-digit_not_white c is = grind (arith, nat_tests)
-
-digit_no_hyphen : (c : ℕ) → is_ascii_digit c ≡ true → (c == 45) ≡ false
-digit_no_hyphen c is = grind (arith, nat_tests)
-
-white_no_digit : (c : ℕ) → is_whitespace c ≡ true → is_ascii_digit c ≡ false
-white_no_digit c is = grind (arith, nat_tests)
 
 white_no_hyphen : (c : ℕ) → is_whitespace c ≡ true → (c == 45) ≡ false
 white_no_hyphen c is = grind (arith, nat_tests)
@@ -99,7 +91,7 @@ end_read : (a b : ℕ) (rest : List ℕ) → EndsRange a rest b → goes_on_with
 unfolding after_dash
 end_read a b rest EndsRange.lone = refl
 end_read a b rest (EndsRange.dashed dash hyphens white digits is_dashed all_hyphens all_white is) =
-    let none : Halts is_whitespace (digits ++ []) = halts_some is_whitespace is_ascii_digit digit_not_white digits [] is.each is.some in
+    let none : Halts is_whitespace (digits ++ []) = halts_some is_whitespace is_ascii_digit digit_dark digits [] is.each is.some in
     let halts : Halts (λ c. c == 45) (digits ++ []) = halts_some (λ c. c == 45) is_ascii_digit digit_no_hyphen digits [] is.each is.some in
     let whole : digits ++ [] ≡ digits = append-nil digits in
     let blank : rest_after is_whitespace (white ++ (digits ++ [])) ≡ digits ++ [] =
@@ -122,7 +114,7 @@ range_read_of text range is =
     let after_white : rest_after is_whitespace (is.before ++ (is.digits ++ (is.between ++ is.rest)))
     ≡ is.digits ++ (is.between ++ is.rest) =
     passed is_whitespace is.before _ is.blank
-    (halts_some is_whitespace is_ascii_digit digit_not_white is.digits (is.between ++ is.rest) is.start.each
+    (halts_some is_whitespace is_ascii_digit digit_dark is.digits (is.between ++ is.rest) is.start.each
     is.start.some) in
     ap (λ cs. starts_with (leading_number (rest_after is_whitespace cs))) is.spells
     ∙ ap (λ cs. starts_with (leading_number cs)) after_white

@@ -6,13 +6,11 @@ use Rattle.std.specs.declared.ops.Range.{Range}
 use Rattle.std.specs.Char.{is_ascii_digit, is_whitespace}
 use Rattle.std.specs.Fmt.{decimal}
 use Rattle.std.specs.Str.{chars}
-use Rattle.std.specs.Str.Parse.{digits_value, AllDigits}
-use Rattle.std.proofs.lemmas.Bool.{cond-true, cond-false, and_from, and_parts}
-use Rattle.std.proofs.lemmas.List.Folds.{list_all-append}
+use Rattle.std.specs.Str.Parse.{digits_value}
+use Rattle.std.proofs.lemmas.Bool.{cond-true, cond-false, and_parts}
 use Rattle.std.proofs.lemmas.Bool.Decides.{nat_tests}
 use Rattle.std.proofs.lemmas.Fmt.{decimal_is_IsNumeral}
 use Rattle.std.proofs.lemmas.Str.{chars-IsAscii, IsUtf8-from_ascii}
-use Rattle.std.proofs.lemmas.Str.Parse.{digit_from_value}
 use Rattle.bib_chunks.specs.Formatted.{formatted_chars}
 use Rattle.bib_chunks.specs.Cuts.{comma_list}
 use Rattle.bib_chunks.specs.Values.{Value}
@@ -22,33 +20,17 @@ use Rattle.bib_values.proofs.CommaFacts.{parts_format}
 use Rattle.bib_values.specs.Ranges.{is_small, leading_number, after_dash, ends_at, up_to, starts_with, range_of, all_of, with_first, first_of, ranges_read, range_read, range_text, ranges_written, range_written, RangeKept, RangesKept}
 use Rattle.bib_text.specs.Runs.{leading_run, rest_after}
 use Rattle.bib_text.proofs.ScannedFacts.{split_prefix, split_after}
+use Rattle.bib_text.proofs.ListFacts.{passed_weaker, passed_append}
+use Rattle.bib_text.proofs.DigitFacts.{all_digits}
 use Rattle.bib_values.proofs.RangeFacts.{small_yes}
 
 -- a byte of a written range
 abbrev is_byte : ℕ → Bool
 is_byte b = is_ascii_digit b || b == 45
 
--- characters that pass a test pass a weaker one
-weaken : (p q : ℕ → Bool) → ((c : ℕ) → p c ≡ true → q c ≡ true) → (cs : List ℕ) → list_all p cs ≡ true → list_all q cs ≡ true
-weaken p q each [] all = refl
-weaken p q each (c ∷ cs) all =
-    let parts = and_parts (p c) (list_all p cs) all in
-    and_from _ _ (each c parts.0) (weaken p q each cs parts.1)
-
-all_both : (p : ℕ → Bool) (xs ys : List ℕ) → list_all p xs ≡ true → list_all p ys ≡ true → list_all p (xs ++ ys) ≡ true
-all_both p xs ys first second = list_all-append p xs ys ∙ and_from _ _ first second
-
--- decimal digits are ASCII digits
-digits_all : (ds : List ℕ) → AllDigits 10 ds → list_all is_ascii_digit ds ≡ true
-digits_all [] all = refl
-digits_all (d ∷ ds) all =
-    let range = digit_from_value d all.0 in
-    let here : is_ascii_digit d ≡ true = grind (arith, nat_tests) in
-    and_from _ _ here (digits_all ds all.1)
-
 -- a written number consists of ASCII digits
 pub decimal_digits : (n : ℕ) → n < 2 ^ 32 → list_all is_ascii_digit (decimal n) ≡ true
-decimal_digits n small = digits_all _ (decimal_is_IsNumeral n (omega arith)).0.1
+decimal_digits n small = all_digits _ (decimal_is_IsNumeral n (omega arith)).0.1
 
 -- nothing is skipped if no character passes
 stays : (p : ℕ → Bool) (cs : List ℕ) → list_all (λ c. not (p c)) cs ≡ true → rest_after p cs ≡ cs
@@ -95,17 +77,17 @@ number_decimal n rest small none left =
 -- a written range consists of digits and a hyphen
 range_bytes : (r : Range ℕ) → RangeKept r → list_all is_byte (range_text r) ≡ true
 range_bytes r kept =
-    all_both is_byte (decimal r.start ++ codes "-") (decimal r.end)
-    (all_both is_byte (decimal r.start) (codes "-")
-    (weaken is_ascii_digit is_byte digit_byte (decimal r.start) (decimal_digits r.start kept.0)) refl)
-    (weaken is_ascii_digit is_byte digit_byte (decimal r.end) (decimal_digits r.end kept.1))
+    passed_append is_byte (decimal r.start ++ codes "-") (decimal r.end)
+    (passed_append is_byte (decimal r.start) (codes "-")
+    (passed_weaker is_ascii_digit is_byte digit_byte (decimal r.start) (decimal_digits r.start kept.0)) refl)
+    (passed_weaker is_ascii_digit is_byte digit_byte (decimal r.end) (decimal_digits r.end kept.1))
 
 dash_passed : (b : ℕ) → b < 2 ^ 32 → after_dash (45 ∷ decimal b) ≡ Some (decimal b)
 unfolding after_dash
 dash_passed b small =
     ap (λ xs. Some xs)
     (stays (λ d. d == 45) (decimal b)
-    (weaken is_ascii_digit (λ c. not (c == 45)) digit_hyphen (decimal b) (decimal_digits b small)))
+    (passed_weaker is_ascii_digit (λ c. not (c == 45)) digit_hyphen (decimal b) (decimal_digits b small)))
 
 -- a kept range parses from its text
 pub range_text_read : (r : Range ℕ) → RangeKept r → range_of (range_text r) ≡ Some r
@@ -113,13 +95,13 @@ unfolding range_of
 range_text_read r kept =
     let solid : rest_after is_whitespace (range_text r) ≡ range_text r =
     stays is_whitespace (range_text r)
-    (weaken is_byte (λ c. not (is_whitespace c)) byte_white (range_text r) (range_bytes r kept)) in
+    (passed_weaker is_byte (λ c. not (is_whitespace c)) byte_white (range_text r) (range_bytes r kept)) in
     let shape : range_text r ≡ decimal r.start ++ (45 ∷ decimal r.end) = append_assoc (decimal r.start) (codes "-") (decimal r.end) in
     let first : leading_number (rest_after is_whitespace (range_text r)) ≡ Some (r.start, 45 ∷ decimal r.end) =
     ap leading_number (solid ∙ shape) ∙ number_decimal r.start (45 ∷ decimal r.end) kept.0 refl refl in
     let white : rest_after is_whitespace (decimal r.end) ≡ decimal r.end =
     stays is_whitespace (decimal r.end)
-    (weaken is_ascii_digit (λ c. not (is_whitespace c)) digit_white (decimal r.end)
+    (passed_weaker is_ascii_digit (λ c. not (is_whitespace c)) digit_white (decimal r.end)
     (decimal_digits r.end kept.1)) in
     let last : leading_number (rest_after is_whitespace (decimal r.end)) ≡ Some (r.end, []) =
     ap leading_number (white ∙ sym (append-nil (decimal r.end))) ∙ number_decimal r.end [] kept.1 refl refl in
@@ -128,15 +110,17 @@ range_text_read r kept =
 range_chars : (r : Range ℕ) → RangeKept r → chars (range_text r) ≡ range_text r
 range_chars r kept =
     chars-IsAscii (range_text r)
-    (simple_ascii (range_text r) (weaken is_byte is_simple byte_simple (range_text r) (range_bytes r kept)))
+    (simple_ascii (range_text r) (passed_weaker is_byte is_simple byte_simple (range_text r) (range_bytes r kept)))
 
 -- the text of a kept range is plain in a comma list
 range_plain : (r : Range ℕ) → RangeKept r → IsPlain (range_text r)
 range_plain r kept =
     let bytes = range_bytes r kept in
     record {
-      utf8 = IsUtf8-from_ascii (range_text r) (simple_ascii (range_text r) (weaken is_byte is_simple byte_simple (range_text r) bytes));
-      plain = ap (list_all is_plain_in_list) (range_chars r kept) ∙ weaken is_byte is_plain_in_list byte_plain (range_text r) bytes;
+      utf8 =
+          IsUtf8-from_ascii (range_text r)
+          (simple_ascii (range_text r) (passed_weaker is_byte is_simple byte_simple (range_text r) bytes));
+      plain = ap (list_all is_plain_in_list) (range_chars r kept) ∙ passed_weaker is_byte is_plain_in_list byte_plain (range_text r) bytes;
     }
 
 texts_plain : (ranges : List (Range ℕ)) → AllByRecursion RangeKept ranges → AllByRecursion IsPlain (map range_text ranges)

@@ -48,8 +48,8 @@ gender_read chunks = gender_coded (lowercase_text chunks)
 abbrev pub gender_written : Gender → Value
 gender_written gender = alone (Normal (gender_code gender))
 
--- the editor type whose name is the text of the chunks, in any ASCII case; any other text, with `A` to `Z` in lower
--- case, is an unknown type
+-- the editor type whose name is the text of the chunks, in any ASCII case. Any other text, with `A` to `Z` in lower case, is
+-- an unknown type
 unfoldable pub editor_type_read : Value → EditorType
 editor_type_read chunks = editor_type_of (lowercase_text chunks)
 

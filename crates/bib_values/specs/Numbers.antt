@@ -21,7 +21,7 @@ is_decimal bs =
 unfoldable pub decimal_of : List ℕ → Option ℤ
 decimal_of bs = cond (is_decimal bs) (Some (signed_digits_value 10 bs)) None
 
--- the number that a text spells: in digits, otherwise as a roman numeral
+-- the number in a text: in digits, maybe with a sign before them, otherwise as a roman numeral
 abbrev pub number_of : List ℕ → Option ℤ
 number_of bs = option_or (decimal_of bs) (option_map pos (roman_of bs))
 

@@ -42,6 +42,6 @@ abbrev pub IsLanguage : Permissive Language → Type 0
 IsLanguage (typed language) = Unit {0}
 IsLanguage (as_chunks chunks) = ⊥
 
--- the lists of languages that parse from their written form: at least one, and each is a language
+-- lists of languages that parse from their written form: at least one, and each is a language
 abbrev pub LanguagesKept : List (Permissive Language) → Type 0
 LanguagesKept languages = (0 < length languages) × AllByRecursion IsLanguage languages

@@ -26,8 +26,8 @@ pub record IsNumber (digits : List ℕ) (n : ℕ) : Type 0 where
   pub value : digits_value 10 digits ≡ n
   pub fits : n < 2 ^ 32
 
--- the text after the start of a range, and its end: either the text is empty and the start is the end, or it is a dash,
--- any `-`, white space, and the end
+-- the text after the start of a range, and its end. If the text is empty, the start is the end. Otherwise it is a dash, any
+-- number of `-`, white space, and the end
 pub data EndsRange (start : ℕ) : List ℕ → ℕ → Type 0 where
   lone : EndsRange start [] start
   dashed : (dash : ℕ) (hyphens white digits : List ℕ) {end : ℕ} → is_dash dash ≡ true → list_all (λ c. c == char.hyphen) hyphens ≡ true
@@ -49,8 +49,8 @@ pub record IsRange (text : List ℕ) (range : Range ℕ) : Type 0 where
 abbrev pub is_small : List ℕ → Bool
 is_small digits = nat_lt 0 (length digits) && nat_lt (digits_value 10 digits) (2 ^ 32)
 
--- the number at the start of a text, with all the digits there, and the text after it; none if there is no digit or the
--- number doesn't fit in 32 bits
+-- the number of all ASCII digits at the start of a text, and the text after them; none if there is no digit or the number
+-- doesn't fit in 32 bits
 unfoldable pub leading_number : List ℕ → Option (ℕ × List ℕ)
 leading_number cs =
     if is_small (leading_run is_ascii_digit cs)
@@ -61,24 +61,24 @@ unfoldable pub after_dash : List ℕ → Option (List ℕ)
 after_dash [] = None
 after_dash (c ∷ cs) = if is_dash c then Some (rest_after (λ d. d == char.hyphen) cs) else None
 
--- the range with this start, given its end and the text after that, which must be empty
+-- the range with this start, from its end and the text after that, which must be empty
 abbrev pub ends_at : ℕ → Option (ℕ × List ℕ) → Option (Range ℕ)
 ends_at a None = None
 ends_at a (Some (b, [])) = Some (record { start = a; end = b })
 ends_at a (Some (b, c ∷ cs)) = None
 
--- the range with this start, given the text after the dash: white space, and its end
+-- the range with this start, from the text after the dash: white space, and its end
 abbrev pub up_to : ℕ → Option (List ℕ) → Option (Range ℕ)
 up_to a None = None
 up_to a (Some cs) = ends_at a (leading_number (rest_after is_whitespace cs))
 
--- the range with this start, given the text after the start and the white space there. If that is empty, the start is
+-- the range with this start, from the text after the start and the white space there. If that is empty, the start is
 -- the end too; otherwise it begins with a dash.
 abbrev pub goes_on_with : ℕ → List ℕ → Option (Range ℕ)
 goes_on_with a [] = Some (record { start = a; end = a })
 goes_on_with a (c ∷ cs) = up_to a (after_dash (c ∷ cs))
 
--- the range, given its start and the text after that
+-- the range, from its start and the text after that
 abbrev pub starts_with : Option (ℕ × List ℕ) → Option (Range ℕ)
 starts_with None = None
 starts_with (Some (a, cs)) = goes_on_with a (rest_after is_whitespace cs)
@@ -108,7 +108,7 @@ first_of (Some (a ∷ rest)) = Some a
 unfoldable pub ranges_read : Value → Option (List (Range ℕ))
 ranges_read chunks = all_of (map (λ part. range_of (formatted_chars part)) (comma_list chunks))
 
--- the one range that is parsed from chunks: the first of these
+-- the range that is parsed from chunks: the first one in their list of ranges
 abbrev pub range_read : Value → Option (Range ℕ)
 range_read chunks = first_of (ranges_read chunks)
 

@@ -4,7 +4,7 @@ use Rattle.std.specs.Prelude.{ℕ, ◌/◌, ◌%◌, ◌==◌, nat_le, if◌then
 use Rattle.std.specs.List.{repeat, find, range_with_len}
 use Rattle.std.specs.Str.{str_to_ascii_lowercase}
 
--- The letters of a decimal digit, given the letters for one, five and ten of its power of ten. 4 and 9 are the letter for
+-- The letters of a decimal digit, from the letters for one, five and ten of its power of ten. 4 and 9 are the letter for
 -- one before that for five or ten. Any other digit is the letter for five if it is at least 5, and then the letter for one
 -- for each further unit.
 abbrev pub digit_letters : List ℕ → List ℕ → List ℕ → ℕ → List ℕ

@@ -28,8 +28,8 @@ unfoldable pub letters_value : List ℕ → ℕ
 letters_value [] = 0
 letters_value (c ∷ rest) = with_letter (letter_value c) (first_value rest) (letters_value rest)
 
--- the number that the letters of a text add up to, if it is from 1 to 3,999 and the text is its numeral; a numeral has
--- at most 15 letters
+-- the number that the letters of a text add up to, if it is from 1 to 3,999 and the text is its numeral. A numeral has at
+-- most 15 letters
 unfoldable pub by_letters : List ℕ → Option ℕ
 by_letters text =
     if nat_le (length text) 15 && nat_lt 0 (letters_value text) && nat_lt (letters_value text) 4000 && spells text (letters_value text)

@@ -33,7 +33,7 @@ pub fn numerals_spell_their_numbers()
         (number_of (str_to_ascii_lowercase (roman n)) ≡ Some (pos n)) }
 {}
 
-/// States that no other text is a numeral.
+/// States that no text is parsed as a numeral except those of `numerals_spell_their_numbers`.
 pub fn numerals_alone_are_read()
     ensures { (t : List ℕ) (n : ℕ) → roman_of t ≡ Some n → (0 < n) × (n < 4000) ×
         ((t ≡ roman n) ⊎ (t ≡ str_to_ascii_lowercase (roman n))) }
@@ -57,7 +57,7 @@ pub fn lists_of_texts_survive()
         strings_read (strings_written texts) ≡ texts }
 {}
 
-/// States that no other list of texts parses from its written form.
+/// States that `lists_of_texts_survive` covers all lists of texts that parse from their written form.
 pub fn no_other_list_of_texts_survives()
     ensures { (texts : List (List ℕ)) → AllByRecursion IsUtf8 texts →
         strings_read (strings_written texts) ≡ texts → StringsKept texts }

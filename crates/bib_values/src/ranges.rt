@@ -17,7 +17,7 @@ use bib_text::scanner::Scanner;
 use std::alloc::{AllocError, Global};
 use std::ops::Range;
 
-// Returns the digits at the start of a text, and the text after them.
+// Returns the ASCII digits at the start of a text, and the text after them.
 fn digits(text: &str) -> (&str, &str)
     ensures digits { result.0.now ≡ leading_run is_ascii_digit (chars text.now) }
     ensures rest { chars result.1.now ≡ rest_after is_ascii_digit (chars text.now) }
@@ -81,7 +81,7 @@ fn after_dash(text: &str) -> Option<&str>
     Some(rest)
 }
 
-// Returns the range with this start, given the text after a dash.
+// Returns the range with this start, from the text after a dash.
 fn up_to(start: u32, text: &str) -> Option<Range<u32>>
     ensures { result ≡ up_to start (Some (chars text.now)) }
 {
@@ -95,7 +95,7 @@ fn up_to(start: u32, text: &str) -> Option<Range<u32>>
     Some(start..found.0)
 }
 
-// Returns the range with this start, given the text after the start and the white space there.
+// Returns the range with this start, from the text after the start and the white space there.
 fn goes_on_with(start: u32, text: &str) -> Option<Range<u32>>
     ensures { result ≡ goes_on_with start (chars text.now) }
 {

@@ -50,6 +50,8 @@ pub enum Asked<'a> {
     Resolve {
         /// The use of the new text of each file.
         mode: Mode,
+        /// Whether notes report the fields that entries don't inherit.
+        has_notes: bool,
     },
     /// Prints the entries that the document of this .aux or .bcf file cites.
     Cited(&'a str),
@@ -272,8 +274,10 @@ fn request_of<'a>(
         "fmt" => return format_asked(alloc, matches),
         "convert" => return convert_asked(alloc, matches),
         "resolve" => {
-            let mode = mode_of(matches, false);
-            return Ok(Asked::Resolve { mode });
+            return Ok(Asked::Resolve {
+                mode: mode_of(matches, false),
+                has_notes: matches.get_flag("not-inherited"),
+            });
         }
         "get" => return get_asked(alloc, matches),
         "grep" => Request::Entries(Excerpts::Grep(Search {
@@ -344,9 +348,9 @@ fn matches<'a>(alloc: Global, words: &'a [String]) -> Result<ArgMatches<'a>, Err
     command(alloc)?.try_get_matches_from(words)
 }
 
-/// Parses a command line. Its first word is the name of the program. Fails with the requested help, with the reason why clap refuses the
-/// command line, or if out of memory. Some wrong command lines are parsed: `asked` is then `Asked::Wrong` or `Asked::WrongOrder`, or edits
-/// with a word that has no equals sign.
+/// Parses a command line. Its first word is the name of the program. Fails with the requested help or version, with the reason why clap
+/// refuses the command line, or if out of memory. Some wrong command lines are parsed: `asked` is then `Asked::Wrong` or
+/// `Asked::WrongOrder`, or edits with a word that has no equals sign.
 pub fn read<'a>(alloc: Global, words: &'a [String]) -> Result<Words<'a>, Error> {
     let matches = matches(alloc, words)?;
     let words = parse_matches(alloc, &matches)?;

@@ -260,8 +260,8 @@ fn convert_files(
 }
 
 /// Prints the entries of files that meet all conditions in another format, and returns the greatest status of a file. In CSL-JSON and RIS,
-/// no `xdata` entries are printed. If conditions are given and no entry is printed, the status is at least 1. If the output refuses a text,
-/// or if out of memory, stops and returns the status of that error.
+/// no `xdata` entries are printed. If conditions are given and no entry is printed, the status is at least 1. If a condition can't be
+/// parsed, if the output refuses a text, or if out of memory, stops and returns the status of that error.
 pub fn run_convert(rt: &HostRuntime, converting: &Converting<'_>, names: &[&str]) -> u8 {
     match convert_files(rt, converting, names) {
         Ok(status) => status,

@@ -18,8 +18,8 @@ use std::{fs, io, rt};
 // The maximum number of .aux files of a document.
 const MOST_FILES: usize = 1000;
 
-// The text of the file of a document, and the status so far. Each line that inputs an .aux file is replaced by the lines of that file,
-// or removed if the file occurred before, can't be read, or is beyond `MOST_FILES`. The status is 2 in the last two cases.
+// The text of the file of a document, and the status so far. In an .aux file, each line that inputs another is replaced by the lines of
+// that file. It is removed if that file occurred before, can't be read, or is beyond `MOST_FILES`. The status is 2 in the last two cases.
 #[derive(Drop)]
 struct Whole {
     text: String,

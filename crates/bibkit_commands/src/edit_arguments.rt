@@ -31,7 +31,7 @@ fn field_of<'a>(word: &'a str) -> Option<(&'a str, FieldValue<'a>)> {
     }
 }
 
-// Returns the edits that set fields of an entry. Each word is FIELD=VALUE. Returns `NoPair` for the first word without `=`.
+// Returns the edits that set fields of an entry. Each word is FIELD=VALUE or FIELD:=VALUE. Returns `NoPair` for the first word without `=`.
 fn set_fields<'a>(alloc: Global, key: &'a str, words: &[&'a str]) -> Result<Edits<'a>, AllocError> {
     let mut edits = Vec::new(alloc);
     'words: for word in words {
@@ -70,7 +70,7 @@ fn remove_entries<'a>(alloc: Global, keys: &[&'a str]) -> Result<Vec<Edit<'a>>, 
     Ok(edits)
 }
 
-// The options of `edit`, in the order in which their edits are made.
+// The options of `edit` whose words contain `=`, in the order in which their edits are made. The edits of `--unset` follow.
 static FIELD_OPTIONS: [&str; 3] = ["rename", "set", "add"];
 
 // Returns the edit of an option of `edit` for its word, or `None` for a word without `=`.
@@ -114,7 +114,7 @@ fn push_unset_edits<'a>(
     Ok(())
 }
 
-// Returns the edits of `remove`: with `--where`, the edit that removes the entries that meet the conditions.
+// Returns the edits of `remove`: they remove the entries that meet the conditions of `--where`, or without it the entries with the keys.
 fn removal_edits<'a>(alloc: Global, matches: &ArgMatches<'a>) -> Result<Edits<'a>, AllocError> {
     let conditions = texts(alloc, matches, "where")?;
     if !conditions.is_empty() {

@@ -4,6 +4,7 @@ use crate::recoding::{Recoding, recode};
 use crate::refusals::{printing_stop, unbalanced_quotes_line};
 use crate::rekeying::{Rekeying, rekey};
 use crate::replacing::replace;
+use crate::resolving::resolve;
 use crate::selecting::{SelectedEdit, edit_selected};
 use crate::stops::{Stop, bytes_of, say};
 use bib_source::decoding::decode;
@@ -42,6 +43,11 @@ pub enum Edits<'a> {
     },
     /// Gives entries the keys that a pattern makes.
     Rekey(Rekeying<'a>),
+    /// Replaces the references `crossref` and `xdata` by the inherited fields.
+    Resolve {
+        /// Whether notes report the fields that entries don't inherit.
+        has_notes: bool,
+    },
     /// Writes the file as UTF-8.
     Recode(Recoding),
     /// Makes no edits, since a word isn't two texts with an equals sign between them.
@@ -71,7 +77,7 @@ pub enum Mode {
     Print,
     /// Writes it into the file.
     Write,
-    /// Prints nothing, and fails with status 1 if it differs from the old text.
+    /// Doesn't print it. If it differs from the old text, fails with a message and status 1.
     Check,
     /// Prints the diff from the old text.
     Diff {
@@ -129,7 +135,7 @@ fn unwritten_line(alloc: Global, name: &str, error: &ReplaceError) -> Result<Str
     format!(in alloc; "bibkit: {name}: {reason}\n")
 }
 
-// Returns `AllocError` for out of memory, and `Ok` with any other error.
+// Returns `AllocError` if out of memory and the file isn't replaced, and `Ok` with any other error.
 fn unless_out_of_memory(error: ReplaceError) -> Result<ReplaceError, AllocError> {
     match error {
         ReplaceError::OutOfMemory => Err(AllocError),
@@ -189,7 +195,8 @@ fn check_unchanged(rt: &HostRuntime, name: &str, bytes: &[u8]) -> Result<(), Sto
     Err(Stop::Said(said, 2))
 }
 
-/// Writes the text `new` into a file that had these bytes, unless the text is the same. Fails if the file has other bytes by now.
+/// Writes the text `new` into a file that had these bytes. Does nothing if the text is the same. Otherwise fails if the file has other
+/// bytes by now.
 pub fn write_new(rt: &HostRuntime, name: &str, bytes: &[u8], new: &str) -> Result<(), Stop> {
     if new.as_bytes() == bytes {
         return Ok(());
@@ -353,6 +360,7 @@ fn answer(rt: &HostRuntime, editing: &Editing<'_>) -> Result<(), Stop> {
             edit_selected(rt, editing, conditions, edits)
         }
         Edits::Rekey(rekeying) => rekey(rt, editing, rekeying),
+        Edits::Resolve { has_notes } => resolve(rt, editing, *has_notes),
         Edits::Recode(recoding) => recode(rt, editing, recoding),
         Edits::NoPair { word, pair } => {
             let text = format!(in rt.alloc();

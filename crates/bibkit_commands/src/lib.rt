@@ -1,7 +1,7 @@
 //! The commands of `bibkit`, from the words of the command line to the status.
 //!
-//! `arguments` reads the words, and `start` runs the command that they ask for. The program `bibkit` only calls `start`, because a library is
-//! proved faster than a program, which reads the code of all libraries below it.
+//! `arguments` parses the words, and `start` runs their command. The program `bibkit` only calls `start`, because a library is proved
+//! faster than a program, which reads the code of all libraries below it.
 #![tactic(auto)]
 
 mod argument_values;

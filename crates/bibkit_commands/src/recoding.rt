@@ -93,8 +93,8 @@ fn syntax_stop(
     Ok(Stop::Said(line, 1))
 }
 
-// Returns a text with its accents and letters in a form. Fails with a message and status 1 if it can't be parsed, or if the edit could
-// break a text in quotes.
+// Returns a text with its accents and letters in a form. Fails with a message and status 1 if it can't be parsed, or if the braces of a
+// text in quotes don't balance.
 fn with_accents(alloc: Global, name: &str, text: &str, form: Form) -> Result<String, Stop> {
     match RawDocument::parse(alloc, text) {
         Ok(document) if document.has_unbalanced_quotes() => {

@@ -48,7 +48,7 @@ fn insert_entries<'s>(
     Ok(taken)
 }
 
-// Returns the first name of an added entry that an entry of the file, or an earlier added entry, has already.
+// Returns the first name of an added entry that is taken: an entry of the file or an earlier added entry has it, or the entry has it twice.
 fn taken_name<'s>(
     alloc: Global,
     file: &RawBibliography<'_>,
@@ -100,7 +100,7 @@ fn other_definition<'s>(
     Ok(None)
 }
 
-// Returns the message for the error `why` of adding a text to a file, with the key or name to which it applies, if there is one.
+// Returns the message for the error `why` of adding a text to a file. `key` is the key or the name to which it applies, if there is one.
 fn named_line(
     alloc: Global,
     name: &str,
@@ -141,7 +141,7 @@ fn added_line(
     }
 }
 
-// Returns whether the key of an entry is one of `keys`, and the entry has fields, each of which has the name `field`, in any ASCII case.
+// Returns whether an entry has one of `keys` as its key, has fields, and each of these has the name `field`, in any ASCII case.
 fn would_be_empty(entry: &RawEntry<'_>, keys: &[&str], field: &str) -> bool {
     keys.contains(&entry.key.v)
         && !entry.fields.is_empty()

@@ -49,15 +49,15 @@ fn parse_pattern(alloc: Global, pattern: &str) -> Result<KeyPattern, Stop> {
     }
 }
 
-// Returns whether an entry gets a new key: it is neither an `xdata`, which only other entries refer to, nor a `set`, which groups other
-// entries.
+// Returns whether an entry can get a new key: it is neither an `xdata`, which only other entries refer to, nor a `set`, which groups
+// other entries.
 fn gets_key(entry: &RawEntry<'_>) -> bool {
     let kind = entry.kind.v;
     !kind.eq_ignore_ascii_case("xdata") && !kind.eq_ignore_ascii_case("set")
 }
 
-// Returns the new key of each entry, by its index. `made` has the keys for the entries at the indices `origins`. Every other entry, and an
-// entry that has its key already, that has an empty key, or that is an `xdata` or a `set`, gets no new key.
+// Returns the new key of each entry, by its index. `made` has the keys for the entries at the indices `origins`. Every other entry gets no
+// new key. Neither does an entry that has its key already or an empty key, or is an `xdata` or a `set`.
 fn new_keys<'k>(
     alloc: Global,
     entries: &[Spanned<RawEntry<'_>>],
@@ -236,8 +236,8 @@ fn print(rt: &HostRuntime, text: &str) -> Result<(), Stop> {
     }
 }
 
-// Gives the entries of a file new keys as `rekeying` requests, and prints notes on references. For a check, only reports the keys that would
-// change, with status 1 if there are any.
+// Gives the entries of a file new keys as `rekeying` requests, and prints notes on references. For a check, only reports the keys that
+// would change, with status 1 if there are any.
 fn use_keys(
     rt: &HostRuntime,
     editing: &Editing<'_>,

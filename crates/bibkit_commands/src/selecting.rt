@@ -69,8 +69,8 @@ pub fn parse_conditions(alloc: Global, conditions: &[&str]) -> Result<Vec<Select
     Ok(selections)
 }
 
-// Returns the text to print for a file's text, and whether it has an entry or a key. Blocks with a syntax error count as if they weren't
-// in the text.
+// Returns the text to print for a file's text, and whether it has an entry or a key. Blocks with a syntax error are skipped, except
+// preambles if `printed.is_complete`.
 fn selected_text(
     alloc: Global,
     selections: &[Selection],

@@ -29,8 +29,8 @@ fn words(rt: &HostRuntime) -> io::Result<Vec<String>> {
     Ok(words)
 }
 
-// Prints the requested help, or the error of the command line, and returns the status: 0 for help, 2 for an error, 3 if
-// out of memory. If printing fails, the status is 2.
+// Prints the requested help or version, or the error of the command line, and returns the status: 0 for help and the version, 2 for an
+// error, 3 if out of memory. If printing fails, the status is 2.
 fn refuse(rt: &HostRuntime, error: &clap::Error) -> u8 {
     if error.kind() == ErrorKind::OutOfMemory {
         return out_of_memory(rt);
@@ -213,7 +213,7 @@ fn answer(rt: &HostRuntime, words: Words<'_>) -> u8 {
             mode,
         } => run_style(rt, settings, order, mode, &names),
         Asked::Convert(converting) => run_convert(rt, &converting, &names),
-        Asked::Resolve { mode } => run_resolve(rt, mode, &names),
+        Asked::Resolve { mode, has_notes } => run_resolve(rt, mode, has_notes, &names),
         Asked::Rewrite(dialect) => run_rewrite(rt, dialect, &names),
         Asked::Import(dialect) => run_import(rt, dialect, &names),
         Asked::Cited(document) => run_cited(rt, document, &names),

@@ -6,7 +6,7 @@ use Rattle.bib_syntax.specs.declared.raw.ParseErrorKind.TheVariants as kind
 use Rattle.bibkit_convert.specs.declared.converting.ConvertError.{ConvertError}
 use Rattle.bibkit_convert.specs.declared.converting.ConvertError.TheVariants.{File, OutOfMemory}
 
--- the error for this kind of parse error: out of memory if that is the kind, otherwise the given error
+-- the error for this kind of parse error: out of memory if that is the kind, and otherwise `error`
 abbrev pub unless_of_memory : ParseErrorKind → ConvertError → ConvertError
 unless_of_memory kind.OutOfMemory error = OutOfMemory
 unless_of_memory _ error = error

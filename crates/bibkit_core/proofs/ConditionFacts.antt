@@ -1,5 +1,5 @@
 -- Facts about the entries that meet conditions, and the findings about them.
-use Rattle.std.proofs.Common.{◌≡◌, ◌+◌, ◌-◌, ◌<◌, ◌≤◌, ◌&&◌, ◌||◌, ◌++◌, ◌∷◌, [], ℕ, zero, suc, Bool, List, Bor, true, false, cond, drop, get_or, length, map, take, take-append-drop, refl, sym, ap, ◌∙◌, arith, append-nil, Result, Ok, Err}
+use Rattle.std.proofs.Common.{◌≡◌, ◌+◌, ◌-◌, ◌<◌, ◌≤◌, ◌&&◌, ◌++◌, ◌∷◌, [], ℕ, zero, suc, Bool, List, Bor, true, false, cond, drop, get_or, length, map, take, take-append-drop, refl, sym, ap, ◌∙◌, arith, append-nil, Result, Ok, Err}
 use Rattle.std.specs.Prelude.{MatchOption, Option, Some, None, eqb, filter, if◌then◌else◌, max, nat_le, nat_lt, replicate, IfOk}
 use Rattle.std.specs.List.{ends_with}
 use Rattle.std.specs.Option.{option_map, unwrap_or}
@@ -31,11 +31,6 @@ pub suffix_begins : (suffix text : List ℕ) (whole : Bor (List ℕ)) (r : Optio
 suffix_begins suffix text whole None same h = ([], sym (append-nil whole.now ∙ same))
 suffix_begins suffix text whole (Some x) same h =
     let n = length text - h.0 in (drop n text, sym (ap (λ t. t ++ drop n text) h.2 ∙ take-append-drop n text))
-
--- one more test, joined from the left or from the right
-pub joined_tests : (a b c : Bool) → ((a || b) || c) ≡ (a || (b || c))
-joined_tests true b c = refl
-joined_tests false b c = refl
 
 -- the elements that pass a test grow by the next one, if it passes
 pub filter_step : {X Y : Type 0} (v : X → Y) (test : Y → Bool) (xs : List X) (i : ℕ) (d : X) → i < length xs
@@ -69,11 +64,11 @@ more_false [] (suc k) (suc at) = more_false [] k at
 more_false (x ∷ xs) k zero = refl
 more_false (x ∷ xs) k (suc at) = more_false xs k at
 
--- a list that grows by `false` has the same values, if it has the value `false` beyond its end
+-- appending elements that are `false` changes no value of a list whose value past its end is `false`
 pub grown : (xs : List Bool) (n k at : ℕ) → length xs ≤ n → get_or (take n xs ++ replicate k false) at false ≡ get_or xs at false
 grown xs n k at within = more_false (take n xs) k at ∙ ap (λ l. get_or l at false) (take_all n xs within)
 
--- what follows from a fact about the value of a result is a fact about it too
+-- if one property implies another, a result whose value has the first has the second
 pub if_ok_so : {A E : Type 0} {P Q : A → Type 0} → ((a : A) → P a → Q a) → (r : Result A E) → IfOk r P → IfOk r Q
 if_ok_so so (Ok a) is = so a is
 if_ok_so so (Err e) is = tt

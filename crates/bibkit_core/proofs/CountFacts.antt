@@ -1,8 +1,8 @@
 -- Facts about counting names, entries and findings one after another.
-use Rattle.std.proofs.Common.{◌≡◌, ℕ, ◌+◌, ◌<◌, List, [], ◌∷◌, ◌++◌, length, take, get_or, map, refl, sym, ap, subst, ◌∙◌, append_assoc, append-nil, arith, length-append}
+use Rattle.std.proofs.Common.{◌≡◌, ℕ, ◌+◌, List, [], ◌∷◌, ◌++◌, length, map, refl, sym, ap, subst, ◌∙◌, append_assoc, append-nil, arith, length-append}
 use Rattle.std.specs.Prelude.{Option, codes, min}
 use Rattle.std.specs.List.{flat_map}
-use Rattle.std.proofs.lemmas.List.{map-append, take_more}
+use Rattle.std.proofs.lemmas.List.{map-append}
 use Rattle.std.proofs.lemmas.List.Concat.{flat_map-append}
 use Rattle.bib_findings.specs.Codes.{code_name}
 use Rattle.bib_findings.specs.declared.finding.Finding.{Finding}
@@ -126,9 +126,3 @@ counts_seen task none text status printed =
     printed_seen (λ t s. AreCountsOf s t) (λ t s same. refl)
     (λ t t' s name bytes u same p. let counted = p.counted s same in (counted.0, (p.text_is, counted.1), counted.2))
     (λ t s u st same e. e.ends s same) task none_counted none text status printed
-
--- mapping one more element appends its image
-pub mapped_more : {A B : Type 0} (h : A → B) (xs : List A) (i : ℕ) (x : A) → i < length xs → x ≡ get_or xs i x
-    → map h (take (i + 1) xs) ≡ map h (take i xs) ++ h x ∷ []
-mapped_more h xs i x within is =
-    ap (map h) (take_more xs i x within ∙ ap (λ y. take i xs ++ y ∷ []) (sym is)) ∙ map-append h (take i xs) (x ∷ [])

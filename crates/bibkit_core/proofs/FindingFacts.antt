@@ -36,7 +36,8 @@ unfolding is_first_after
 never_first [] = refl
 never_first (x ∷ xs) = refl
 
-not_zero : (n : ℕ) → 0 < n → (n == 0) ≡ false
+-- a number above zero is not zero
+pub not_zero : (n : ℕ) → 0 < n → (n == 0) ≡ false
 not_zero n above = grind (arith, nat_tests)
 
 -- after one more finding, the counts aren't all zero

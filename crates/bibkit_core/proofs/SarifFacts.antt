@@ -1,14 +1,11 @@
 -- The rules of a log.
-use Rattle.std.proofs.Common.{◌≡◌, ◌==◌, ◌<◌, ℕ, true, false, List, [], ◌∷◌, ◌++◌, length, sym, ap, ◌∙◌, append_assoc, append-nil, arith}
-use Rattle.std.proofs.lemmas.Bool.Decides.{nat_tests}
+use Rattle.std.proofs.Common.{◌≡◌, ◌<◌, true, false, List, [], ◌∷◌, ◌++◌, length, sym, ap, ◌∙◌, append_assoc, append-nil, arith}
 use Rattle.std.proofs.lemmas.Grind.{flat_map-append}
 use Rattle.std.specs.List.{AllZip, flat_map}
 use Rattle.bibkit_core.specs.Objects.{element}
 use Rattle.bibkit_core.specs.Joining.{with_rule}
 use Rattle.bibkit_core.specs.Sarif.{Rule, rule_elements, rule_object}
-
-not_zero : (n : ℕ) → 0 < n → (n == 0) ≡ false
-not_zero n above = grind (arith, nat_tests)
+use Rattle.bibkit_core.proofs.FindingFacts.{not_zero}
 
 -- with one more rule, its object is appended
 pub rules_more : (rules : List Rule) (rule : Rule) → rule_elements (rules ++ rule ∷ []) ≡ with_rule (rule_elements rules) rule

@@ -22,7 +22,8 @@ column_properties region =
     if region.start.line == region.end.line
     then codes ",col=" ++ (decimal region.start.column ++ (codes ",endColumn=" ++ decimal region.end.column)) else []
 
--- the properties for a region of the file with this name: file=FILE,line=LINE,endLine=LINE,col=COLUMN,endColumn=COLUMN
+-- the properties for a region of the file with this name: file=FILE,line=LINE,endLine=LINE,col=COLUMN,endColumn=COLUMN. Only a region of
+-- one line has the columns.
 abbrev pub place_properties : List ℕ → Region → List ℕ
 place_properties name region =
     codes "file=" ++ (escaped GithubProperty name ++ (codes ",line=" ++ (decimal region.start.line

@@ -104,8 +104,8 @@ pub record PrintsCompared (lint : Lint) (has_unused : Bool) (found : Citations) 
   pub is : text ≡ in_file lint.style name (first ++ second)
   pub readings : after.readings ≡ before.readings ++ says ∷ []
 
--- the output after all files, and the status: without conditions the findings of the citations for which no file has an entry, at
--- their positions in the file of the document, and then the text after findings
+-- the output after all files, and the status. Without conditions, the findings of the citations for which no file has an entry come first,
+-- at their positions in the file of the document. The text after findings follows.
 pub record EndsCompared (lint : Lint) (name document : List ℕ) (found : Citations) (before : ComparisonState) (text : List ℕ)
     (status : ℕ) : Type 0 where
   pub first : List ℕ

@@ -18,7 +18,7 @@ use Rattle.bib_queries.specs.Elements.{text_after_part}
 use Rattle.bib_queries.specs.Known.{all_names}
 use Rattle.bib_queries.specs.Needed.{is_listed}
 use Rattle.bib_findings.specs.declared.codes.Code.{Code}
-use Rattle.bib_findings.specs.declared.codes.Code.TheVariants.{DuplicateKey, KeyCase, LikelyDuplicate, Syntax}
+use Rattle.bib_findings.specs.declared.codes.Code.TheVariants.{DuplicateKey, KeyCase, LikelyDuplicate, StrayField, Syntax}
 use Rattle.bib_findings.specs.declared.finding.Finding.{Finding}
 use Rattle.bib_select.specs.Selected.{meets}
 use Rattle.bib_select.specs.declared.selection.Selection.{Selection}
@@ -32,7 +32,7 @@ abbrev pub selected_keys : List Selection → List Entry → List (List ℕ)
 selected_keys conditions entries = map (λ e. e.key) (filter (meets_all conditions) entries)
 
 -- `entries` are the entries of a bibliography with this content. Each has the fields that it inherits. An entry is left out if its key
--- was claimed before: an earlier entry has the key, or names it in `ids`.
+-- was claimed before: an earlier entry that isn't left out has the key, or names it in `ids`.
 pub record AreResolvedEntries (says : FileReading) (entries : List Entry) : Type 0 where
   pub own : List Entry
   pub names : ByText ℕ
@@ -43,8 +43,8 @@ pub record AreResolvedEntries (says : FileReading) (entries : List Entry) : Type
   pub unresolved : List ParseError
   pub inherited : AreRecovered places names own entries unresolved
 
--- `keys` are the keys of the entries with this content that meet all conditions. If several entries have one key, the conditions are
--- tested on the first of them.
+-- `keys` are the keys of the entries with this content that meet all conditions. The conditions aren't tested on an entry that is left out:
+-- among several entries with one key, they are tested at most on the first.
 pub record AreSelectedKeys (conditions : List Selection) (says : FileReading) (keys : List (List ℕ)) : Type 0 where
   pub entries : List Entry
   pub of_content : AreResolvedEntries says entries
@@ -54,8 +54,8 @@ pub record AreSelectedKeys (conditions : List Selection) (says : FileReading) (k
 abbrev pub entries_with : List (List ℕ) → List EntryReading → List EntryReading
 entries_with keys entries = filter (has_key keys) entries
 
--- whether an offset is in an entry: at its at sign, or between it and the end of the entry, which is its closing brace or, for an entry
--- with a syntax error, the end of its complete parts
+-- whether an offset is in an entry: from its at sign to before its end. The end is its closing brace or, for an entry with a syntax error,
+-- the end of its complete parts.
 abbrev pub is_in : ℕ → EntryReading → Bool
 is_in at e = nat_le e.start at && nat_lt at e.end
 
@@ -67,14 +67,15 @@ begins_one entries start = list_any (λ e. start == e.start) entries
 abbrev pub is_in_block : List EntryReading → ℕ → SkippedBlock → Bool
 is_in_block entries at block = begins_one entries block.span.start && (nat_le block.span.start at && nat_lt at block.span.end)
 
--- whether an offset is in one of these entries: between its start and its end, or in its skipped block
+-- whether an offset is in one of these entries: from its start to before its end, or in its skipped block
 abbrev pub is_in_one : List SkippedBlock → List EntryReading → ℕ → Bool
 is_in_one skipped entries at = list_any (is_in at) entries || list_any (is_in_block entries at) skipped
 
 -- the place of a finding with this code that begins at an offset. A syntax error has the place of the byte before it, because the error of
--- a block without an end is at the start of the next block.
+-- a block without an end is at the start of the next block. So has text after an entry, because it begins where the entry ends.
 abbrev pub finding_place : Code → ℕ → ℕ
 finding_place Syntax start = start - 1
+finding_place StrayField start = start - 1
 finding_place _ start = start
 
 -- a text without these words at its end, or `None` if it doesn't end with them
@@ -85,16 +86,16 @@ before_end words text = if ends_with eqb text words then Some (take (length text
 abbrev pub name_between : List ℕ → List ℕ → List ℕ → Option (List ℕ)
 name_between before after message = option_and_then (before_end after) (text_after_part before message)
 
--- the name in the message of a finding about two entries: a key that an earlier entry claims too, the key of the earlier of two likely
--- duplicates, or the earlier of two keys that differ only in case; no key contains a space
+-- the name of the earlier entry in the message of a finding, or `None`. It is a key that an earlier entry claims too, the key of the
+-- earlier of two likely duplicates, or the earlier of two keys that differ only in ASCII case. No key contains a space.
 abbrev pub name_of_earlier : Code → List ℕ → Option (List ℕ)
 name_of_earlier DuplicateKey message = name_between (codes " \"") (codes "\"") message
 name_of_earlier LikelyDuplicate message = name_between (codes " \"") (codes "\"") message
 name_of_earlier KeyCase message = name_between (codes " key differs from `") (codes "` only in case") message
 name_of_earlier _ message = None
 
--- whether a finding is about one of these entries, some of which may be the complete parts of these skipped blocks: its place is in one of
--- them, or it is about two entries and the earlier one is one of them
+-- whether a finding is about one of these entries: its place is in one of them, or `name_of_earlier` is a name of one of them. Some of the
+-- entries may be the complete parts of these skipped blocks.
 abbrev pub is_about : List SkippedBlock → List EntryReading → Finding → Bool
 is_about skipped entries f =
     is_in_one skipped entries (finding_place f.code f.span.start)

@@ -1,5 +1,5 @@
 -- Meaning: words of public contracts.
--- How texts are escaped in formats of other programs.
+-- The escapes of texts in formats of other programs.
 use Rattle.std.specs.Prelude.{ℕ, Bool, ◌==◌, ◌||◌, List, Option, Some, None, codes, encode_utf8, if◌then◌else◌}
 use Rattle.std.specs.Int.{is_in_range}
 use Rattle.std.specs.List.{flat_map}
@@ -36,8 +36,8 @@ replacement_character = encode_utf8 0xFFFD
 abbrev pub unless_allowed : ℕ → Option (List ℕ)
 unless_allowed c = if is_xml_character c then None else Some replacement_character
 
--- the replacement of a character in an attribute of XML 1.0, or `None` for a character that is kept: a reference for a character of
--- markup, and for one that a parser would read as a space; U+FFFD for a character that XML doesn't allow
+-- the replacement of a character in an attribute of XML 1.0, or `None` for a character that is kept. A character of markup, and one that a
+-- parser would read as a space, is replaced by a reference, and a character that XML doesn't allow by U+FFFD.
 abbrev pub xml_replacement : ℕ → Option (List ℕ)
 xml_replacement c =
     if c == char.ampersand then Some (codes "&amp;") else if c == char.less then Some (codes "&lt;")
@@ -52,10 +52,10 @@ context_replacement GithubMessage c = message_replacement c
 context_replacement GithubProperty c = property_replacement c
 context_replacement XmlAttribute c = xml_replacement c
 
--- a character in this context
+-- a character, or its replacement in this context
 abbrev pub escaped_character : Context → ℕ → List ℕ
 escaped_character context c = unwrap_or (context_replacement context c) (encode_utf8 c)
 
--- a text in this context
+-- a text with its characters escaped for this context
 abbrev pub escaped : Context → List ℕ → List ℕ
 escaped context text = flat_map (escaped_character context) (chars text)

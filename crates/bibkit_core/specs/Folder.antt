@@ -3,8 +3,8 @@
 -- POSIX:
 -- - A new file is created whole or not at all. An error creates none.
 -- - Bytes that were written and not synced may be any other bytes after a crash.
--- - A rename is atomic: at each moment, and after a crash, the name has the old file or the new one, and never none. The bytes of
---   that file are those that a crash may leave in it.
+-- - A rename is atomic: at each moment, and after a crash, the new name has its old contents or the renamed file. The bytes of that
+--   file are those that a crash may leave in it.
 -- - Until the folder is synced, a crash may leave for a name any contents that it could leave before.
 -- Nobody else changes these files meanwhile.
 use Rattle.std.specs.Prelude.{◌≡◌, ◌≢◌, ◌⊎◌, ℕ, ◌+◌, ◌-◌, ◌^◌, ◌≤◌, min, true, false, Bool, List, [], ◌++◌, Option, None, Some, Result, Ok, Err, MatchResult}

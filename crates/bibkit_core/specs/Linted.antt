@@ -45,9 +45,9 @@ abbrev pub unread_findings : Option ℕ → List Finding
 unread_findings None = []
 unread_findings (Some at) = unread_finding at ∷ []
 
--- `text` is the output for the selected findings of a file, with the counts before and after them: the finding that the file isn't
--- UTF-8, if it isn't and there are no conditions, at its position in the bytes, and then the findings of the decoded text that are
--- reported, at their positions in that text
+-- `text` is the output for the selected findings of a file, with the counts before and after them. The finding that the file isn't UTF-8
+-- comes first, at its position in the bytes, if the file isn't and there are no conditions. The reported findings of the decoded text
+-- follow, at their positions in that text.
 pub record IsPrintedFile (lint : Lint) (name bytes : List ℕ) (decoded : Decoded) (before : Tally) (text : List ℕ)
     (after : Tally) : Type 0 where
   pub found : List Finding

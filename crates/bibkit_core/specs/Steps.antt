@@ -37,8 +37,8 @@ pub record HasRun {F T : Type 0} (reads : F → List ℕ → Option (List ℕ) �
   pub run : AreRun reads prints files task names text are_read files' task'
   pub printed : Appends taken taken' text
 
--- a run ends early for this reason: the output refused a text after one that `Prints` allows; or the file of the document can't be
--- read (`Unread`), and nothing is printed; or out of memory, and the output refused no text
+-- a run ends early for this reason. `Refused`: the output refused a text after one that `Prints` allows. `NoDocument`: the file of the
+-- document can't be read, and nothing is printed. `OutOfMemory`: the output refused no text.
 pub data HasStopped {K : Type 0} (taken : K → Option (List ℕ)) (refusals : K → ℕ)
     (hands_over : K → List ℕ → Bool → K → Type 0) (Prints : List ℕ → Option ℕ → Type 0) (Unread : Type 0) (old new : K)
     : Stop → Type 0 where

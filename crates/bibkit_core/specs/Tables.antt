@@ -45,7 +45,7 @@ widest rows = fold (λ width row. max (length (chars row.name.now)) width) 0 row
 abbrev pub padding : ℕ → ℕ → List ℕ
 padding written width = replicate (width - written) char.space
 
--- the line of a row: its name, padded to a width, and its count, aligned to the right in eight characters
+-- the line of a row: two spaces, its name, padded to a width, a space, and its count, aligned to the right in eight characters
 abbrev pub row_line : ℕ → Row → List ℕ
 row_line width row =
     codes "  "

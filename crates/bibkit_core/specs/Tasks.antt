@@ -33,8 +33,8 @@ opening Checkstyle = checkstyle_head
 opening Sarif = sarif_head
 opening _ = []
 
--- `text` is the text after findings: the line with the counts after lines, the end of the array in JSON, or of the document for Checkstyle
--- and SARIF; otherwise it is empty
+-- `text` is the text after findings: the line with the counts in the styles `Plain` and `Colored`, the end of the array in JSON, or of the
+-- document for Checkstyle and SARIF; otherwise it is empty
 abbrev pub IsEndOfFindings : Style → Tally → List ℕ → Type 0
 IsEndOfFindings Plain tally text = text ≡ counts_line tally
 IsEndOfFindings Colored tally text = text ≡ counts_line tally

@@ -38,7 +38,7 @@ pub record AddsEntries (entries : List EntryReading) (old new : Counting) : Type
 pub record AddsFindings (found : List Finding) (old new : Counting) : Type 0 where
   pub adds : (all : FilesSoFar) → AreCountsOf all old → AreCountsOf (record { entries = all.entries; found = all.found ++ found }) new
 
--- the counts of the task are increased by the entries that can be parsed of a text
+-- the counts of the task are increased by the entries of a text that can be parsed
 pub record AddsTextEntries (text : List ℕ) (old new : Counting) : Type 0 where
   pub says : FileReading
   pub skipped : List SkippedBlock

@@ -72,7 +72,7 @@ pub fn selected_keys<'b>(
     Ok(keys)
 }
 
-/// Returns the keys of those of these entries that meet all conditions. The only error is out of memory.
+/// Returns the keys of the entries in `entries` that meet all conditions. The only error is out of memory.
 pub fn keys_of_selected<'b>(
     alloc: Global,
     conditions: &[Selection],
@@ -88,7 +88,7 @@ pub fn keys_of_selected<'b>(
 }
 
 /// Returns the entries of a bibliography with this content. Each has the fields that it inherits. An entry is left out if its key was
-/// claimed before: an earlier entry has the key, or names it in `ids`. The only error is out of memory.
+/// claimed before: an earlier entry that isn't left out has the key, or names it in `ids`. The only error is out of memory.
 pub fn resolved_entries(alloc: Global, raw: &RawBibliography<'_>) -> Result<Vec<Entry>, AllocError>
     ensures { IfOk result (λ entries. AreResolvedEntries (file_of raw.now) entries.items) }
 {
@@ -192,7 +192,7 @@ fn cover(covered: &mut Vec<bool>, start: usize, end: usize) -> Result<(), AllocE
     Ok(())
 }
 
-// Returns, for each offset, whether it is between the start and the end of one of these entries. Offsets beyond the list are in none.
+// Returns, for each offset, whether it is in one of these entries: from its start to before its end. Offsets beyond the list are in none.
 fn covered_by(alloc: Global, entries: &[Spanned<RawEntry<'_>>]) -> Result<Vec<bool>, AllocError>
     ensures { IfOk result (λ covered. (at : ℕ) → get_or covered.items at false ≡
         list_any (is_in at) (map entry_reading_of entries.now)) }
@@ -308,7 +308,8 @@ fn name_between<'m>(message: &'m str, before: &str, after: &str) -> Option<&'m s
     before_end(rest, after)
 }
 
-// Returns the name in the message of a finding about two entries, or `None` for any other finding.
+// Returns the name of the earlier entry in the message of a repeated key, a likely duplicate, or a key that differs from another only in
+// ASCII case. Returns `None` for any other finding.
 fn name_of_earlier(finding: &Finding) -> Option<&str>
     ensures { option_map (λ name. name.now) result ≡ spec.name_of_earlier finding.now.code finding.now.message }
 {
@@ -320,12 +321,12 @@ fn name_of_earlier(finding: &Finding) -> Option<&str>
     }
 }
 
-// Returns the place of a finding: its start, or for a syntax error the byte before it.
+// Returns the place of a finding: its start, or for a syntax error and for text after an entry the byte before it.
 fn finding_place(finding: &Finding) -> usize
     ensures { result ≡ spec.finding_place finding.now.code finding.now.span.start }
 {
     match finding.code {
-        Code::Syntax => finding.span.start.saturating_sub(1),
+        Code::Syntax | Code::StrayField => finding.span.start.saturating_sub(1),
         _ => finding.span.start,
     }
 }
@@ -388,7 +389,7 @@ fn findings_about(
     Ok(kept)
 }
 
-// Returns the findings of a text that are about the entries that meet all conditions.
+// Returns the findings of a text that are about entries whose key is that of an entry that meets all conditions.
 fn about_selected(
     alloc: Global,
     conditions: &[Selection],
@@ -405,8 +406,8 @@ fn about_selected(
     Ok(kept)
 }
 
-/// Returns the findings of a text that are reported: all without conditions, otherwise those that are about the entries that meet all
-/// conditions. The only error is out of memory.
+/// Returns the findings of a text that are reported: all without conditions, otherwise those that are about entries whose key is that of
+/// an entry that meets all conditions. The only error is out of memory.
 pub fn reported_findings(
     alloc: Global,
     conditions: &[Selection],

@@ -204,7 +204,7 @@ impl Counting {
         Ok(())
     }
 
-    // Counts the entries that can be parsed of a text.
+    // Counts the entries of a text that can be parsed.
     fn add_text(&mut self, alloc: Global, text: &str) -> Result<(), AllocError>
         ensures { OnOk result (AddsTextEntries text.now self.old self.new) }
     {

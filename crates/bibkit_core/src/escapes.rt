@@ -101,7 +101,8 @@ fn push_escaped(text: &mut String, context: Context, character: char) -> Result<
     }
 }
 
-/// Returns a text in which the characters with a meaning in this context are escaped.
+/// Returns a text with the characters escaped that have a meaning in this context. Characters that XML doesn't allow are replaced by
+/// U+FFFD in an attribute of XML.
 pub fn escaped(alloc: Global, context: Context, text: &str) -> Result<String, AllocError>
     ensures { IfOk result (λ new. string_bytes new ≡ spec.escaped context text.now) }
 {

@@ -80,7 +80,7 @@ fn blank(character: char) -> char {
 }
 
 // Returns the line that contains the offset `at`, and a line with a mark below the character at that offset. The first line is cut to
-// `MOST_SHOWN` bytes on each side, and its control characters are replaced.
+// `MOST_SHOWN` bytes on each side and at the first invalid UTF-8 on each side. Its control characters except tabs are replaced.
 fn frame(alloc: Global, bytes: &[u8], at: usize) -> Result<String, AllocError> {
     let at = at.min(bytes.len());
     let before = end_of(before(bytes, at));

@@ -1,7 +1,7 @@
 //! Runs the commands of `bibkit` that print findings, entries and counts, and replaces files safely.
 //!
-//! `request` contains the requests, and `files` the trait for reading files. A command is a `task`, which returns the text to
-//! print for each file. `linting` prints findings, `entries` prints entries, `selecting` prints entries that meet conditions,
+//! `request` contains the requests, and `files` the trait for reading files. A command on files is a `task`, which returns the text
+//! to print for each file. `linting` prints findings, `entries` prints entries, `selecting` prints entries that meet conditions,
 //! `counting` prints counts, and `comparing` prints findings and checks the citations of a document with `cited`. `run` reads the
 //! files in turn and prints those texts.
 //!

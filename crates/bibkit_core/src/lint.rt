@@ -151,8 +151,8 @@ fn print_unread(
 }
 
 /// Appends the selected findings of a file to `printed`, and counts them: the finding that the file isn't UTF-8, if it isn't, and then the
-/// findings of its decoded text. If there are conditions, only findings about entries that meet all of them are appended. The first finding
-/// has its position in the file's bytes, and the others have theirs in the decoded text.
+/// findings of its decoded text. If there are conditions, only findings about entries whose key is that of an entry that meets all of them
+/// are appended. The first finding has its position in the file's bytes, and the others have theirs in the decoded text.
 pub fn print_file(
     alloc: Global,
     printed: &mut Printed,

@@ -116,8 +116,8 @@ fn opening(style: Style) -> &'static str
     }
 }
 
-// Returns the text after all findings: the line with the counts after lines, the end of the array in JSON, or of the document for
-// Checkstyle and SARIF. It is empty in the other styles.
+// Returns the text after all findings: the line with the counts in the styles `Plain` and `Colored`, the end of the array in JSON, or of
+// the document for Checkstyle and SARIF. It is empty in the other styles.
 fn closing(alloc: Global, style: Style, tally: Tally) -> Result<String, AllocError>
     ensures { IfOk result (λ text. IsEndOfFindings style tally (string_bytes text)) }
 {
@@ -141,7 +141,7 @@ pub fn in_file(alloc: Global, style: Style, name: &str, text: String) -> Result<
     }
 }
 
-// Returns the status: 1 if findings were printed for which `fail_on` wants it, otherwise 0.
+// Returns the status: 1 if findings of the severities that `fail_on` names were printed, otherwise 0.
 fn lint_status(fail_on: FailOn, tally: Tally) -> u8
     ensures { result ≡ spec.lint_status fail_on tally }
 {

@@ -33,7 +33,7 @@ fn joined_position(first: Position, second: Position) -> Position
 }
 
 /// Returns the region of a span in `bytes`. `start` is the position of its start. Only the bytes of the span are read, unless it ends
-/// before its start.
+/// before its start or begins after the end of `bytes`.
 pub fn region_at(bytes: &[u8], start: Position, span: &Range<usize>) -> Region
     requires { start ≡ position_at bytes.now span.now.start }
     ensures { result ≡ spec.region_at bytes.now span.now }

@@ -113,7 +113,7 @@ pub fn replace<F: Folder>(
     target: &str,
     text: &str,
 ) -> Result<(), ReplaceError>
-    // At each moment of the call, and after it, a crash leaves in the target either the old bytes or all of the text.
+    // If the old bytes are on the disk, a crash leaves in the target either them or all of the text, at each moment until the call returns.
     ensures whole { (F.disk folder.old).is_known → IsOnDisk target.now (F.disk folder.old) →
         IsOldOrNew target.now text.now (F.disk folder.old) (F.disk folder.new) }
 

@@ -82,7 +82,7 @@ pub enum Request<'a> {
     Entries(Excerpts<'a>),
     /// Prints entries of files that meet conditions, or their keys.
     Selected(Selected<'a>),
-    /// Prints the entries that the document of this .aux or .bcf file cites.
+    /// Prints the entries that the document of this .aux or .bcf file cites, and everything that they refer to, transitively.
     Cited(&'a str),
     /// Prints the number of entries, and the counts of types, fields, years and codes of findings.
     Stats,

@@ -293,7 +293,7 @@ fn run_selected<F: Files, K: Sink, M: Sink>(
     Ok(status)
 }
 
-// Prints the entries of files that a document cites, and returns the status.
+// Prints the entries of files that a document cites, and everything that they refer to, transitively. Returns the status.
 fn run_cited<F: Files, K: Sink, M: Sink>(
     alloc: Global,
     document: &str,
@@ -404,7 +404,7 @@ fn answer<F: Files, K: Sink, M: Sink>(
 
 /// Runs a request, and returns the status:
 /// - 0: done.
-/// - 1: `lint` printed findings, or a search found nothing.
+/// - 1: `lint` printed findings of the severities that `fail_on` names, or a search found nothing.
 /// - 2: a file can't be read, or the output refused a text.
 /// - 3: out of memory.
 pub fn run<F: Files, K: Sink, M: Sink + Drop>(

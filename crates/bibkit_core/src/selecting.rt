@@ -75,7 +75,8 @@ fn common_answer(
     answer(alloc, &request, text)
 }
 
-// Returns the entries of a text that meet the conditions and have one of the requested keys, or the keys of all that meet the conditions.
+// Returns the entries of a text with a requested key, or, if no keys are requested, the keys of the entries. Only entries whose key is that
+// of an entry that meets all conditions are returned.
 fn selected_answer(
     alloc: Global,
     selected: &Selected<'_>,

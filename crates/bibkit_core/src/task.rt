@@ -14,7 +14,7 @@ pub struct End {
     pub status: u8,
 }
 
-/// A command that prints a text for each of several files.
+/// A command that returns a text to print for each of several files.
 pub trait Task {
     // The text before that of the first file.
     ghost begins: { Self → List ℕ };

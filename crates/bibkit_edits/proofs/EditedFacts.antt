@@ -67,7 +67,7 @@ order_made order d places new placed is read = record {
   read = read.read;
 }
 
--- a text with its abbreviations replaced by their texts is an outcome of `Expand`
+-- `Expand` may return the text of a document in which the abbreviations in fields of entries are expanded
 pub expansion_made : (d : Document) (new : List ℕ) → IsExpanded d new → IsEdited (IsWrittenOut d) new
 expansion_made d new made = record {
   document = record { text = new; says = made.changed.read.tells };

@@ -1,2 +1,3 @@
 pub mod EditedFacts
 pub mod LeftNoteFacts
+mod UninheritedNoteFacts

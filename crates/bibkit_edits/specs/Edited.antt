@@ -14,6 +14,7 @@ use Rattle.bib_source.specs.Encoding.{IsFirstInvalid, byte_order_mark, without_b
 use Rattle.edit_convert.specs.Conversions.{IsConverted}
 use Rattle.edit_entries.specs.Documents.{Document, EntriesAdded, EntriesAreRefused, EntryIsRefused, EntryRemoved, IsDocument, IsEdited, UnsetIsRefused}
 use Rattle.edit_entries.specs.Changes.{IsChanged}
+use Rattle.edit_entries.specs.Edits.{placeless as without_places}
 use Rattle.edit_entries.specs.FieldEdits.{FieldEditIsRefused, HasFitValue, edit_name, first_start, selected_edited}
 use Rattle.edit_entries.specs.declared.field_edits.FieldEdit.{FieldEdit}
 use Rattle.edit_entries.specs.References.{KeyRenamed, KeysAreRefused, KeysRenamed, RenameIsRefused, given_keys}
@@ -33,7 +34,7 @@ use Rattle.edit_orders.specs.Places.{ArePlacesIn}
 use Rattle.edit_orders.specs.declared.order.Order.{Order}
 use Rattle.edit_resolve.specs.Resolved.{IsResolved, ResolveIsRefused}
 use Rattle.edit_resolve.specs.declared.errors.ResolveError.TheVariants as resolve_error
-use Rattle.edit_sort.specs.Sorted.{AreEntriesInOrder, IsSortedText, Item, items, says_sorted, without_places}
+use Rattle.edit_sort.specs.Sorted.{AreEntriesInOrder, IsSortedText, Item, items, says_sorted}
 use Rattle.edit_strings.specs.Collected.{AreMadeAbbreviations}
 use Rattle.edit_strings.specs.Expanded.{ExpandIsRefused, IsExpanded}
 use Rattle.edit_strings.specs.declared.errors.ExpandError.TheVariants as expand_error
@@ -53,8 +54,8 @@ pub record TextAdded (d : Document) (text : List ℕ) (after : Document) : Type 
   pub read : IsDocumentOf (with_line_ends_of d.text text) more
   pub added : EntriesAdded d more after
 
--- `after` is the document `d` laid out in a style: its text is in that style, and its content is that of `d`, except positions,
--- the case of types and names, and the order of fields, which is that of the style
+-- `after` is the document `d` in a style. Its content is that of `d`, except positions and the ASCII case of types and names of fields.
+-- The fields of each entry that isn't copied are in the order of the style
 pub record IsInStyle (style : Style) (d after : Document) : Type 0 where
   pub text : after.text ≡ text_in_style style d.text d.says
   pub alike : content after.says ≡ content (says_in_order style d.text d.says)
@@ -65,20 +66,20 @@ pub record SaysSorted (d : Document) (places : List ℕ) (says : FileReading) : 
   pub in_order : AreEntriesInOrder (items d places) order
   pub alike : without_places says ≡ without_places (says_sorted d order)
 
--- `after` is the document `d` with its entries sorted by their places in an order: its text has the entries in that order, and its
--- content is otherwise that of `d`, except positions
+-- `after` is the document `d` with its entries sorted by their places in an order, within the rules of `IsSortedText`. Its content
+-- is otherwise that of `d`, except positions
 pub record IsInOrder (order : Order) (d after : Document) : Type 0 where
   pub places : List ℕ
   pub placed : ArePlacesIn (order_parts order) d.says places
   pub text : IsSortedText d places after.text
   pub alike : SaysSorted d places after.says
 
--- the text of the second document is that of the first with its abbreviations replaced by their texts
+-- the text of the second document is that of the first with the abbreviations in fields of entries expanded
 abbrev pub IsWrittenOut : Document → Document → Type 0
 IsWrittenOut d after = IsExpanded d after.text
 
--- the text of the second document is that of the first with abbreviations for texts of these fields that occur at least
--- `at_least` times (at least twice if that is less than 2)
+-- the text of the second document is that of the first with abbreviations for texts of fields with these names. Such a text occurs
+-- at least `at_least` times, and at least twice
 abbrev pub AreTextsCollected : List (List ℕ) → ℕ → Document → Document → Type 0
 AreTextsCollected fields at_least d after = AreMadeAbbreviations d fields at_least after.text
 
@@ -86,13 +87,12 @@ AreTextsCollected fields at_least d after = AreMadeAbbreviations d fields at_lea
 abbrev pub IsDocumentConverted : Dialect → Document → Document → Type 0
 IsDocumentConverted dialect d after = IsConverted dialect d after.text
 
--- the text of the second document is that of the first with the references `crossref` and `xdata` replaced by the inherited
--- fields
+-- the text of the second document is that of the first with inherited fields written out
 abbrev pub IsResolvedDocument : Document → Document → Type 0
 IsResolvedDocument d after = IsResolved d after.text
 
 -- `after` is the document `d` with an edit of a field of each entry with one of these keys. The name that fields get can be that of a new
--- field, and the value of the edit can be written in each of these entries.
+-- field. The value of the edit can be written in the first of these entries, or at the end of the text if there is none.
 pub record AreFieldsEdited (keys : List (List ℕ)) (edit : FieldEdit) (d after : Document) : Type 0 where
   pub set : BTreeSet (Bor (List ℕ))
   pub has : (key : List ℕ) → is_in_set set key ≡ is_listed keys key
@@ -131,7 +131,7 @@ EditOutcome ToBibtex d = IsDocumentConverted Bibtex d
 EditOutcome Resolve d = IsResolvedDocument d
 EditOutcome (Format style) d = IsInStyle style d
 
--- whether an edit of a document can't break a text in quotes: no such text has unbalanced braces, or the edit is a format, which copies an
+-- whether an edit of a document can't break a text in quotes. No such text has unbalanced braces, or the edit is a format, which copies an
 -- entry with such a text
 abbrev pub is_safe : Edit → Document → Bool
 is_safe (Format style) d = true
@@ -168,13 +168,13 @@ IsEditRefused (Remove key) d why = EntryIsRefused d key.now why
 IsEditRefused (Add text) d why = TextIsRefused d text.now why
 IsEditRefused _ d why = ⊥
 
--- the edit expands the abbreviations of the document, and the definition at this index uses its own name, or a name before the name's
--- first definition
+-- the edit expands the abbreviations of the document. The definition at this index is the first that uses its own name, or a name before
+-- the name's first definition
 abbrev pub MeetsEarlyUse : Edit → Document → ℕ → Type 0
 MeetsEarlyUse Expand d definition = ExpandIsRefused d (expand_error.EarlyUse definition)
 MeetsEarlyUse _ d definition = ⊥
 
--- the edit resolves the references of the document, and the entry at this index inherits from itself
+-- the edit resolves the references of the document, and the entry at this index is the first that inherits from itself
 abbrev pub MeetsReferenceCycle : Edit → Document → ℕ → Type 0
 MeetsReferenceCycle Resolve d entry = ResolveIsRefused d (resolve_error.Cycle entry)
 MeetsReferenceCycle _ d entry = ⊥
@@ -185,8 +185,8 @@ AddsText (Add text) file added = added ≡ with_line_ends_of file text.now
 AddsText _ file added = ⊥
 
 -- Edits of a text may be refused for this reason. Either the text has an error that makes parsing fail, or out of memory. Or the first
--- edits are made, and the next one adds a text with such an error, is refused, expands a document with an early use, resolves an entry
--- that inherits from itself, or can break a text in quotes. The index in a refusal is the number of edits before the refused one.
+-- edits are made, and the next one is refused. It adds a text with such an error, has an error, or can break a text in quotes. Or it
+-- meets an early use or a cycle of references. The index in a refusal is the number of edits before it.
 pub data AreRefused (edits : List Edit) (text : List ℕ) : Refusal → Type 0 where
   file : {e : ParseError} → IsReported text e → AreRefused edits text (refusal.File e)
   added : {e : ParseError} (edit : Edit) (done rest : List Edit) (between more : List ℕ) → edits ≡ done ++ edit ∷ rest
@@ -210,7 +210,7 @@ pub data AreRefused (edits : List Edit) (text : List ℕ) : Refusal → Type 0 w
 abbrev pub mark_of : List ℕ → List ℕ
 mark_of bytes = if starts_with nat_eq bytes byte_order_mark then byte_order_mark else []
 
--- `new` is the result of edits of a file's bytes: the bytes are UTF-8, the text after a byte order mark is edited, and the mark
+-- `new` is the result of edits of a file's bytes. The bytes are UTF-8, the text after a byte order mark is edited, and the mark
 -- is kept
 pub record IsFileMade (edits : List Edit) (bytes new : List ℕ) : Type 0 where
   pub text : List ℕ
@@ -218,7 +218,7 @@ pub record IsFileMade (edits : List Edit) (bytes new : List ℕ) : Type 0 where
   pub made : AreMade edits (without_byte_order_mark bytes) text
   pub is : new ≡ mark_of bytes ++ text
 
--- edits of a file may be refused for this reason: its bytes aren't UTF-8, or the edits of its text are refused, or out of memory
+-- edits of a file may be refused for this reason: its bytes aren't UTF-8, the edits of its text are refused, or out of memory
 pub data IsFileRefused (edits : List Edit) (bytes : List ℕ) : Refusal → Type 0 where
   not_utf8 : {at : ℕ} → IsFirstInvalid bytes at → IsFileRefused edits bytes (refusal.NotUtf8 at)
   text : {why : Refusal} → IsUtf8 (without_byte_order_mark bytes) → AreRefused edits (without_byte_order_mark bytes) why

@@ -2,3 +2,4 @@ pub mod Edited
 pub mod LeftNotes
 pub mod Printing
 pub mod Steps
+pub mod UninheritedNotes

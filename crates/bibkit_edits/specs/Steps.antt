@@ -79,13 +79,14 @@ pub record IsRefusedAt (edit : Edit) (text : List ℕ) (why : EditError) : Type 
   pub refused : IsEditRefused edit document why
   pub other : why ≢ error.OutOfMemory
 
--- an edit expands the document of `text`, whose definition at this index uses its own name, or a name before the name's first definition
+-- an edit expands the document of `text`. Its definition at this index is the first that uses its own name, or a name before the name's
+-- first definition
 pub record MeetsEarlyUseAt (edit : Edit) (text : List ℕ) (definition : ℕ) : Type 0 where
   pub document : Document
   pub read : IsDocumentOf text document
   pub meets : MeetsEarlyUse edit document definition
 
--- an edit of the document of `text` resolves the entry at this index, which inherits from itself
+-- an edit resolves the document of `text`, whose entry at this index is the first that inherits from itself
 pub record MeetsReferenceCycleAt (edit : Edit) (text : List ℕ) (entry : ℕ) : Type 0 where
   pub document : Document
   pub read : IsDocumentOf text document

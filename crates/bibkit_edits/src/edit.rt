@@ -76,7 +76,8 @@ pub enum Edit<'a> {
         /// The order of the entries.
         order: Order,
     },
-    /// Replaces abbreviations by their texts in the fields of entries. The definitions, and abbreviations without one, are kept.
+    /// Replaces abbreviations in the fields of entries by their definitions. The definitions are kept, and so is an abbreviation without
+    /// one before the entry.
     Expand,
     /// Defines abbreviations for texts that occur in several fields, and replaces the texts by them.
     Collect {

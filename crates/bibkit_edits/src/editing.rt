@@ -40,13 +40,13 @@ use std::collections::BTreeSet;
 // The reason for refusing one edit of a document.
 #[derive(Debug, Drop)]
 enum Step {
-    // The text to be added can't be parsed.
+    // Parsing the text to be added failed.
     Added(ParseError),
     // The edit is refused.
     Refused(EditError),
-    // The definition of an abbreviation at this index uses its own name, or a name before the name's first definition.
+    // The definition at this index is the first that uses its own name, or a name before the name's first definition.
     EarlyUse(usize),
-    // The entry at this index inherits from itself.
+    // The entry at this index is the first that inherits from itself.
     ReferenceCycle(usize),
     // The braces of a text in quotes aren't balanced.
     UnbalancedQuotes,
@@ -103,8 +103,9 @@ fn sort_document(
     Ok(sort_entries(alloc, document, &places)?)
 }
 
-// Returns the text of a document with its abbreviations replaced by their texts. Fails if a definition uses its own name or a name
-// before the name's first definition, or if out of memory.
+// Returns the text of a document with its abbreviations expanded. Each name in a field of an entry is replaced by the expansion of its last
+// definition before the entry, if it has one. Fails if a definition uses its own name or a name before the name's first definition, or if
+// out of memory.
 fn expand_document(alloc: Global, document: &RawDocument<'_>) -> Result<String, ExpandError>
     ensures made { IfOk result (λ new. IsEdited (IsWrittenOut document.now) (string_bytes new)) }
     ensures refused { IfErr result (ExpandIsRefused document.now) }
@@ -112,8 +113,8 @@ fn expand_document(alloc: Global, document: &RawDocument<'_>) -> Result<String, 
     expand(alloc, document)
 }
 
-// Returns the text of a document with abbreviations for the texts that occur in at least `at_least` of these fields. Fails only if out
-// of memory.
+// Returns the text of a document with abbreviations for texts that occur in at least `at_least` (and two) fields with these names. Fails
+// only if out of memory.
 fn collect_texts(
     alloc: Global,
     document: &RawDocument<'_>,
@@ -191,7 +192,7 @@ fn remove_entries(
     Ok(document.remove_entries(alloc, &set)?)
 }
 
-// Returns the text of a document with the references `crossref` and `xdata` replaced by the inherited fields.
+// Returns the text of a document with inherited fields written out. Fails if an entry inherits from itself, or if out of memory.
 fn resolve_document(alloc: Global, document: &RawDocument<'_>) -> Result<String, ResolveError>
     ensures made { IfOk result (λ new. IsEdited (IsResolvedDocument document.now) (string_bytes new)) }
     ensures refused { IfErr result (ResolveIsRefused document.now) }
@@ -248,7 +249,7 @@ fn edit_document(alloc: Global, document: &RawDocument<'_>, edit: &Edit<'_>) -> 
     }
 }
 
-// Returns whether an edit can't break a text in quotes of a document: no such text has unbalanced braces, or the edit is a format, which
+// Returns whether an edit can't break a text in quotes of a document. No such text has unbalanced braces, or the edit is a format, which
 // copies an entry with such a text.
 fn is_safe(document: &RawDocument<'_>, edit: &Edit<'_>) -> bool
     ensures { result ≡ is_safe edit.now document.now }

@@ -93,8 +93,8 @@ fn document_notes(
     notes_on(alloc, name, document.text(), &left)
 }
 
-/// Returns a note for each reference in a text that stays as it is when an edit gives entries new keys, although it names such an entry:
-/// its value isn't one literal. A note has the form `FILE:LINE:COLUMN: note: TEXT`, with the position of the field, and a line feed.
+/// Returns a note for each reference in a text that stays as it is when an edit gives entries new keys, although it names such an entry.
+/// Its value isn't one literal. A note has the form `FILE:LINE:COLUMN: note: TEXT`, with the position of the field, and a line feed.
 /// Returns an empty text if the edit gives no new keys, or if the text has an error that makes parsing fail.
 pub fn left_notes(
     alloc: Global,

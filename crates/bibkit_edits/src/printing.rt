@@ -74,7 +74,7 @@ fn hand_over<K: Sink>(text: &str, output: &mut K) -> Result<(), Unprinted>
     }
 }
 
-/// Applies edits to the bytes of a file, and prints the new text. Refused edits print nothing.
+/// Applies edits to the bytes of a file, and prints the new text. If the edits are refused, the output is unchanged.
 pub fn print_edited<K: Sink>(
     alloc: Global,
     bytes: &[u8],
@@ -100,7 +100,7 @@ fn difference(alloc: Global, name: &str, bytes: &[u8], new: &str) -> Result<Stri
 }
 
 /// Applies edits to the bytes of a file, and prints a unified diff with the file name, as `diff -u` does. Returns whether
-/// the diff isn't empty. Refused edits print nothing.
+/// the diff isn't empty. If the edits are refused, the output is unchanged.
 pub fn print_difference<K: Sink>(
     alloc: Global,
     name: &str,

@@ -8,7 +8,7 @@ ghost use Rattle.bibkit_edits.specs.Edited.{mark_of};
 use std::alloc::{AllocError, Global};
 use std::str::from_utf8;
 
-// Returns the length in bytes of the byte order mark at the start of a file, or 0 without one.
+// Returns the length in bytes of the byte order mark at the start of a file, or 0 if there is none.
 fn mark_length(bytes: &[u8]) -> usize
     ensures value { result ≡ mark_length bytes.now }
     ensures within { result ≤ length bytes.now }

@@ -198,7 +198,7 @@ fn field_names(alloc: Global, value: &Value) -> Result<Option<Vec<String>>, Conf
     Ok(Some(names))
 }
 
-// Returns the width of `fmt.width`: an integer that isn't negative, where 0 is no limit (`Some(None)`).
+// Returns the width of `fmt.width`: an integer that isn't negative. 0 is no limit (`Some(None)`).
 fn width(alloc: Global, value: &Value) -> Result<Option<Option<usize>>, ConfigurationError> {
     match value.as_integer().map(usize::try_from) {
         Some(Ok(characters)) => Ok(Some(width_of(characters))),

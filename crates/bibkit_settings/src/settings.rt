@@ -42,7 +42,7 @@ pub enum OutputFormat {
 }
 
 // The names of the codes of findings, in the order in which they are listed.
-static CODES: [&str; 27] = [
+static CODES: [&str; 32] = [
     "unread-bytes",
     "syntax",
     "unread-field",
@@ -64,10 +64,15 @@ static CODES: [&str; 27] = [
     "wrong-isbn",
     "wrong-issn",
     "doi-address",
+    "malformed-name",
+    "special-character",
+    "two-years",
     "empty-key",
+    "stray-field",
     "unknown-reference",
     "likely-duplicate",
     "key-case",
+    "early-parent",
     "missing-entry",
     "unused-entry",
 ];

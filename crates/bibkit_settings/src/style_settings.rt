@@ -34,15 +34,15 @@ pub struct StyleSettings<'a> {
     pub aligned: Option<bool>,
     /// Whether a comma follows the last field of an entry.
     pub trailing_comma: Option<bool>,
-    /// The number of blank lines between two entries, or `None` to keep the text between them.
+    /// The number of blank lines between two entries, or `Some(None)` to keep the text between them.
     pub blank_lines: Option<Option<usize>>,
     /// The delimiters of literals in values.
     pub delimiters: Option<Delimiters>,
     /// The names of the fields that come first, in this order.
     pub order: Option<&'a [&'a str]>,
-    /// The maximum width of a line with several pieces of a value, in characters, or `None` for no limit.
+    /// The maximum width of a line with several pieces of a value, in characters, or `Some(None)` for no limit.
     pub width: Option<Option<usize>>,
-    /// The order of entries, or `None` to keep their order.
+    /// The order of entries, or `Some(None)` to keep their order.
     pub sort: Option<Option<Order>>,
 }
 

@@ -1,21 +1,22 @@
 -- Entries that refer to nothing: inheriting leaves their types and fields unchanged.
-use Rattle.std.proofs.Common.{◌≡◌, ℕ, zero, suc, ◌<◌, Bool, true, false, List, [], ◌∷◌, length, map, refl, sym, ap, ◌∙◌, subst, Option, Some, None, arith, inl, inr, cond}
+use Rattle.std.proofs.Common.{◌≡◌, ℕ, zero, suc, ◌<◌, List, [], ◌∷◌, length, map, refl, sym, ap, ◌∙◌, subst, Option, Some, None, arith, inl, inr}
 use Rattle.std.specs.Prelude.{◌&&◌, slice_index_or, codes, bytes_eq, option_map}
 use Rattle.std.specs.List.{AllByRecursion, AllZip, Contains}
 use Rattle.std.specs.FinMap as by_name
 use Rattle.std.proofs.lemmas.Bool.{cases_Bool}
-use Rattle.std.proofs.lemmas.Slice.Eq.{bytes_eq-Decides}
 use Rattle.bib_chunks.specs.Styled.{Atom, styled}
 use Rattle.bib_collections.specs.Sorted.{ByText}
 use Rattle.bib_entry.specs.declared.entry.Entry.{Entry}
 use Rattle.bib_collections.specs.Graph.{refs_of, Leads, HasNoCycle}
-use Rattle.bib_inheritance.specs.InheritableDate.{date_for, last_date, looks_for_date}
+use Rattle.bib_inheritance.specs.InheritableDate.{looks_for_date}
 use Rattle.bib_inheritance.specs.Inherited.{plain_field, field_by, with_inherited_fields}
 use Rattle.bib_inheritance.specs.References.{references}
 use Rattle.bib_inheritance.specs.EntryTexts.{EntryTexts, fields_of, first_some, no_entry}
 use Rattle.bib_inheritance.specs.Resolving.{graph_by, texts_of_entry, texts_of_entries, at_index, Inherits, AreDatesRead}
+use Rattle.bib_inheritance.proofs.TurnFacts.{date_alone}
 use Rattle.biblatex.specs.Resolved.{names_of, graph_of}
 use Rattle.std.proofs.Math.Bool.{and-false}
+use Rattle.bib_text.proofs.BytesFacts.{bytes_same}
 
 -- an entry without `crossref` and `xdata`
 pub record RefersToNothing (e : Entry) : Type 0 where
@@ -48,7 +49,8 @@ pub no_dates : (own : List Entry) (values : List EntryTexts) → AllByRecursion 
 no_dates own values all index =
     rw (no_row (names_of own) own index all) (and-false (looks_for_date (at_index (texts_of_entries own) index)))
 
-rows_length : (names : ByText ℕ) (own : List Entry) → length (graph_by names own) ≡ length own
+-- a graph has a row for each entry
+pub rows_length : (names : ByText ℕ) (own : List Entry) → length (graph_by names own) ≡ length own
 rows_length names [] = refl
 rows_length names (e ∷ own) = ap suc (rows_length names own)
 
@@ -60,9 +62,6 @@ own_value own values index all inherits within =
     inherits.each index (subst (λ n. index < n) (sym (rows_length (names_of own) own)) within)
     ∙ ap (λ refs. with_inherited_fields (at_index (texts_of_entries own) index) (map (λ r. slice_index_or values r no_entry) refs))
     (no_row (names_of own) own index all)
-
-bytes_same : (one two : List ℕ) → bytes_eq one two ≡ true → one ≡ two
-bytes_same one two same = (bytes_eq-Decides one two).0 same
 
 -- without references, each field of an entry without `xdata` is its own
 plain_alone : (own : List ℕ → Option (List Atom)) (name : List ℕ) → own (codes "xdata") ≡ None
@@ -77,17 +76,10 @@ plain_alone own name none =
     found None = refl
     found (Some atoms) = refl
 
-no_date : (own : EntryTexts) → date_for own [] ≡ None
-no_date own = go (looks_for_date own)
-  where
-    go : (b : Bool) → cond b (last_date []) None ≡ None
-    go true = refl
-    go false = refl
-
 -- inheriting from nothing leaves each field of an entry without `xdata` unchanged
 rule_alone : (own : EntryTexts) (name : List ℕ) → own.fields (codes "xdata") ≡ None
     → (with_inherited_fields own []).fields name ≡ own.fields name
-rule_alone own name none = ap (λ date. field_by date own.fields (λ name. None) name) (no_date own) ∙ plain_alone own.fields name none
+rule_alone own name none = ap (λ date. field_by date own.fields (λ name. None) name) (date_alone own) ∙ plain_alone own.fields name none
 
 -- an entry has the type and the styled texts of the own entry
 pub record IsAsWritten (own entry : Entry) : Type 0 where

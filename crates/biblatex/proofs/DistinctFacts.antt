@@ -9,6 +9,7 @@ use Rattle.std.proofs.lemmas.List.Folds.{list_any_at}
 use Rattle.std.proofs.lemmas.Map.Keys.{apart_from_distinct, IsDistinct-from_apart}
 use Rattle.std.proofs.Math.Seq.{take-length}
 use Rattle.std.proofs.lemmas.Slice.Eq.{bytes_eq-Decides}
+use Rattle.bib_text.proofs.BytesFacts.{bytes_same}
 use Rattle.bib_collections.specs.Sorted.{ByText}
 use Rattle.bib_entry.specs.declared.entry.Entry.{Entry}
 use Rattle.biblatex.specs.Distinct.{stands_elsewhere}
@@ -53,12 +54,9 @@ found_at test (k ∷ keys) any =
           record { at = suc rest.at; within = omega (arith, rest.within); passes = rest.passes }
     ]
 
-same_key : (one two : List ℕ) → bytes_eq one two ≡ true → one ≡ two
-same_key one two is = (bytes_eq-Decides one two).0 is
-
 -- equality of keys is symmetric
 turned : (one two : List ℕ) → bytes_eq one two ≡ true → bytes_eq two one ≡ true
-turned one two is = (bytes_eq-Decides two one).1 (sym (same_key one two is))
+turned one two is = (bytes_eq-Decides two one).1 (sym (bytes_same one two is))
 
 -- if a key also occurs at another index, the keys are not distinct
 pub not_distinct : (keys : Keys') (i : ℕ) → i < length keys → stands_elsewhere keys i ≡ true → IsDistinct bytes_eq keys → ⊥
@@ -120,7 +118,7 @@ apart names keys alone i j before within =
     clash same (inl first) (inl second) =
         let indices : i ≡ j =
         some_same
-        (sym first ∙ ap (by_name.get names) (same_key (get_or keys i []) (get_or keys j []) same) ∙ second) in
+        (sym first ∙ ap (by_name.get names) (bytes_same (get_or keys i []) (get_or keys j []) same) ∙ second) in
         omega (arith, before, indices)
 
 -- keys are distinct if each of them points to its own index or occurs at no other

@@ -1,9 +1,8 @@
 -- The file grammar, with longest runs, parses the output for entries and files.
-use Rattle.std.proofs.Common.{◌≡◌, ℕ, true, false, not, List, [], ◌∷◌, ◌++◌, length, refl, sym, ap, ◌∙◌, subst, arith, drop}
+use Rattle.std.proofs.Common.{◌≡◌, ℕ, false, List, [], ◌∷◌, ◌++◌, length, refl, sym, ap, ◌∙◌, subst, arith, drop}
 use Rattle.std.specs.Prelude.{encode_utf8_all, codes, ◌==◌}
 use Rattle.std.specs.Char.{is_whitespace}
 use Rattle.std.specs.List.{AllByRecursion, flat_map}
-use Rattle.std.proofs.lemmas.Bool.{and_parts, not-true}
 use lib.Utf8.{encode}
 use Rattle.std.specs.Str.{IsUtf8}
 use Rattle.bib_text.specs.Places.{Place, place, CharAt, Run, Stops, AtEnd}
@@ -20,7 +19,7 @@ use Rattle.biblatex.proofs.StandsFacts.{Stands, stands_none, stands_split, stand
 use Rattle.biblatex.proofs.WrittenParts.{Spells}
 use Rattle.biblatex.proofs.FileReread.{FieldRead, field_read, identifier_stands, no_white}
 use Rattle.biblatex.specs.Settled.{IsIdentifier}
-use Rattle.bib_syntax.proofs.LawFacts.{key_dark}
+use Rattle.bib_syntax.proofs.LawFacts.{key_dark, start_not_white}
 
 -- a line: the name of a field, and the characters of its value between the braces
 abbrev pub Line : Type 0
@@ -59,10 +58,6 @@ pub record Plainly (u : Place) : Type 0 where
   pub dark : is_whitespace char ≡ false
   pub plain : (char == 37) ≡ false
 
--- the first character of an identifier is not white space
-id_dark : (c : ℕ) → is_id_start c ≡ true → is_whitespace c ≡ false
-id_dark c starts = not-true (is_whitespace c) (and_parts _ (not (is_whitespace c)) (and_parts _ (is_id_continue c) starts).1).1
-
 -- neither white space nor a percent sign occurs where an identifier begins
 identifier_plainly : {name : List ℕ} {u v : Place} → IsIdentifier name → Stands u name v → Plainly u
 identifier_plainly {name} {u} {v} i stands =
@@ -71,7 +66,7 @@ identifier_plainly {name} {u} {v} i stands =
       char = i.1.first;
       next = moved u i.1.second;
       here = subst (λ p. CharAt p i.1.first (moved u i.1.second)) first (char_moved stands refl i.1.here);
-      dark = id_dark i.1.first i.1.starts;
+      dark = start_not_white i.1.first i.1.starts;
       plain = other_than is_id_start i.1.first 37 i.1.starts refl;
     }
 

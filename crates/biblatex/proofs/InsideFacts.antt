@@ -1,13 +1,13 @@
 -- The first error of a raw bibliography lies in its text.
-use Rattle.std.proofs.Common.{◌≡◌, ℕ, zero, suc, ◌<◌, ◌^◌, Bool, true, false, List, [], ◌∷◌, length, refl, ap, subst, arith, inl, inr, ◌⊎◌, Option, None, Some, Result, Ok, Err}
-use Rattle.std.specs.Prelude.{reverse, find, bytes_eq, option_map, cond}
+use Rattle.std.proofs.Common.{◌≡◌, ℕ, zero, suc, ◌<◌, ◌^◌, Bool, List, [], ◌∷◌, length, refl, ap, subst, arith, inl, inr, ◌⊎◌, Option, None, Some, Result, Ok, Err}
+use Rattle.std.specs.Prelude.{reverse, find, bytes_eq, option_map}
 use Rattle.std.specs.Prelude.{IfErr, slice_get}
 use Rattle.std.specs.List.{AllByRecursion}
 use Rattle.bib_syntax.specs.Errors.{out_of_memory}
 use Rattle.bib_syntax.specs.Grammar.{IsRawReading}
 use Rattle.bib_syntax.proofs.SliceFacts.{file_stands}
 use mathlib.Core.List.{reverse_aux}
-use Rattle.std.proofs.lemmas.Bool.{cases_Bool}
+use Rattle.bib_text.proofs.ListFacts.{found_has}
 use Rattle.bib_abbreviations.specs.Abbreviations.{Definitions, IsFirstError}
 use Rattle.bib_abbreviations.specs.Abbreviations.{IsFirstError as first_error}
 use Rattle.bib_contents.specs.Contents.{LiesBetween}
@@ -16,25 +16,6 @@ use Rattle.bib_syntax.specs.Slices.{StandsIn, PieceStandsIn, FieldStandsIn, Entr
 use Rattle.bib_syntax.specs.declared.raw.ParseError.{ParseError}
 use Rattle.bib_file_entries.specs.Loaded.{IsFirstErrorOfEntries, IsFirstErrorOfFields, definition_in}
 use Rattle.biblatex.specs.Resolved.{IsFirstErrorOf, IsOfDate}
-
--- if a property holds for each element, it holds for the one that `find` returns
-found_holds : {A : Type 0} (P : A → Type 0) (test : A → Bool) (xs : List A) (x : A) → AllByRecursion P xs → find test xs ≡ Some x → P x
-found_holds P test [] x all found = absurd (none_found found) where
-  none_found : {A : Type 0} {x : A} → None ≡ Some x → ⊥
-  none_found none = cc
-found_holds P test (y ∷ ys) x all found =
-    elim (cases_Bool (test y)) [
-      | inl here ↦ subst P (first (test y) y (find test ys) x here found) all.0
-      | inr other ↦ found_holds P test ys x all.1 (later (test y) y (find test ys) x other found)
-    ]
-  where
-    first : {A : Type 0} (b : Bool) (y : A) (rest : Option A) (x : A) → b ≡ true → cond b (Some y) rest ≡ Some x → y ≡ x
-    first true y rest x is found = cc
-    first false y rest x is found = cc
-
-    later : {A : Type 0} (b : Bool) (y : A) (rest : Option A) (x : A) → b ≡ false → cond b (Some y) rest ≡ Some x → rest ≡ Some x
-    later true y rest x is found = cc
-    later false y rest x is found = found
 
 -- a property that holds for each element of two lists holds for each of the first reversed before the second
 turned_all : {A : Type 0} (P : A → Type 0) (xs ys : List A) → AllByRecursion P xs → AllByRecursion P ys
@@ -65,7 +46,7 @@ definitions_stand : (text : List ℕ) (abbreviations : List FieldReading)
 definitions_stand text abbreviations all name definition is =
     definition_stands text definition (find (λ f. bytes_eq name f.name.text) (reverse abbreviations))
     (λ f found.
-    found_holds (FieldStandsIn text) (λ f. bytes_eq name f.name.text) (reverse abbreviations) f
+    found_has (FieldStandsIn text) (λ f. bytes_eq name f.name.text) (reverse abbreviations) f
     (turned_all (FieldStandsIn text) abbreviations [] all tt) found) is
 
 -- an error at a part of the text lies in the text

@@ -1,16 +1,17 @@
 -- The entries that are kept of a file: loading only the kept raw entries returns the same entries. If there are no errors,
 -- all raw entries are kept. If all can be loaded, there are no errors.
-use Rattle.std.proofs.Common.{◌≡◌, ℕ, Bool, true, false, cond, List, [], ◌∷◌, ◌++◌, length, map, refl, sym, ap, ap₂, ◌∙◌, subst, inl, inr, ◌⊎◌, ◌||◌, is_some, Option, Some, None}
+use Rattle.std.proofs.Common.{◌≡◌, ℕ, true, cond, List, [], ◌∷◌, ◌++◌, length, refl, sym, ap, ap₂, ◌∙◌, subst, inl, inr, ◌⊎◌, ◌||◌, is_some, Option, Some, None}
 use Rattle.std.specs.List.{AllZip}
 use Rattle.std.proofs.lemmas.Bool.{both_ways}
 use Rattle.bib_abbreviations.proofs.LawFacts.{error_is_one}
 use Rattle.bib_abbreviations.specs.Abbreviations.{AreOneError, Definitions, HoldsName, IsKnown, Reaches, error_at, is_known, month}
 use Rattle.bib_entry.specs.declared.entry.Entry.{Entry}
 use Rattle.bib_file_entries.specs.Bibliography.{claims}
-use Rattle.bib_file_entries.specs.Kept.{EntriesKept, FieldsKept, mended_field, mended_piece, unknown_names, with_fields}
+use Rattle.bib_file_entries.specs.Kept.{EntriesKept, FieldsKept, mended_field, unknown_names, with_fields}
 use Rattle.bib_file_entries.specs.Loaded.{AllCanBeRead, AreEntries, CanBeRead, IsEntry}
 use Rattle.bib_file_entries.proofs.LoadedFacts.{claims_same}
-use Rattle.bib_syntax.specs.Reading.{EntryReading, FieldReading, Part, Piece}
+use Rattle.bib_file_entries.proofs.MendingFacts.{known_stay}
+use Rattle.bib_syntax.specs.Reading.{EntryReading, FieldReading, Piece}
 use Rattle.bib_syntax.specs.Reading.Piece.{abbreviation, literal}
 use Rattle.bib_syntax.specs.declared.raw.ParseError.{ParseError}
 use Rattle.bib_syntax.specs.declared.raw.ParseErrorKind.TheVariants.{UnknownAbbreviation}
@@ -39,19 +40,6 @@ pub none_after : {A : Type 0} (xs ys : List A) → xs ++ ys ≡ [] → ys ≡ []
 none_after [] ys e = e
 none_after (x ∷ xs) ys e = no_cons e
 
-mended_by : (d : Definitions) (p : Part) (rest : List Piece) (known : Bool)
-    → cond known (unknown_names d rest) (error_at p (UnknownAbbreviation p.text) ∷ unknown_names d rest) ≡ []
-    → (unknown_names d rest ≡ [] → map (mended_piece d) rest ≡ rest)
-    → cond known (abbreviation p) (literal p) ∷ map (mended_piece d) rest ≡ abbreviation p ∷ rest
-mended_by d p rest true e later = ap (λ l. abbreviation p ∷ l) (later e)
-mended_by d p rest false e later = no_cons e
-
--- pieces without undefined abbreviations are not changed
-pub mended_known : (d : Definitions) (pieces : List Piece) → unknown_names d pieces ≡ [] → map (mended_piece d) pieces ≡ pieces
-mended_known d [] e = refl
-mended_known d (literal p ∷ rest) e = ap (λ l. literal p ∷ l) (mended_known d rest e)
-mended_known d (abbreviation p ∷ rest) e = mended_by d p rest (is_known d p.text) e (mended_known d rest)
-
 -- a field without undefined abbreviations is not changed
 pub mended_same : (d : Definitions) (f : FieldReading) → unknown_names d f.value.pieces ≡ [] → mended_field d f ≡ f
 mended_same d f e =
@@ -59,7 +47,7 @@ mended_same d f e =
     (λ (pieces : List Piece).
     (let g : FieldReading =
     record { name = f.name; value = record { pieces = pieces; start = f.value.start; end = f.value.end } } in
-    g)) (mended_known d f.value.pieces e)
+    g)) (known_stay d f.value.pieces e)
 
 -- without errors, all fields are kept unchanged
 pub fields_all : {d : Definitions} {said fields : List FieldReading} {errors : List ParseError}

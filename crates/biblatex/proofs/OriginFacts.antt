@@ -47,7 +47,7 @@ key_rises : (start place : Place) (kind key : Part) (is_empty : Bool) (end : ℕ
 key_rises start place kind key true end rest less rise = rise_weaker start.at end rest (omega (arith, less)) rise
 key_rises start place kind key false end rest less rise = (omega arith, rise_weaker (start.at + 1) end rest (omega (arith, less)) rise)
 
--- what is kept of a block contains at most one entry, which begins at the start of the block
+-- the kept parts of a block contain at most one entry, which begins at the start of the block
 body_rises : {start u : Place} {kind : Part} {k : BlockKind} {says : FileReading} (end : ℕ) (rest : List EntryReading)
     → KeptBody start kind k u says → start.at < end → Rise end rest → Rise start.at (says.entries ++ rest)
 body_rises {start} end rest kept_body.comment less rise = rise_weaker start.at end rest (omega (arith, less)) rise

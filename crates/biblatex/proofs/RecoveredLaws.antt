@@ -31,6 +31,7 @@ use Rattle.biblatex.specs.Resolved.{AreOneErrorOf, AreOwn, IsAccepted, IsLoaded,
 use Rattle.biblatex.proofs.KeptFacts.{AllZip-append, entries_all, entries_fine, entries_once, kept_are_entries, none_after, none_before}
 use Rattle.biblatex.proofs.RecoveryFacts.{cut_alike, decided, fine_is_silent, none_fails, nothing_cut, reported_once}
 use Rattle.biblatex.proofs.ResolvedFacts.{all_texts_same, dates_of_each, graph_same, graphs_by, keys_same, names_below, names_same, solutions_by}
+use Rattle.biblatex.proofs.AloneFacts.{rows_length}
 use Rattle.std.proofs.Math.Bool.{and-false}
 
 -- an index out of range has no references
@@ -49,9 +50,6 @@ dates_everywhere own graph values fine index = elim (cases_lt index (length grap
       (nothing_past graph index past) ∙ and-false (looks_for_date (at_index own index))
 ]
 
-rows_count : (names : ByText ℕ) (own : List Entry) → length (graph_by names own) ≡ length own
-rows_count names own = length-map own _
-
 -- ---- without errors, inheriting is as without recovery
 
 module _ {places : List (Range ℕ)} {own entries : List Entry} {errors : List ParseError}
@@ -66,7 +64,7 @@ module _ {places : List (Range ℕ)} {own entries : List Entry} {errors : List P
 
   -- without errors, the graph has no cycle
   pub without_cycle : errors ≡ [] → HasNoCycle (graph_of own)
-  without_cycle none index less = no_cycle_told none index (omega (arith, less, rows_count (names_of own) own))
+  without_cycle none index less = no_cycle_told none index (omega (arith, less, rows_length (names_of own) own))
 
   -- if no entry loses its references, the entries solve the equation of the own entries
   pub inherits_all : found.cut ≡ own → Inherits (texts_of_entries own) (graph_of own) (texts_of_entries entries)
@@ -74,7 +72,7 @@ module _ {places : List (Range ℕ)} {own entries : List Entry} {errors : List P
       subst (λ c. Inherits (texts_of_entries c) (graph_by (names_of own) c) (texts_of_entries entries)) stays
       found.inherits
 
-  -- and each own field that isn't removed keeps its chunks
+  -- if no entry loses its references, each own field that isn't removed keeps its chunks
   pub chunks_kept : found.cut ≡ own → AllKeepChunks own entries
   chunks_kept stays = subst (λ c. AllKeepChunks c entries) stays found.chunks
 
@@ -98,7 +96,7 @@ module _ {places : List (Range ℕ)} {own entries : List Entry} {errors : List P
       dates_everywhere (texts_of_entries own) (graph_of own) (texts_of_entries entries)
       (λ index less.
       none_fails told (none_after found.cycles found.dates (sym found.are ∙ none)) index
-      (omega (arith, less, rows_count (names_of own) own)))
+      (omega (arith, less, rows_length (names_of own) own)))
 
   -- without errors, no entry loses its references
   pub stays_all : errors ≡ [] → found.cut ≡ own
@@ -153,7 +151,7 @@ references_fine {says} {own} {entries} accepted are found =
     let no_cycle : (index : ℕ) → index < length own → Leads (graph_of own) index index → ⊥ =
     λ index less leads.
     accepted.no_cycle index
-    (subst (λ g. index < length g) (sym one_graph) (omega (arith, less, rows_count (names_of own) own)))
+    (subst (λ g. index < length g) (sym one_graph) (omega (arith, less, rows_length (names_of own) own)))
     (subst (λ g. Leads g index index) (sym one_graph) leads) in
     let stays = all_stay found no_cycle in
     let inherits : Inherits (texts_of_entries accepted.own) (graph_of accepted.own) (texts_of_entries entries) =

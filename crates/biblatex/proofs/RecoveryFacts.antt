@@ -21,6 +21,7 @@ use Rattle.bib_inheritance.specs.Recovered.{AreCut, EachReported, without_refere
 use Rattle.bib_inheritance.specs.Resolving.{texts_of_entries, texts_of_entry}
 use Rattle.bib_syntax.specs.declared.raw.ParseError.{ParseError}
 use Rattle.bib_text.specs.declared.spanned.Spanned.{Spanned}
+use Rattle.bib_text.proofs.ListFacts.{element_at, some_same}
 use Rattle.biblatex.proofs.KeptFacts.{AllZip-append}
 use Rattle.biblatex.proofs.ResolvedFacts.{entry_texts_same}
 
@@ -91,9 +92,6 @@ reported_once {tells = tells} R (EachReported.reported {index = i} {errors = es}
 
 -- ---- entries that lose their references
 
-some_same : {A : Type 0} {a b : A} → Some a ≡ Some b → a ≡ b
-some_same e = cc
-
 -- lists of the same length with the same element at each index are equal
 pub same_by_index : {A : Type 0} (xs ys : List A) → length xs ≡ length ys
     → ((index : ℕ) → index < length xs → slice_get xs index ≡ slice_get ys index) → xs ≡ ys
@@ -131,12 +129,6 @@ without_alike one other same =
     entry_texts_same one.entry_type other.entry_type _ _ (ap (λ (s : EntryTexts). s.entry_type) same)
     (removed_alike (by_name.remove one.fields (codes "crossref")) (by_name.remove other.fields (codes "crossref")) (codes "xdata")
     (removed_alike one.fields other.fields (codes "crossref") (λ name. ap (λ (s : EntryTexts). s.fields name) same)))
-
--- there is an element at each index in range
-element_at : (xs : List Entry) (index : ℕ) → index < length xs → (x : Entry) × (slice_get xs index ≡ Some x)
-element_at [] index within = absurd (omega arith)
-element_at (x ∷ xs) zero within = (x, refl)
-element_at (x ∷ xs) (suc index) within = element_at xs index (omega arith)
 
 -- removing the references of entries on cycles gives the same texts, if the texts were the same
 pub cut_alike : (graph : Graph) (own others cut left : List Entry) → texts_of_entries own ≡ texts_of_entries others

@@ -95,7 +95,7 @@ keys_go {definitions} claimed (AreEntries.next {said = s} {rest = rest} {entry =
     (subst (λ names. AreEntries definitions (claimed ++ names) rest bs) (claims_same b a is' is) after'))
 
 -- adding entries with the same claims gives the same names
-names_go : (l m : Bibliography) (a b : List Entry) → length l.entries ≡ length m.entries → l.names ≡ m.names
+pub names_go : (l m : Bibliography) (a b : List Entry) → length l.entries ≡ length m.entries → l.names ≡ m.names
     → map claims a ≡ map claims b → (loaded_after l a).names ≡ (loaded_after m b).names
 names_go l m [] [] n e c = e
 names_go l m [] (y ∷ b) n e c = cc

@@ -14,6 +14,7 @@ use Rattle.bib_chunks.proofs.WrittenFacts.{spelled_grouping, spelled_verbatim, s
 use Rattle.bib_chunks.specs.declared.chunk.Chunk.{Chunk}
 use Rattle.bib_chunks.specs.declared.chunk.Chunk.TheVariants.{Normal, Verbatim, Math}
 use Rattle.bib_text.specs.declared.spanned.Spanned.{Spanned}
+use Rattle.bib_text.proofs.ListFacts.{some_same}
 use Rattle.bib_contents.specs.Commands.{command_text, accents, symbols}
 use Rattle.bib_contents.specs.Contents.{ContentUnit, Argument, is_escapable, is_escaped, is_space, is_blank, is_name_character, is_sign, is_mark, is_accent_letter, is_ordinary, begins, unit_spelling, fits, IsNext, meaning, character, depth_after, is_closable, inner_text, Reads}
 use Rattle.bib_contents.specs.Contents.Reads.{end, next}
@@ -99,9 +100,6 @@ spelt_bare v c rest spells grouping dollar settled hyphen space =
 abbrev signed : List ℕ → ContentUnit
 signed name = ContentUnit.command name [] (Argument.braced [])
 
-some_text : {one two : List ℕ} → Some one ≡ Some two → one ≡ two
-some_text same = cc
-
 tilde_given : command_text (codes "textasciitilde") (Some []) ≡ 126 ∷ []
 unfolding command_text accents symbols encode
 tilde_given = refl
@@ -119,7 +117,7 @@ spelt_tilde c rest is spells = record {
   means = λ depth. ap (λ cs. map (character depth) cs) tilde_given ∙ ap (λ d. character depth d ∷ []) (sym is);
   stays = λ depth. refl;
   closable = λ depth. refl;
-  holds = λ text holds. some_text holds;
+  holds = λ text holds. some_same holds;
 }
 
 spelt_circumflex : (c : ℕ) (rest : List ℕ) → c ≡ 94 → char_spelling false c ≡ codes "\\textasciicircum{}" → IsSpelt false c rest
@@ -131,7 +129,7 @@ spelt_circumflex c rest is spells = record {
   means = λ depth. ap (λ cs. map (character depth) cs) circumflex_given ∙ ap (λ d. character depth d ∷ []) (sym is);
   stays = λ depth. refl;
   closable = λ depth. refl;
-  holds = λ text holds. some_text holds;
+  holds = λ text holds. some_same holds;
 }
 
 dollar_reserved : (c : ℕ) → is_reserved c ≡ false → (c == 36) ≡ false

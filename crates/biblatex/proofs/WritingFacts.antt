@@ -24,7 +24,8 @@ one_more written (d ∷ next ∷ es) e =
     ap (λ text. written d ++ (codes "\n\n" ++ text)) (one_more written (next ∷ es) e)
     ∙ sym (append_assoc (written d) (codes "\n\n" ++ entries_text written (next ∷ es)) more)
 
-not_suc : (i : ℕ) → false ≡ (suc i == 0)
+-- a successor is not zero
+pub not_suc : (i : ℕ) → false ≡ (suc i == 0)
 not_suc i = grind arith
 
 -- a list has no entries below an index in range exactly if the index is 0

@@ -5,10 +5,10 @@ use Rattle.std.specs.FinMap as by_name
 use Rattle.std.specs.List.{list_all, AllByRecursion, flat_map}
 use Rattle.std.specs.Str.{IsUtf8}
 use Rattle.std.proofs.lemmas.Bool.{cases_Bool}
-use Rattle.std.proofs.lemmas.Slice.Eq.{bytes_eq-Decides}
 use lib.Utf8.{encode}
 use Rattle.bib_text.specs.Places.{place}
 use Rattle.bib_text.specs.declared.spanned.Spanned.{Spanned}
+use Rattle.bib_text.proofs.BytesFacts.{bytes_same}
 use Rattle.bib_chunks.specs.Written.{written_chunks}
 use Rattle.bib_chunks.specs.declared.chunk.Chunk.{Chunk}
 use Rattle.bib_syntax.specs.Characters.{is_id_start, is_id_continue}
@@ -142,9 +142,6 @@ by_written_name P name own one two three =
     go false true c = two
     go false false true = three
     go false false false = own
-
-pub bytes_same : (xs ys : List ℕ) → bytes_eq xs ys ≡ true → xs ≡ ys
-bytes_same xs ys same = (bytes_eq-Decides xs ys).0 same
 
 -- a field is verbatim under its mapped name exactly if it is under its own
 pub same_rule : (name : List ℕ) → is_verbatim_field (biblatex_name name) ≡ is_verbatim_field name

@@ -1,7 +1,7 @@
 -- Meaning: words of public contracts.
 -- The recovery of a text with errors: the bibliography and the errors. Three steps follow each other: parsing the raw
--- bibliography, loading its entries, and inheriting. Each step is that of `parse`, except that it leaves out the parts with
--- errors.
+-- bibliography, loading its entries, and inheriting. Each step is that of `parse`, except that it removes or replaces the
+-- parts with errors.
 use Rattle.std.specs.Prelude.{◌≡◌, ℕ, List, [], ◌++◌, map}
 use Rattle.std.specs.List.{AllZip}
 use Rattle.bib_entry.specs.declared.entry.Entry.{Entry}
@@ -17,11 +17,12 @@ use Rattle.bib_syntax.specs.declared.raw.ParseError.{ParseError}
 use Rattle.bib_syntax.specs.declared.raw.recovery.SkippedBlock.{SkippedBlock}
 use Rattle.biblatex.specs.Resolved.{AreOneErrorOf, names_of}
 
--- `bibliography` is the recovery of `text`. Its entries come from the raw entries with the indices `origins`. The blocks in
--- `skipped` have syntax errors; their complete parts are kept. An entry is left out if its key was claimed before, and a field
--- if it can't be parsed. An undefined abbreviation is replaced by its name as text. An entry that refers to itself, directly or
--- through others, loses its references. If an entry lacks a required date, a date that can't be parsed is not inherited. Each
--- of these adds an error to `errors`
+-- `bibliography` is the recovery of `text`. Its entries come from the raw entries with the indices `origins`. `skipped`
+-- contains the blocks with syntax errors, each with its error; their complete parts are kept. Each of the following adds an
+-- error to `errors`. An entry is left out if an earlier kept entry claimed its key. An undefined abbreviation is replaced by
+-- its name as text, and a field that still can't be parsed is left out. An entry that refers to itself, directly or through
+-- others, loses its references. An entry that lacks a required date doesn't inherit an unreadable date (`is_bad_date`) of an
+-- entry that it refers to
 pub record IsRecoveredBibliography (text : List ℕ) (bibliography : Bibliography) (origins : List ℕ)
     (skipped : List SkippedBlock) (errors : List ParseError) : Type 0 where
   pub says : FileReading

@@ -41,8 +41,8 @@ abbrev pub AreHandedOver : {K U : Type 0} → (K → List ℕ → Bool → K →
 AreHandedOver hands_over old texts new result =
     MatchResult result (λ _. AreTaken hands_over old texts new) (AreCutShort hands_over old texts new)
 
--- the texts that a sink receives for entries, one for each: the entry and a line feed, after an empty line unless it is the
--- first
+-- the texts that a sink receives for entries, one for each: the entry and a line feed. An empty line precedes each entry
+-- except the first
 abbrev pub entry_texts : (Entry → List ℕ) → List Entry → List (List ℕ)
 entry_texts written [] = []
 entry_texts written (e ∷ es) = (written e ++ codes "\n") ∷ map (λ next. codes "\n" ++ (written next ++ codes "\n")) es

@@ -1,5 +1,5 @@
 -- Meaning: words of public contracts.
--- The main definitions of parsing and writing: accepted texts, the bibliography of a text, the error of a text, settled
+-- The main definitions of parsing and writing: accepted texts, the bibliography and the error of a text, settled
 -- bibliographies, and texts that parse back to given entries. A word that is not defined here is defined in the file that it
 -- is imported from.
 use Rattle.std.specs.Prelude.{ℕ, List}
@@ -41,8 +41,8 @@ IsSettledBibliography bibliography = AreSettled bibliography.entries
 abbrev pub biblatex_text : Bibliography → List ℕ
 biblatex_text bibliography = entries_text biblatex_entry bibliography.entries
 
--- a text parses back to these entries: it is accepted, and its bibliography has them in order, each with its type and field
--- names mapped to BibLaTeX's and with equal styled texts
+-- a text parses back to these entries: it is accepted, and its bibliography has them in order. The type and the fields of
+-- each are mapped to BibLaTeX's (`IsMapped`)
 pub record IsReadAgain (entries : List Entry) (text : List ℕ) : Type 0 where
   pub accepted : IsAcceptedText text
   pub mapped : (read : Bibliography) → IsBibliographyOf text read → AllZip IsMapped entries read.entries

@@ -1,5 +1,5 @@
 -- Meaning: words of public contracts.
--- The contents of a writer that refused some of the bytes of a write.
+-- The contents of a writer after a text that it refused.
 use Rattle.std.specs.Prelude.{ℕ, List, take}
 use Rattle.std.specs.Io.KnownBytes.{Appends}
 use Rattle.std.specs.declared.option.Option.{Option}

@@ -29,7 +29,7 @@ abbrev pub graph_of : List Entry → Graph
 graph_of own = graph_by (names_of own) own
 
 -- a raw bibliography is accepted: each field can be parsed, no key was claimed before, and no entry refers to itself,
--- directly or through others. No entry that lacks a required date refers to an entry whose date can't be parsed
+-- directly or through others. No entry that lacks a required date refers to an entry with an unreadable date (`is_bad_date`)
 pub record IsAccepted (says : FileReading) : Type 0 where
   pub own : List Entry
   pub entries : AreOwn says own
@@ -38,7 +38,7 @@ pub record IsAccepted (says : FileReading) : Type 0 where
       → AreDatesRead (texts_of_entries own) (graph_of own) values
 
 -- `bibliography` is a bibliography of an accepted raw bibliography. Its entries are in order, each with its key, its type,
--- and its own and inherited fields. Each name points to the last index whose entry claims it
+-- and its fields after inheriting. Each name points to the last index whose own entry claims it
 pub record IsLoaded (says : FileReading) (bibliography : Bibliography) : Type 0 where
   pub accepted : IsAccepted says
   pub keys : map (λ e. e.key) bibliography.entries ≡ map (λ e. e.key) accepted.own
@@ -52,9 +52,9 @@ pub record IsCycleError (says : FileReading) (index : ℕ) (e : ParseError) : Ty
   pub there : slice_get says.entries index ≡ Some said
   pub is : e ≡ record { span = record { start = said.start; end = said.end }; kind = ReferenceCycle said.key.text }
 
--- the first error of a raw bibliography: the first key claimed before or field that can't be parsed; if there is none, the
--- first entry that refers to itself, directly or through others; if there is none, the first entry that lacks a required date
--- and refers to an entry whose date can't be parsed
+-- the first error of a raw bibliography. It is the first key claimed before or field that can't be parsed. If there is none,
+-- it is the first entry that refers to itself, directly or through others. If there is none either, it is the first entry
+-- that lacks a required date and refers to an entry with an unreadable date
 pub data IsFirstErrorOf (says : FileReading) (e : ParseError) : Type 0 where
   entry : IsFirstErrorOfEntries (definition_in says.abbreviations) [] says.entries e → IsFirstErrorOf says e
   cycle : {own : List Entry} {index : ℕ} → AreOwn says own → IsFirstOnCycle (graph_of own) index → IsCycleError says index e

@@ -1,5 +1,6 @@
 -- Meaning: words of public contracts.
--- Settled entries. If no two have the same key, their output in BibLaTeX's types and fields parses back to these entries.
+-- Settled entries. If no two have the same key, their output in BibLaTeX's types and fields parses back to them, mapped to
+-- these types and fields.
 use Rattle.std.specs.Prelude.{◌≡◌, ℕ, false, List, map, length, bytes_eq}
 use Rattle.std.specs.Char.{to_ascii_lowercase}
 use Rattle.std.specs.FinMap.{entries}
@@ -26,12 +27,11 @@ IsKey text = Run is_key (place text 0) (place text (length text))
 abbrev pub IsIdentifier : List ℕ → Type 0
 IsIdentifier text = (p : Part) × Identifier any (place text 0) p (place text (length text))
 
--- the names of fields that claim names for their entry, or refer to other entries
+-- the names of the fields that claim names for their entry, or name entries from which it inherits
 abbrev pub link_names : List (List ℕ)
 link_names = words (codes "ids crossref xdata")
 
--- a settled field name: an identifier without uppercase ASCII letters, of a field that neither claims names nor refers to
--- entries
+-- a settled field name: an identifier without uppercase ASCII letters, other than the names in `link_names`
 pub record IsSettledName (name : List ℕ) : Type 0 where
   pub identifier : IsIdentifier name
   pub small : map to_ascii_lowercase name ≡ name

@@ -1,5 +1,5 @@
 -- Meaning: words of public contracts.
--- Definitions of other crates that the contracts of this crate's users cite.
+-- Definitions that the contracts of this crate's users cite.
 pub use Rattle.bib_abbreviations.specs.Abbreviations.{Evaluates, IsFirstError, IsReadable, defined_in}
 pub use Rattle.bib_contents.specs.Contents.{IsContent}
 pub use Rattle.bib_syntax.specs.Errors.{Refuses, error_text, out_of_memory}

@@ -10,7 +10,7 @@ abbrev pub empty_line_unless : Bool → List ℕ
 empty_line_unless true = []
 empty_line_unless false = codes "\n"
 
--- a write refused its bytes: it wrote none of them, or failed with an error other than an interruption
+-- a write refused its bytes: it succeeded and wrote none of them, or failed with an error other than an interruption
 abbrev pub IsRefusedWrite : Result ℕ Error → Type 0
 IsRefusedWrite (Ok count) = count ≡ 0
 IsRefusedWrite (Err error) = error_kind error ≢ Interrupted

@@ -54,7 +54,7 @@ impl Model for Bibliography {
     ghost invariant = { λ a. AreIndicesBelow (length a.entries.items) a.names };
 }
 
-/// The error of [`Bibliography::insert`]: out of memory. It returns the entry that was not added.
+/// The error of [`Bibliography::insert`]: out of memory. It contains the entry that was not added.
 #[derive(Debug, Drop)]
 pub struct InsertError {
     /// The entry that was not added.
@@ -110,8 +110,9 @@ impl Bibliography {
     /// Each entry has its own fields except `xdata`, and the fields that it inherits from the entries that it refers to. If it
     /// inherits a date, its own `month` and `day` are removed.
     ///
-    /// If the file grammar doesn't accept the text, the error is a syntax error; otherwise the errors are those of
-    /// `from_raw`. Spans are in bytes of the text. The span of an error lies in the text, except for an error of a date.
+    /// If the file grammar doesn't accept the text, the error is a syntax error or out of memory; otherwise the errors are
+    /// those of `from_raw`. Spans are in bytes of the text. The span of an error lies in the text, except for an error of a
+    /// date.
     pub fn parse(alloc: Global, src: &str) -> Result<Self, ParseError>
         ensures loaded { IfOk result (IsBibliographyOf src.now) }
         ensures accepted { OnOk result (IsAcceptedText src.now) }
@@ -134,9 +135,10 @@ impl Bibliography {
     ///
     /// 1. An entry has a key that an earlier entry claimed (`DuplicateKey`, at the entry), or a field can't be parsed.
     /// 2. An entry refers to itself, directly or through others (`ReferenceCycle`, at the entry).
-    /// 3. An entry lacks a required date, and refers to an entry whose `year`, `month` and `day` can't be parsed
-    /// (`ResolutionError`, at these fields). An entry lacks a required date if its type requires one, and it has neither
-    /// `date` nor `year`.
+    /// 3. An entry lacks a required date, and refers to an entry without `date` whose `year`, `month` and `day` can't be
+    /// parsed (`ResolutionError`). Its span is that of the first of these fields that can't be parsed. For a day in the
+    /// field `month`, it is in bytes of that field's text. An entry lacks a required date if its type requires one, and it
+    /// has neither `date` nor `year`.
     ///
     /// The only other error is out of memory.
     pub fn from_raw(alloc: Global, raw: RawBibliography<'_>) -> Result<Self, ParseError>

@@ -23,9 +23,9 @@ ghost use Rattle.biblatex.specs.Places.{HasFreshKeys, PointsToLastClaims};
 ghost use Rattle.bib_inheritance.specs.Resolving.{rule_by, texts_of_entries};
 ghost use Rattle.biblatex.specs.Resolved.{AreOneErrorOf, AreOwn, IsAccepted, IsFirstErrorOf, IsLoaded, graph_of};
 
-/// States that the output for a settled bibliography, in BibLaTeX's types and fields, is accepted. Its bibliography has the
-/// same entries in order, with types and field names mapped to BibLaTeX's and with equal styled texts. If two fields of an
-/// entry have the same mapped name, only the last one remains.
+/// States that the output for a settled bibliography, in BibLaTeX's types and fields, is accepted if it is UTF-8. Its
+/// bibliography has the same entries in order, with types and field names mapped to BibLaTeX's and with equal styled texts.
+/// If two fields of an entry have the same mapped name, only the last one in the order of their own names remains.
 pub fn settled_is_read_again()
     ensures { (bibliography : Bibliography) → IsSettledBibliography bibliography → IsUtf8 (biblatex_text bibliography) →
         IsReadAgain bibliography.entries (biblatex_text bibliography) }

@@ -12,7 +12,7 @@ use std::alloc::{AllocError, Global};
 /// The result of parsing a text with errors: the bibliography, and all errors.
 #[derive(Debug, Drop)]
 pub struct BibliographyRecovery {
-    /// The bibliography of everything that can be parsed.
+    /// The bibliography of the kept entries, after inheriting.
     pub bibliography: Bibliography,
     /// For each entry of the bibliography, in order, its index among the entries that `RawBibliography::recover_parts` returns
     /// for the text. The raw entry contains the spans of its key, fields and values. If a skipped block begins where the raw
@@ -22,25 +22,29 @@ pub struct BibliographyRecovery {
     pub skipped: Vec<SkippedBlock>,
     /// The errors of the rest. First, in the order of the entries and of their fields: undefined abbreviations, and the
     /// fields and entries that are left out. For a field that is left out, those of its abbreviations come first. Then the
-    /// entries on cycles. Then the entries that lack a required date and refer to an entry whose date can't be parsed.
+    /// entries on cycles. Then the entries that lack a required date and refer to an entry without `date` whose `year`,
+    /// `month` and `day` can't be parsed.
     pub errors: Vec<ParseError>,
 }
 
 impl Bibliography {
-    /// Parses a bibliography file as far as possible, and returns all its errors. Spans are in bytes of the text.
+    /// Parses a bibliography file as far as possible, and returns all its errors. Spans are in bytes of the text, except
+    /// for some errors of dates (see `from_raw`).
     ///
-    /// The result has no errors exactly if `parse` accepts the text, and is then the result of `parse`. Otherwise the parts
-    /// with errors are removed, and the rest is parsed as by `parse`:
+    /// The result has no skipped blocks and no errors exactly if `parse` accepts the text, and its bibliography is then that
+    /// of `parse`. Otherwise the parts with errors are removed or replaced, and the rest is parsed as by `parse`:
     ///
-    /// - A block with a syntax error is skipped, up to the next at sign that begins a line, after white space at most. Without
-    /// such an at sign, it is skipped up to the end of the text. Its complete parts are kept: the key and the fields of an entry,
-    /// or the definitions of abbreviations, before the first that isn't complete or has no comma after it.
-    /// - An entry whose key an earlier entry claimed is left out (`DuplicateKey`), and so is a field that can't be parsed.
+    /// - A block with a syntax error is skipped, up to the next at sign with only white space before it on its line. Without
+    /// such an at sign, it is skipped up to the end of the text. Its complete parts are kept: the key and the fields of an
+    /// entry, or the definitions of abbreviations. They end before the first that isn't complete, or before a missing comma.
+    /// - An entry whose key an earlier kept entry claimed is left out (`DuplicateKey`), and so is a field that can't be
+    /// parsed.
     /// - An entry that refers to itself, directly or through others, loses its fields `crossref` and `xdata`
     /// (`ReferenceCycle`).
     /// - A name in a field that is neither defined nor the abbreviation of a month is replaced by its text
     /// (`UnknownAbbreviation`).
-    /// - A date that can't be parsed is not inherited (`ResolutionError`).
+    /// - An entry that lacks a required date doesn't inherit one from an entry without `date` whose `year`, `month` and
+    /// `day` can't be parsed (`ResolutionError`).
     ///
     /// The only returned error is out of memory.
     pub fn recover(alloc: Global, src: &str) -> Result<BibliographyRecovery, AllocError>

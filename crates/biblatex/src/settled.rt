@@ -67,7 +67,7 @@ fn are_settled(entries: &[Entry]) -> bool
 
 impl Bibliography {
     /// Returns whether the bibliography is settled. The output of [`Self::to_biblatex_string`] for a settled bibliography
-    /// parses back to its entries.
+    /// parses back to its entries, mapped to BibLaTeX's types and fields.
     ///
     /// A bibliography is settled if no two keys are equal, keys consist of key characters, and each value is settled. Each
     /// field name must be an identifier without uppercase ASCII letters, and none of `ids`, `crossref` and `xdata`. Does not

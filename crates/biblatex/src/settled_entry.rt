@@ -45,15 +45,15 @@ fn is_small(text: &str) -> bool
         .all(|byte| !byte.is_ascii_uppercase())
 }
 
-// Returns whether a field of this name claims names for its entry, or refers to other entries.
+// Returns whether a field of this name claims names for its entry, or names entries from which it inherits.
 fn is_linking(name: &str) -> bool
     ensures { result ≡ list_any (bytes_eq name.now) link_names }
 {
     matches!(name, "ids" | "crossref" | "xdata")
 }
 
-// Returns whether a field name is settled: it parses back to itself, and the field neither claims names nor refers to
-// entries.
+// Returns whether a field name is settled: an identifier without uppercase ASCII letters, and none of `ids`, `crossref` and
+// `xdata`.
 fn is_settled_name(name: &str) -> bool
     ensures { IsTrue result ↔ IsSettledName name.now }
 {
@@ -73,8 +73,8 @@ fn is_settled_field(name: &str, chunks: ChunksRef<'_>) -> bool
     is_settled_name(name) && is_settled(chunks, is_verbatim_field(name))
 }
 
-// Returns whether an entry is settled: its key consists of key characters, each field name is an identifier without uppercase
-// ASCII letters and none of `ids`, `crossref` and `xdata`, and each value is settled. Does not allocate.
+// Returns whether an entry is settled: its key consists of key characters, and each value is settled. Each field name is an
+// identifier without uppercase ASCII letters and none of `ids`, `crossref` and `xdata`. Does not allocate.
 pub(crate) fn is_settled_entry(entry: &Entry) -> bool
     ensures { IsTrue result ↔ IsSettledEntry entry.now }
 {

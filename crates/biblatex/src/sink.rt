@@ -16,7 +16,7 @@ pub trait Sink {
     // The text taken so far, if the type specifies it.
     ghost taken: { Self → Option (List ℕ) };
 
-    // The number of texts refused so far. The count may stop at its greatest value.
+    // A number that grows with each refused text. It may stop at 2^64 - 1.
     ghost refusals: { Self → ℕ };
 
     // Whether a call with this text and this result may lead from the first state to the second. Code that is generic in the
@@ -98,8 +98,9 @@ impl<W: Write> Output<W> {
         written
     }
 
-    // Writes the bytes, each once. If the writer refuses them, counts the refusal and returns `false`; a prefix of the bytes
-    // may then have been written. A write that was interrupted wrote nothing, and is repeated.
+    // Writes the bytes, each once. If the writer refuses them, or after 2^64 - 1 writes, counts a refusal and returns
+    // `false`. A prefix of the bytes may then have been written. A write that was interrupted wrote nothing, and is
+    // repeated.
     fn write_once(&mut self, bytes: &[u8]) -> bool
         ensures whole { OnTrue result (Appends (W.contents self.old.writer) (W.contents self.new.writer) bytes.now) }
         ensures same { OnTrue result (self.new.refusals ≡ self.old.refusals) }

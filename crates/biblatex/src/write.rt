@@ -119,13 +119,13 @@ fn hand<K: Sink>(
 
 impl Bibliography {
     /// Returns the bibliography as a text with escapes, in BibLaTeX's types and fields. An unknown command was parsed as
-    /// plain text, so it is escaped: `\emph{x}` is written `\\emph\{x\}`. Outside verbatim fields `~` is written
-    /// `\textasciitilde{}`. The edits and `convert` of `bibkit` preserve the source of a file instead.
+    /// plain text, so it is escaped: `\emph{x}` is written `\\emph\{x\}`. Outside verbatim fields and math, `~` is written
+    /// `\textasciitilde{}`. The edits of `bibkit` and its `convert --to biblatex` keep such commands.
     ///
-    /// Each entry is written as by [`Entry::to_biblatex_string`], with an empty line between two entries. The output for a
-    /// settled bibliography parses back to its entries in order, with types and field names mapped to BibLaTeX's and with
-    /// equal styled texts. If two fields of an entry have the same mapped name, only the last one remains. The only error is
-    /// out of memory.
+    /// Each entry is written as by [`Entry::to_biblatex_string`], with a line feed after it and an empty line between two
+    /// entries. The output for a settled bibliography parses back to its entries in order, with types and field names mapped
+    /// to BibLaTeX's and with equal styled texts. If two fields of an entry have the same mapped name, only the last one in
+    /// the order of their own names remains. The only error is out of memory.
     pub fn to_biblatex_string(&self, alloc: Global) -> Result<String, AllocError>
         ensures text { IfOk result (λ text. string_bytes text ≡
             entries_text biblatex_entry self.now.entries) }
@@ -136,11 +136,11 @@ impl Bibliography {
     }
 
     /// Returns the bibliography as a text with escapes, in BibTeX's types and fields. An unknown command was parsed as plain
-    /// text, so it is escaped: `\emph{x}` is written `\\emph\{x\}`. Outside verbatim fields `~` is written
-    /// `\textasciitilde{}`. The edits and `convert` of `bibkit` preserve the source of a file instead.
+    /// text, so it is escaped: `\emph{x}` is written `\\emph\{x\}`. Outside verbatim fields and math, `~` is written
+    /// `\textasciitilde{}`. The edits of `bibkit` and its `convert --to bibtex` keep such commands.
     ///
-    /// Each entry is written as by [`Entry::to_bibtex_string`], with an empty line between two entries. The only error is out
-    /// of memory.
+    /// Each entry is written as by [`Entry::to_bibtex_string`], with a line feed after it and an empty line between two
+    /// entries. The only error is out of memory.
     pub fn to_bibtex_string(&self, alloc: Global) -> Result<String, AllocError>
         ensures { IfOk result (λ text. string_bytes text ≡
             entries_text bibtex_entry self.now.entries) }
@@ -149,7 +149,7 @@ impl Bibliography {
     }
 
     /// Writes the text of [`Self::to_biblatex_string`] to a sink, with the same escapes: an unknown command is written as
-    /// plain text. The edits and `convert` of `bibkit` preserve the source of a file instead.
+    /// plain text. The edits of `bibkit` and its `convert --to biblatex` keep such commands.
     ///
     /// The sink receives the text of each entry whole, in one call. Only the text of one entry is allocated at a time. The
     /// error `Refused` means that the sink refused a text: it has taken the texts before that one, and receives no others. The
@@ -168,7 +168,7 @@ impl Bibliography {
     }
 
     /// Writes the text of [`Self::to_bibtex_string`] to a sink, with the same escapes: an unknown command is written as plain
-    /// text. The edits and `convert` of `bibkit` preserve the source of a file instead.
+    /// text. The edits of `bibkit` and its `convert --to bibtex` keep such commands.
     ///
     /// The sink is used as by [`Self::write_biblatex`].
     pub fn write_bibtex<K: Sink>(&self, alloc: Global, sink: &mut K) -> Result<(), WriteError>

@@ -107,8 +107,8 @@ pub record HasUnbalancedQuotes (text : List ℕ) : Type 0 where
   pub read : IsDocument document
   pub unbalanced : has_unbalanced_quotes document ≡ true
 
--- reading `text` as a document to edit may fail with this status: `Refused` only if it isn't a file of the grammar, `UnbalancedQuotes` only
--- if it has a text in quotes whose braces aren't balanced, `OutOfMemory` always, and no other status
+-- reading `text` as a document to edit may fail with this status: `Refused` only if it isn't a file of the grammar; `UnbalancedQuotes` only
+-- if it has a text in quotes whose braces aren't balanced; `OutOfMemory` always; and no other status
 abbrev pub ReadingFails : List ℕ → Status → Type 0
 ReadingFails text Refused = IsNoFile text
 ReadingFails text UnbalancedQuotes = HasUnbalancedQuotes text
@@ -136,9 +136,9 @@ pub record IsRefusedFor (Refuses : Document → EditError → Type 0) (text : Li
   pub read : IsDocument document
   pub refused : Refuses document why
 
--- an edit of `text` with the arguments `others` may fail with this status: `NotUtf8` only if one of these texts isn't UTF-8, `Refused`
--- only if `text` isn't a file of the grammar, `UnbalancedQuotes` only if it has a text in quotes whose braces aren't balanced,
--- `OutOfMemory` always, and the status of an edit error only if `Refuses` allows that error
+-- an edit of `text` with the arguments `others` may fail with this status: `NotUtf8` only if one of these texts isn't UTF-8; `Refused`
+-- only if `text` isn't a file of the grammar; `UnbalancedQuotes` only if it has a text in quotes whose braces aren't balanced;
+-- `OutOfMemory` always; the status of an edit error only if `Refuses` allows that error; and no other status
 abbrev pub EditFails : (Document → EditError → Type 0) → List ℕ → List (List ℕ) → Status → Type 0
 EditFails Refuses text others Done = ⊥
 EditFails Refuses text others TooShort = ⊥
@@ -178,9 +178,10 @@ pub record IsAddingRefused (text added : List ℕ) (why : EditError) : Type 0 wh
   pub read_added : IsDocument more
   pub refused : EntriesAreRefused document more why
 
--- adding the second text to the first may fail with this status: `NotUtf8` only if one of them isn't UTF-8, `Refused` only if one of them
--- isn't a file of the grammar, `UnbalancedQuotes` only if one of them has a text in quotes whose braces aren't balanced, `OutOfMemory`
--- always, `KeyIsThere`, `NotAKey` and `DefinitionIsThere` only if adding is refused with that error, and no other status
+-- adding the second text to the first may fail with this status: `NotUtf8` only if one of them isn't UTF-8; `Refused` only if the first, or
+-- the second with the line ends of the first, isn't a file of the grammar; `UnbalancedQuotes` only if one of these two has a text in quotes
+-- whose braces aren't balanced; `OutOfMemory` always; `KeyIsThere`, `NotAKey` and `DefinitionIsThere` only if adding is refused with that
+-- error; and no other status
 abbrev pub AddFails : List ℕ → List ℕ → Status → Type 0
 AddFails text added NotUtf8 = AllByRecursion IsUtf8 (text ∷ added ∷ []) → ⊥
 AddFails text added Refused = IsNoFile text ⊎ IsNoFile (with_line_ends_of text added)

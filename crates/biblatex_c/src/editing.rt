@@ -2,7 +2,8 @@
 //!
 //! Each call returns `NotUtf8` if an argument isn't UTF-8, and `Refused` if a text isn't a file of the grammar. The calls that edit return
 //! `UnbalancedQuotes` if a field or a definition of the text contains a text in quotes whose braces aren't balanced. If several of these
-//! hold, a call returns the status for the text to edit. The calls for one entry return `UnknownKey` if no entry has the key.
+//! hold, a call returns the status for the text to edit. If none of them holds, the calls for one entry return `UnknownKey` if no entry
+//! has the key.
 
 ghost use Rattle.std.specs.Prelude.{◌≡◌, [], ◌∷◌, IfOk, IfErr, true, false};
 ghost use Rattle.std.specs.String.{string_bytes};
@@ -42,7 +43,7 @@ pub extern "C" fn biblatex_fmt(alloc: Global, text: &[u8], out: &mut [u8], size:
     end(format_text(alloc, text), out, size).number()
 }
 
-// Returns the document of a text to edit or to add. Fails with `UnbalancedQuotes` if an edit could break a text in quotes.
+// Returns the document of a text to edit or to add. Fails with `UnbalancedQuotes` if the braces of a text in quotes aren't balanced.
 fn read<'t>(alloc: Global, text: &'t str) -> Result<RawDocument<'t>, Status>
     ensures same { IfOk result (λ d. d.text ≡ text.now) }
     ensures read { IfOk result (λ d. IsDocument d) }
@@ -77,7 +78,7 @@ fn value_with(is_bare: bool, text: &str) -> FieldValue<'_>
     }
 }
 
-// Returns the text with each field `name` of the first entry `key` set to `value`, which is written without braces if `is_bare`.
+// Returns the text with the field `name` of the first entry `key` set to `value`, without braces if `is_bare` (see [`biblatex_set`]).
 fn set_in(
     alloc: Global,
     text: &[u8],
@@ -100,8 +101,8 @@ fn set_in(
 
 /// Writes the text with the field `name` of the first entry `key` set to `value`, in braces. If the field occurs several times, each
 /// occurrence is set. If the entry has no such field, the field is inserted before the others. A field that has this value already is
-/// unchanged. Returns `NotAName` if the entry has no such field and `name` can't be the name of a new field, and `NotInBraces` if `value`
-/// can't be written in braces.
+/// unchanged. Returns `NotAName` if the entry has no such field and `name` can't be the name of a new field. Returns `NotInBraces` if
+/// `value` can't be written in braces, unless the entry has the field and each occurrence has this value already.
 #[unsafe(no_mangle)]
 pub extern "C" fn biblatex_set(
     alloc: Global,
@@ -122,7 +123,7 @@ pub extern "C" fn biblatex_set(
 
 /// Writes the text with the field `name` of the first entry `key` set to `value`, as [`biblatex_set`] does, but without braces: `value` is
 /// a number, or an abbreviation that is defined before the entry, or that of a month. Returns `NotBare` for any other value, unless the
-/// entry has the field and the field has this value already.
+/// entry has the field and each occurrence has this value already.
 #[unsafe(no_mangle)]
 pub extern "C" fn biblatex_set_bare(
     alloc: Global,
@@ -182,10 +183,10 @@ fn rename_in(alloc: Global, text: &[u8], old: &[u8], new: &[u8]) -> Result<Strin
     Ok(document.rename_key(alloc, old, new)?)
 }
 
-/// Writes the text with `new` as the key of the first entry `old`, also in the references to it. Returns `KeyIsThere` if another entry has
-/// the name `new`, in any ASCII case, or this one has it in its field `ids`. Returns `NotAKey` if `old` is empty, or if `new` can't be a
-/// new key: BibTeX, Biber or bibtool misreads it, a reference to it is parsed as another text, or its citation means all entries. Returns
-/// `NotInBraces` if a changed reference can't be written in braces.
+/// Writes the text with `new` as the key of the first entry `old`, also in the references to it. If `new` is `old`, the text is unchanged.
+/// Otherwise returns `KeyIsThere` if another entry has the name `new`, in any ASCII case, or this one has it in its field `ids`. Returns
+/// `NotAKey` if `old` is empty, or if `new` can't be a new key: BibTeX, Biber or bibtool misreads it, a reference to it is parsed as
+/// another text, or its citation means all entries. Returns `NotInBraces` if a changed reference can't be written in braces.
 #[unsafe(no_mangle)]
 pub extern "C" fn biblatex_rename(
     alloc: Global,

@@ -49,7 +49,7 @@ fn unless_out_of_memory(error: ConvertError) -> Result<ParseError, AllocError>
     }
 }
 
-// Returns the entries of a bibliography in a format. Fails only if out of memory.
+// Returns the text of a bibliography in a format. Fails only if out of memory.
 pub(crate) fn entries_as(
     alloc: Global,
     target: Target,
@@ -72,7 +72,7 @@ pub(crate) fn entries_as(
     }
 }
 
-// Parses a bibliography and returns its entries in a format.
+// Parses a bibliography and returns its text in a format.
 fn bibliography_as(alloc: Global, target: Target, bytes: &[u8]) -> Result<String, Status>
     ensures text { IfOk result (λ text. IsWrittenAs target bytes.now (string_bytes text)) }
     ensures fails { IfErr result (TextFails (IsNoBibliography bytes.now) bytes.now) }

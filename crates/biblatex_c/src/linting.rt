@@ -37,8 +37,8 @@ fn faults_of(alloc: Global, bytes: &[u8]) -> Result<String, Status>
     Ok(text)
 }
 
-/// Writes the findings of a text as a JSON array of objects. The members of an object are the file name (empty), the line and the
-/// column of the start and of the end, severity, code and message. A text that isn't UTF-8 is decoded as Windows-1252, and has a finding that says so.
+/// Writes the findings of a text as a JSON array of objects. Each object has the file name (empty), the line and the column of the start
+/// and of the end, severity, code and message. A text that isn't UTF-8 is decoded as Windows-1252, and has a finding that says so.
 #[unsafe(no_mangle)]
 pub extern "C" fn biblatex_lint(alloc: Global, text: &[u8], out: &mut [u8], size: &mut usize) -> u32
     ensures { IsNumberedEnd (AreFaults text.now) (λ why. why ≡ OutOfMemory) out.old size.old out.new size.new result }

@@ -1,4 +1,4 @@
-//! The call that writes everything that can be parsed of a text with errors.
+//! The call that writes the bibliography recovered from a text with errors.
 
 ghost use Rattle.std.specs.Prelude.{◌≡◌, IfErr, IfOk};
 ghost use Rattle.std.specs.String.{string_bytes};
@@ -59,7 +59,7 @@ fn text_in(
     }
 }
 
-// Returns everything that can be parsed of `text`, in a format. Fails only if out of memory.
+// Returns the bibliography recovered from `text`, in a format. Fails only if out of memory.
 fn recovered_text(alloc: Global, format: ExportFormat, text: &str) -> Result<String, Status>
     ensures text { IfOk result (λ answer. IsRecoveredText format text.now (string_bytes answer)) }
     ensures fails { IfErr result (λ why. why ≡ OutOfMemory) }
@@ -68,7 +68,7 @@ fn recovered_text(alloc: Global, format: ExportFormat, text: &str) -> Result<Str
     text_in(alloc, format, &found.bibliography)
 }
 
-// Decodes `bytes`, and returns everything that can be parsed of their text, in the format with this number. Bytes that aren't UTF-8 are
+// Decodes `bytes`, and returns the bibliography recovered from their text, in the format with this number. Bytes that aren't UTF-8 are
 // decoded as Windows-1252. Fails with `Refused` if no format has the number.
 fn recover_in(alloc: Global, number: u32, bytes: &[u8]) -> Result<String, Status>
     ensures text { IfOk result (λ answer. IsRecoveredIn number bytes.now (string_bytes answer)) }
@@ -86,8 +86,8 @@ fn recover_in(alloc: Global, number: u32, bytes: &[u8]) -> Result<String, Status
     }
 }
 
-/// Writes everything that can be parsed of a text, in the format with this number. For a text without errors, this is its whole
-/// bibliography. Bytes that aren't UTF-8 are decoded as Windows-1252. Returns `Refused` only if no format has the number.
+/// Writes the bibliography recovered from a text, in the format with this number (see `Bibliography::recover`). For a text without errors,
+/// this is its whole bibliography. Bytes that aren't UTF-8 are decoded as Windows-1252. Returns `Refused` only if no format has the number.
 #[unsafe(no_mangle)]
 pub extern "C" fn biblatex_recover(
     alloc: Global,

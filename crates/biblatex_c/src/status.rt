@@ -18,13 +18,13 @@ pub enum Status {
     TooShort,
     /// The bytes of an argument aren't UTF-8.
     NotUtf8,
-    /// A text has an error that makes parsing fail, or no format has the given number.
+    /// A text has an error that makes parsing fail, or no format has the number.
     Refused,
     /// Out of memory.
     OutOfMemory,
     /// No entry has the key.
     UnknownKey,
-    /// Another entry has the name already, as its key or in its field `ids`, in any ASCII case, or the renamed entry has it in its `ids`.
+    /// Another entry has the name already, as its key or in its field `ids`, in any ASCII case. Or the renamed entry has it in its `ids`.
     KeyIsThere,
     /// The old key is empty; or the new key, or the key of an added entry, can't be a new key: BibTeX, Biber or bibtool misreads it, a
     /// reference to it is parsed as another text, or its citation means all entries.

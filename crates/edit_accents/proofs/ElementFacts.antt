@@ -12,7 +12,7 @@ use Rattle.bib_text.specs.Places.{Place, CharAt, Run, Stops, Longest, between}
 use Rattle.bib_text.specs.Places.Run.{stop, step}
 use Rattle.bib_text.proofs.PlaceFacts.{Ahead, ahead_then, ahead_char, ahead_run, stops_at}
 use Rattle.bib_syntax.specs.Reading.{Part, part, Piece}
-use Rattle.bib_syntax.specs.Reading.Piece.{literal, abbreviation}
+use Rattle.bib_syntax.specs.Reading.Piece.{literal}
 use Rattle.bib_syntax.specs.Grammar.{Braced, Element, Number, Quoted, longest}
 use Rattle.bib_syntax.specs.Grammar.{Element as element}
 use Rattle.bib_syntax.specs.Grammar.{Elements as elements}
@@ -25,6 +25,7 @@ use Rattle.edit_entries.proofs.ElementStandsFacts.{element_stands}
 use Rattle.edit_entries.proofs.NewValueFacts.{AreRead, CanBeRead}
 use Rattle.edit_entries.proofs.StandsFacts.{Stands, ascii, between_stands, first_part, last_part, past}
 use Rattle.edit_entries.proofs.ValueFacts.{elements_opens}
+use Rattle.edit_entries.proofs.NewFieldFacts.{piece_placeless}
 use Rattle.edit_format.specs.Delimited.{piece_as_written}
 use Rattle.edit_format.specs.Formatted.{value_laid_out}
 use Rattle.edit_format.specs.declared.style.Delimiters.TheVariants.{Keep}
@@ -132,17 +133,13 @@ record IsReadAt (e : Piece) (u v : Place) : Type 0 where
   element : Element longest u reading v
   alike : moved_piece (λ n. 0) reading ≡ moved_piece (λ n. 0) e
 
-placeless : (move : ℕ → ℕ) (e : Piece) → moved_piece (λ n. 0) (moved_piece move e) ≡ moved_piece (λ n. 0) e
-placeless move (literal p) = refl
-placeless move (abbreviation p) = refl
-
 -- a piece that stays
 kept_read : {a b u v : Place} {e : Piece} → Element longest a e b → b.at ≤ length a.text → NotOpened a
     → Stands u (piece_as_written Keep a.text e) v → Ending v → IsReadAt e u v
 kept_read {a} {b} {u} {v} {e} x within opened s ending = record {
   reading = moved_piece (λ (n : ℕ). n - a.at + u.at) e;
   element = element_stands x within (subst (λ t. Stands u t v) (element_written x opened) s) ending;
-  alike = placeless (λ (n : ℕ). n - a.at + u.at) e;
+  alike = piece_placeless (λ (n : ℕ). n - a.at + u.at) e;
 }
 
 choice : (b q : Bool) (x y z : List ℕ) → b ≡ false → q ≡ true → cond b x (cond q y z) ≡ y

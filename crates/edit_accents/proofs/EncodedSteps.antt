@@ -1,15 +1,11 @@
 -- One more character of a text in which characters become commands.
-use Rattle.std.proofs.Common.{◌≡◌, ℕ, ◌+◌, ◌<◌, Bool, true, false, List, ◌∷◌, ◌++◌, length, drop, get_or, append_assoc, sym, ap, ◌∙◌, encode_utf8, encode_utf8_all}
+use Rattle.std.proofs.Common.{◌≡◌, ℕ, ◌+◌, ◌<◌, Bool, true, false, List, ◌++◌, length, drop, get_or, append_assoc, sym, ap, ◌∙◌, encode_utf8, encode_utf8_all}
 use Rattle.std.specs.Prelude.{◌==◌}
-use Rattle.std.proofs.lemmas.List.{drop_more}
 use Rattle.std.proofs.lemmas.Str.{encodes-append}
+use Rattle.bib_text.proofs.ListFacts.{drop_is}
 use Rattle.edit_accents.specs.Accents.{stretch_after}
 use Rattle.edit_accents.specs.Encoded.{character_text, encoded}
 use Rattle.edit_accents.specs.declared.signs.Stretch.{Stretch}
-
--- the characters from an index on begin with this one
-first_of_rest : (cs : List ℕ) (i c : ℕ) → i < length cs → c ≡ get_or cs i c → drop i cs ≡ c ∷ drop (i + 1) cs
-first_of_rest cs i c within is = drop_more cs i c within ∙ ap (λ y. y ∷ drop (i + 1) cs) (sym is)
 
 -- a character that a backslash escapes
 pub escaped_step : (cs : List ℕ) (i c : ℕ) (old new whole : List ℕ) (stretch stretch' : Stretch) (is_escaped is_escaped' : Bool)
@@ -21,7 +17,7 @@ escaped_step cs i c old new whole stretch stretch' is_escaped is_escaped' within
     ap (λ s. new ++ encode_utf8_all (encoded s is_escaped' rest)) same ∙ ap (λ b. new ++ encode_utf8_all (encoded stretch b rest)) free
     ∙ ap (λ n. n ++ encode_utf8_all (encoded stretch false rest)) pushed
     ∙ append_assoc old (encode_utf8 c) (encode_utf8_all (encoded stretch false rest))
-    ∙ ap (λ l. old ++ encode_utf8_all (encoded stretch true l)) (sym (first_of_rest cs i c within is))
+    ∙ ap (λ l. old ++ encode_utf8_all (encoded stretch true l)) (sym (drop_is cs i c within is))
     ∙ ap (λ b. old ++ encode_utf8_all (encoded stretch b (drop i cs))) (sym escaped) ∙ so_far
 
 -- any other character
@@ -39,5 +35,5 @@ plain_step cs i c old new whole stretch stretch' is_escaped is_escaped' within i
     ∙ ap (λ n. n ++ encode_utf8_all others) pushed
     ∙ append_assoc old (encode_utf8_all here) (encode_utf8_all others)
     ∙ ap (λ l. old ++ l) (sym (encodes-append here others))
-    ∙ ap (λ l. old ++ encode_utf8_all (encoded stretch false l)) (sym (first_of_rest cs i c within is))
+    ∙ ap (λ l. old ++ encode_utf8_all (encoded stretch false l)) (sym (drop_is cs i c within is))
     ∙ ap (λ b. old ++ encode_utf8_all (encoded stretch b (drop i cs))) (sym free) ∙ so_far

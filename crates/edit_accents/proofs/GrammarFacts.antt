@@ -10,21 +10,21 @@ use Rattle.bib_text.specs.Braces.{Parts, is_plain}
 use Rattle.bib_text.specs.Braces.{Parts as parts}
 use Rattle.bib_text.proofs.PlaceFacts.{ahead_then, ahead_char, test_clash}
 use Rattle.bib_text.proofs.TextFacts.{chars_whole}
+use Rattle.bib_text.proofs.BraceFacts.{is_plain_from, plain_is}
 use Rattle.bib_syntax.specs.Grammar.{QuotedParts}
 use Rattle.bib_syntax.specs.Grammar.{QuotedParts as quotes}
 use Rattle.bib_syntax.specs.OpenBraces.{ClosesOpen}
 use Rattle.bib_syntax.specs.OpenBraces.ClosesOpen.{last, level}
 use Rattle.bib_syntax.proofs.FieldFacts.{ahead_parts, ahead_quoted_parts}
+use Rattle.bib_syntax.proofs.BraceFacts.{closes_suc}
 use Rattle.edit_entries.proofs.ElementFacts.{char_parted, parted}
 use Rattle.edit_entries.proofs.StandsFacts.{Stands, char_stands, first_part, last_part, nothing, past}
 use Rattle.edit_format.proofs.NameFacts.{none_between}
+use Rattle.edit_format.proofs.DelimiterFacts.{plain_before, hidden_before}
 use Rattle.edit_accents.specs.Balance.{text_fits}
 use Rattle.edit_accents.proofs.FitFacts.{over_dull}
 
 -- ---- the characters of a literal
-
-plain_is : {c : ℕ} (d : ℕ) → is_plain c ≡ true → is_plain d ≡ false → c ≡ d → ⊥
-plain_is d passes fails same = test_clash (is_plain d) (subst (λ x. is_plain x ≡ true) same passes) fails
 
 -- characters in braces: a quote has no meaning there
 over_plain : (d c : ℕ) (cs : List ℕ) → is_plain c ≡ true → text_fits false false d (c ∷ cs) ≡ text_fits false false d cs
@@ -164,26 +164,9 @@ quoted_fit {u} {v} x within utf8 =
 
 -- ---- other characters in braces
 
-plain_before : {n : ℕ} {u v w : Place} {c : ℕ} → CharAt u c v → is_plain c ≡ true → ClosesOpen n v w → ClosesOpen n u w
-plain_before char passes (last inner) = last (parts.plain char passes inner)
-plain_before char passes (level inner close more) = level (parts.plain char passes inner) close more
-
-hidden_before : {n : ℕ} {u v w x : Place} {c : ℕ} → CharAt u 92 v → CharAt v c w → ClosesOpen n w x → ClosesOpen n u x
-hidden_before slash char (last inner) = last (parts.hidden slash char inner)
-hidden_before slash char (level inner close more) = level (parts.hidden slash char inner) close more
-
-open_before : {n : ℕ} {u v w : Place} → CharAt u 123 v → ClosesOpen (suc n) v w → ClosesOpen n u w
-open_before opens (level inner close (last rest)) = last (parts.nested opens inner close rest)
-open_before opens (level inner close (level rest close' more)) = level (parts.nested opens inner close rest) close' more
-
 nothing_open : (d : ℕ) (u : Place) → text_fits false false d [] ≡ true → ClosesOpen d u u
 nothing_open zero u is = last parts.none
 nothing_open (suc d) u is = absurd (test_clash (suc d == 0) is (ne_eqb (suc d) 0 (λ same. omega (arith, same))))
-
-is_plain_from : (c : ℕ) → (c ≡ 123 → ⊥) → (c ≡ 125 → ⊥) → (c ≡ 92 → ⊥) → is_plain c ≡ true
-is_plain_from c no_open no_close no_slash =
-    ap (λ x. not x && not (c == 125) && not (c == 92)) (ne_eqb c 123 no_open)
-    ∙ ap (λ x. not x && not (c == 92)) (ne_eqb c 125 no_close) ∙ ap not (ne_eqb c 92 no_slash)
 
 close_before : (d : ℕ) (cs : List ℕ) {u v w : Place} → CharAt u 125 v → text_fits false false d (125 ∷ cs) ≡ true
     → ((n : ℕ) → text_fits false false n cs ≡ true → ClosesOpen n v w) → ClosesOpen d u w
@@ -211,7 +194,7 @@ closes_stands false d (c ∷ cs) u v s is =
       | inl slash ↦ closes_stands true d cs w v rest (subst (λ x. text_fits false false d (x ∷ cs) ≡ true) slash is) u
           (subst (λ x. CharAt u x w) slash char)
       | inr no_slash ↦ elim (cases_eq c 123) [
-        | inl opens ↦ open_before (subst (λ x. CharAt u x w) opens char)
+        | inl opens ↦ closes_suc (subst (λ x. CharAt u x w) opens char)
             (closes_stands false (suc d) cs w v rest (subst (λ x. text_fits false false d (x ∷ cs) ≡ true) opens is))
         | inr no_open ↦ elim (cases_eq c 125) [
           | inl closes ↦ close_before d cs (subst (λ x. CharAt u x w) closes char)

@@ -147,7 +147,7 @@ abbrev pub is_white : Sign → Bool
 is_white (Plain c) = is_whitespace c
 is_white s = false
 
--- the number of signs at their start that are white space
+-- the number of signs at the start that are white space
 abbrev pub white_count : List Sign → ℕ
 white_count [] = 0
 white_count (s ∷ ss) = if is_white s then suc (white_count ss) else 0
@@ -187,7 +187,7 @@ abbrev pub only_beyond_ascii : Option ℕ → Option ℕ
 only_beyond_ascii None = None
 only_beyond_ascii (Some c) = character_if (is_beyond_ascii c) c
 
--- a character and a mark as one character beyond ASCII, if NFC has one; a mark on a dotless i or j is put on i or j
+-- a character and a mark as one character beyond ASCII, if NFC has one. A mark on a dotless i or j is put on i or j
 abbrev pub composed : ℕ → ℕ → Option ℕ
 composed mark c = only_beyond_ascii (only_character (nfc (letter c ∷ mark ∷ [])))
 
@@ -196,10 +196,10 @@ abbrev pub composed_with : ℕ → Option ℕ → Option ℕ
 composed_with mark None = None
 composed_with mark (Some c) = composed mark c
 
--- ---- what commands become
+-- ---- the characters that commands become
 
--- the reduction of a sign that stays; a reduction is what a sign becomes before other signs: a sign, and the number of these that it takes
--- with it
+-- the reduction of a sign that stays. A reduction of a sign before other signs is the new sign, and the number of the following signs that
+-- it replaces too
 abbrev pub stays : Sign → Reduction
 stays s = record { sign = s; taken = 0 }
 
@@ -208,12 +208,12 @@ abbrev pub reduced_to : Option ℕ → ℕ → Sign → Reduction
 reduced_to None count s = stays s
 reduced_to (Some c) count s = record { sign = Composed c; taken = count }
 
--- the character in an argument in braces, after its opening brace
+-- the only character of an argument in braces, after its opening brace, if an accent may be put on it
 abbrev pub letter_in_braces : List Sign → Option ℕ
 letter_in_braces (Plain c ∷ rest) = character_if (takes_accent c && first_sign_passes is_closing rest) c
 letter_in_braces ss = None
 
--- the character on which an accent before these signs is put: the next one, or the only one in braces
+-- the character on which an accent before these signs is put: the next one or the only one in braces, if it may have an accent
 abbrev pub accented_letter : List Sign → Option ℕ
 accented_letter [] = None
 accented_letter (Plain c ∷ rest) = character_if (takes_accent c) c
@@ -223,7 +223,7 @@ accented_letter (Opening ∷ rest) = letter_in_braces rest
 accented_letter (Closing ∷ rest) = None
 accented_letter (Command ∷ rest) = None
 
--- the number of signs of the character on which an accent before these signs is put: three if it is in braces
+-- the number of signs of the character that gets an accent before these signs: three if an opening brace is before it, or else one
 abbrev pub accented_count : List Sign → ℕ
 accented_count ss = if first_sign_passes is_opening ss then 3 else 1
 
@@ -257,7 +257,7 @@ abbrev pub group_reduced : List Sign → Reduction
 group_reduced (Composed c ∷ Closing ∷ rest) = record { sign = Grouped c; taken = 2 }
 group_reduced ss = stays Opening
 
--- what a sign becomes before other signs
+-- the reduction of a sign before other signs
 abbrev pub reduced : Sign → List Sign → Reduction
 reduced Command following = command_reduced (value_named accents (name_in_signs following)) (name_in_signs following) following
 reduced Opening following = group_reduced following
@@ -267,19 +267,19 @@ reduced s following = stays s
 abbrev pub with_reduction : Reduction → List Sign → List Sign
 with_reduction r following = r.sign ∷ drop r.taken following
 
--- signs with each command that becomes a character replaced by it, from the last to the first, so that an accent is put on a character
--- that a command became
+-- signs with each command that becomes a character replaced by it, from the last to the first. So an accent is put on a character that a
+-- command became
 abbrev pub decoded : List Sign → List Sign
 decoded [] = []
 decoded (s ∷ ss) = with_reduction (reduced s (decoded ss)) (decoded ss)
 
 -- ---- the text of signs
 
--- the spot after a character beside the names of commands: an argument may come after a star and after an optional argument
+-- the spot after a character outside of the names of commands: an argument may come after a star and after an optional argument
 abbrev pub spot_beside_names : ℕ → Spot
 spot_beside_names c = if list_any (λ d. c == d) (codes "*]") then Closed else Free
 
--- the spot after a character in the name of a command, whose first one it is if the flag says so
+-- the spot after a character that follows the backslash of a command, if the flag says so, or a letter of its name
 abbrev pub spot_in_name : Bool → ℕ → Spot
 spot_in_name is_first c =
     if is_ascii_alphabetic c then Word
@@ -314,8 +314,8 @@ spot_after spot (Plain c) = spot_after_plain spot c
 spot_after spot (Composed c) = if awaits_character spot then Closed else Free
 spot_after spot (Grouped c) = if is_free spot then Free else Closed
 
--- the text of a composed character: in braces if a command may take it as its argument, since pdfLaTeX takes the first byte of a
--- character as an argument, and since the name of a command must end before a letter
+-- the text of a composed character: in braces if a command may take it as its argument. The reasons are that pdfLaTeX takes the first
+-- byte of a character as an argument, and that the name of a command must end before a letter
 abbrev pub composed_text : Spot → ℕ → List ℕ
 composed_text spot c = if awaits_character spot then char.open_brace ∷ c ∷ char.close_brace ∷ [] else c ∷ []
 

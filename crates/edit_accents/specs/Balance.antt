@@ -1,5 +1,5 @@
 -- Machinery: words of private contracts and of proofs.
--- Braces and quotes of characters and of signs, as the file grammar counts them. The first flag says whether the text is in quotes, where
+-- Braces and quotes of characters and of signs, as the file grammar counts them. The first flag says whether the text is in quotes. There,
 -- braces don't count. The second flag says whether a backslash escapes the first character.
 use Rattle.std.specs.Prelude.{◌==◌, ◌&&◌, not, ℕ, suc, ◌-◌, Bool, true, false, cond, nat_lt, List, [], ◌∷◌}
 use Rattle.bib_text.specs.Characters as char
@@ -9,7 +9,7 @@ use Rattle.edit_accents.specs.declared.signs.Sign.TheVariants.{Command, Opening,
 use Rattle.edit_accents.specs.declared.signs.Stretch.{Stretch}
 use Rattle.edit_accents.specs.declared.signs.Stretch.TheVariants.{Text, Accent, Math, Address}
 
--- the number of open braces in an address or a key
+-- the number of open braces in an address or a key; an optional argument counts as one. 0 in other stretches
 abbrev pub open_count : Stretch → ℕ
 open_count Text = 0
 open_count Accent = 0
@@ -31,7 +31,8 @@ abbrev pub can_close : Bool → ℕ → Bool
 can_close true depth = true
 can_close false depth = nat_lt 0 depth
 
--- whether characters close this number of braces and all that they open, and in quotes contain no quote
+-- whether the unescaped characters close this number of braces and all that they open, and in quotes contain no quote. No unescaped
+-- backslash may be at the end
 abbrev pub text_fits : Bool → Bool → ℕ → List ℕ → Bool
 text_fits quoted is_escaped depth [] = not is_escaped && depth == 0
 text_fits quoted true depth (c ∷ cs) = text_fits quoted false depth cs

@@ -60,7 +60,7 @@ command_named (Some name) = Some (char.backslash ∷ name)
 abbrev pub letter_command : ℕ → Option (List ℕ)
 letter_command c = command_named (letter_name c)
 
--- the text of a letter that an accent is put on
+-- the text of a letter that an accent is put on: an ASCII letter, or the command for a letter
 abbrev pub base_text : ℕ → Option (List ℕ)
 base_text c = if is_ascii_alphabetic c then Some (c ∷ []) else letter_command c
 
@@ -68,14 +68,14 @@ base_text c = if is_ascii_alphabetic c then Some (c ∷ []) else letter_command 
 abbrev pub has_character : List ℕ → ℕ → Bool
 has_character text c = list_any (λ d. d == c) text
 
--- whether LaTeX, Biber and pandoc read an accent on a letter as the same character: on an i only the four accents for which LaTeX drops its
--- dot by itself, the dot below and the ogonek; on a j none
+-- whether LaTeX, Biber and pandoc read an accent on a letter as the same character. On an i, only the four accents for which LaTeX drops
+-- its dot by itself, the dot below and the ogonek pass. On a j, none does
 abbrev pub is_put_on : ℕ → ℕ → Bool
 is_put_on name c =
     if has_character (codes "i") c then has_character (codes "`'^\"dk") name
     else not (has_character (codes "j") c)
 
--- the argument of an accent with a name: in braces, if the name is a letter or the argument isn't one character
+-- the argument of an accent with a name: in braces if the name is a letter or the argument isn't one character
 abbrev pub accent_argument : ℕ → List ℕ → List ℕ
 accent_argument name text = if is_ascii_alphabetic name || not (length text == 1) then in_braces text else text
 

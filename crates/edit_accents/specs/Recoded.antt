@@ -1,5 +1,5 @@
 -- Meaning: words of public contracts.
--- The text of a file with LaTeX commands for accents and letters as characters, or the other way round: the changes of its fields.
+-- The text of a file with LaTeX commands for accents and letters as characters, or such characters as commands: the changes of its fields.
 use Rattle.std.specs.Prelude.{◌==◌, ◌&&◌, ◌||◌, ℕ, Bool, false, not, if◌then◌else◌, List, map, bytes_eq, codes, Some, None, encode_utf8_all}
 use Rattle.std.specs.List.{list_any}
 use Rattle.std.specs.Str.{chars, str_eq_ignore_ascii_case, str_to_ascii_lowercase}
@@ -45,20 +45,20 @@ abbrev pub changes_piece : Form → Piece → Bool
 changes_piece form (literal p) = not (bytes_eq (text_recoded form p.text) p.text)
 changes_piece form (abbreviation p) = false
 
--- whether a field with a name is one of another program, whose value also occurs elsewhere: groups of JabRef, groups and tags of
--- Mendeley, or the path of a file for BibDesk
+-- whether a field with a name is one of another program, whose value also occurs elsewhere. These are groups of JabRef, groups and tags
+-- of Mendeley, and the path of a file for BibDesk
 abbrev pub is_program_field : List ℕ → Bool
 is_program_field name =
     str_eq_ignore_ascii_case name (codes "groups") || str_eq_ignore_ascii_case name (codes "mendeley-groups")
     || str_eq_ignore_ascii_case name (codes "mendeley-tags") || str_eq_ignore_ascii_case name (codes "local-url")
 
--- whether the value of a field with a name lists keys of entries or of subjects, or is one of another program
+-- whether the value of a field with a name lists keys of entries or keywords, or the field is one of another program
 abbrev pub is_kept_field : List ℕ → Bool
 is_kept_field name =
     is_reference_field name || str_eq_ignore_ascii_case name (codes "ids") || str_eq_ignore_ascii_case name (codes "keywords")
     || is_program_field name
 
--- whether the value of a field may change: verbatim fields, fields with keys and fields of other programs stay the same
+-- whether the value of a field may change: verbatim fields, fields with keys or keywords and fields of other programs stay the same
 abbrev pub is_recodable_field : FieldReading → Bool
 is_recodable_field f = not (is_verbatim_field (str_to_ascii_lowercase f.name.text)) && not (is_kept_field f.name.text)
 

@@ -2,38 +2,12 @@
 
 ghost use Rattle.std.specs.Prelude.{◌≡◌, ◌∷◌, [], IfOk};
 ghost use Rattle.bib_text.specs.Enums.{value_named};
-ghost use Rattle.bib_contents.specs.Commands as commands;
 ghost use Rattle.bib_contents.specs.Commands.{accents};
 ghost use Rattle.edit_accents.specs.Accents as spec;
 
+use bib_contents::accents::{letter, mark_of};
 use std::alloc::{AllocError, Global};
 use unicode_normalization::slice::extend_nfc;
-
-// Returns the combining mark of the accent that a character names.
-#[tactic(auto, unfolding(bib_contents::specs::Commands::accents))]
-fn mark_of(c: char) -> Option<char>
-    ensures { result ≡ value_named accents (c ∷ []) }
-{
-    match c {
-        '`' => Some('\u{300}'),
-        '´' => Some('\u{301}'),
-        '\'' => Some('\u{301}'),
-        '^' => Some('\u{302}'),
-        '~' => Some('\u{303}'),
-        '=' => Some('\u{304}'),
-        'u' => Some('\u{306}'),
-        '.' => Some('\u{307}'),
-        '"' => Some('\u{308}'),
-        'r' => Some('\u{30A}'),
-        'H' => Some('\u{30B}'),
-        'v' => Some('\u{30C}'),
-        'd' => Some('\u{323}'),
-        'c' => Some('\u{327}'),
-        'k' => Some('\u{328}'),
-        'b' => Some('\u{332}'),
-        _ => None,
-    }
-}
 
 /// Returns whether a character is the name of an accent.
 pub(crate) fn is_accent_sign(c: char) -> bool
@@ -90,17 +64,6 @@ fn letter_of_two(first: char, second: char) -> Option<char>
         ('t', 'h') => Some('þ'),
         ('T', 'H') => Some('Þ'),
         _ => None,
-    }
-}
-
-// Returns the letter that a mark is put on: i and j for the dotless ones.
-fn letter(c: char) -> char
-    ensures { result ≡ commands.letter c }
-{
-    match c {
-        'ı' => 'i',
-        'ȷ' => 'j',
-        _ => c,
     }
 }
 

@@ -106,7 +106,8 @@ fn accented_letter(signs: &[Sign]) -> Option<char>
     }
 }
 
-// Returns the number of signs of the character on which an accent before these signs is put: three if it is in braces.
+// Returns the number of signs of the character that gets an accent before these signs: three if an opening brace is before it, or else
+// one.
 fn accented_count(signs: &[Sign]) -> usize
     ensures { result ≡ spec.accented_count signs.now }
 {

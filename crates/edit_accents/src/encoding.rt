@@ -84,7 +84,7 @@ fn letter_command(alloc: Global, c: char) -> Result<Option<Vec<char>>, AllocErro
     }
 }
 
-// Returns the text of a letter that an accent is put on, or `None` if it is none.
+// Returns the text of a letter that an accent is put on, or `None` if `c` is neither an ASCII letter nor a letter with a command.
 fn base_text(alloc: Global, c: char) -> Result<Option<Vec<char>>, AllocError>
     ensures { IfOk result (λ found. option_map (λ text. text.items) found ≡ spec.base_text c) }
 {
@@ -140,7 +140,7 @@ fn accent_command(alloc: Global, name: char, text: Vec<char>) -> Result<Vec<char
     Ok(new)
 }
 
-// Returns an accent with a letter as its argument, or `None` if it is no letter.
+// Returns an accent with a letter as its argument, or `None` if `base_text` has none.
 fn accent_with(alloc: Global, name: char, c: char) -> Result<Option<Vec<char>>, AllocError>
     ensures { IfOk result (λ found. option_map (λ text. text.items) found ≡ spec.accent_with name (spec.base_text c)) }
 {

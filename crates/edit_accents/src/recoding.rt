@@ -32,7 +32,7 @@ use std::alloc::{AllocError, Global};
 /// The form of accents and of letters beyond ASCII.
 #[derive(Debug, Clone, Copy, PartialEq, Eq)]
 pub enum Form {
-    /// Characters: a command becomes the character that NFC has for it.
+    /// Characters: a command becomes the character that it gives, in NFC.
     Characters,
     /// LaTeX commands: a character becomes the command that gives it.
     Commands,
@@ -210,7 +210,7 @@ fn is_program_field(name: &str) -> bool
         || name.eq_ignore_ascii_case("local-url")
 }
 
-// Returns whether the value of a field with a name lists keys of entries or of subjects, or is one of another program.
+// Returns whether the value of a field with a name lists keys of entries or keywords, or the field is one of another program.
 fn is_kept_field(name: &str) -> bool
     ensures { result ≡ spec.is_kept_field name.now }
 {
@@ -220,7 +220,8 @@ fn is_kept_field(name: &str) -> bool
         || is_program_field(name)
 }
 
-// Returns whether the value of a field may change: verbatim fields, fields with keys and fields of other programs stay the same.
+// Returns whether the value of a field may change: verbatim fields, fields with keys or keywords and fields of other programs stay the
+// same.
 fn is_recodable(alloc: Global, field: &Pair<'_>) -> Result<bool, AllocError>
     ensures { IfOk result (λ b. b ≡ spec.is_recodable_field (field_of field.now)) }
 {
@@ -322,9 +323,9 @@ fn edits(
     Ok(edits)
 }
 
-/// Returns the text of `document`, in whose entries accents and letters beyond ASCII are written in the form `form`: LaTeX
-/// commands become characters, or characters become LaTeX commands. Verbatim fields, fields with keys, fields of other programs,
-/// math, and addresses and keys in commands stay the same. The only error is out of memory.
+/// Returns the text of `document` with the accents and letters beyond ASCII in its entries written in the form `form`. LaTeX
+/// commands become characters, or characters become LaTeX commands. Verbatim fields, fields with keys or keywords, fields of other
+/// programs, math, and addresses and keys in commands stay the same. The only error is out of memory.
 pub fn recode(alloc: Global, document: &RawDocument<'_>, form: Form) -> Result<String, AllocError>
     ensures { IfOk result (λ new. IsRecoded form document.now (string_bytes new)) }
 {

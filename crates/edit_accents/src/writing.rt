@@ -38,7 +38,7 @@ fn spot_beside_names(c: char) -> Spot
     }
 }
 
-// Returns the spot after a character in the name of a command.
+// Returns the spot after a character that follows the backslash of a command, if `is_first`, or a letter of its name.
 fn spot_in_name(is_first: bool, c: char) -> Spot
     ensures { result ≡ spec.spot_in_name is_first c }
 {

@@ -1,8 +1,9 @@
 -- A field gets no name, and a date no parts, that its entry already has.
 use Rattle.std.proofs.Common.{◌≡◌, ℕ, Bool, true, false, cond, List, [], ◌∷◌, refl, subst, Option, Some, None}
-use Rattle.std.specs.Prelude.{◌&&◌, ◌||◌, ◌==◌, codes, filter, length, nat_lt, not}
+use Rattle.std.specs.Prelude.{◌&&◌, ◌==◌, codes, filter, length, nat_lt, not}
 use Rattle.std.specs.List.{find, list_any}
 use Rattle.std.proofs.lemmas.Bool.{and_parts, not-true}
+use Rattle.bib_text.proofs.BoolFacts.{or_false_left}
 use Rattle.bib_syntax.specs.Grammar.{is_word}
 use Rattle.bib_syntax.specs.Reading.{EntryReading, FieldReading}
 use Rattle.edit_entries.specs.Documents.{has_name}
@@ -60,10 +61,6 @@ parts_apart dialect e f sides is =
     let both = sides_case (has_name (codes "date") f && divides) (value_sides (single_text f.value.pieces)) sides is in
     divides_apart dialect e.fields (and_parts (has_name (codes "date") f) divides both).1
 
-none_first : (first rest : Bool) → (first || rest) ≡ false → first ≡ false
-none_first true rest is = absurd (cc)
-none_first false rest is = refl
-
 -- the parts of a date are joined only if there is no date
 pub joined_apart : (dialect : Dialect) (defines : Bool) (text : List ℕ) (e : EntryReading) (date : List ℕ)
     → joined_date dialect defines text e.fields ≡ Some date → is_field_there e.fields (codes "date") ≡ false
@@ -77,7 +74,7 @@ joined_apart dialect defines text e date is =
     once in
     let months = and_parts (times_named fields (codes "month") == 1) (nat_lt (times_named fields (codes "day")) 2 && not there) years.1 in
     let days = and_parts (nat_lt (times_named fields (codes "day")) 2) (not there) months.1 in
-    none_first (is_field_there fields (codes "date"))
+    or_false_left (is_field_there fields (codes "date"))
     (list_any (is_field_there fields) (codes "endyear" ∷ codes "endmonth" ∷ codes "endday" ∷ []))
     (not-true there days.1)
 

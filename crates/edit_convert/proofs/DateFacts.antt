@@ -3,7 +3,7 @@ use Rattle.std.proofs.Common.{◌≡◌, ℕ, ◌+◌, ◌-◌, ◌<◌, Bool, t
 use Rattle.std.specs.Prelude.{◌&&◌, ◌==◌, is_some, nat_lt}
 use Rattle.std.specs.Char.{is_ascii_digit}
 use Rattle.std.specs.List.{AllByRecursion, list_all, slice_split}
-use Rattle.std.proofs.lemmas.Bool.{and_from, and_parts}
+use Rattle.std.proofs.lemmas.Bool.{and_parts}
 use Rattle.std.proofs.lemmas.Bool.Decides.{nat_tests}
 use Rattle.std.proofs.lemmas.List.{drop-drop, drop_at, take_all, take_at}
 use Rattle.bib_text.specs.Braces.{Parts, is_plain}
@@ -24,11 +24,11 @@ use Rattle.edit_strings.proofs.NameFacts.{plain_can}
 use Rattle.edit_entries.proofs.NewValueFacts.{CanBeRead}
 use Rattle.bib_dates.specs.Dates.{date_of}
 use Rattle.bib_dates.specs.Readings.{readable_value}
-use Rattle.bib_dates.proofs.DatesReread.{all_more, is_date_byte}
+use Rattle.bib_dates.proofs.DatesReread.{is_date_byte, digit_bytes}
 use Rattle.edit_convert.specs.Dates.{Side, SideNames, Sides, are_digits, date_sides, day_fields, from_names, month_as_field, month_fields, month_side, more_fields, numbered_months, side_in, side_of, sides_of, one_side, two_sides, to_fields, to_names, side_year}
 use Rattle.edit_entries.specs.Changes.{braced_field}
 use Rattle.edit_entries.proofs.NewFieldFacts.{CanBePut, element_read}
-use Rattle.bib_text.proofs.ListFacts.{all_append}
+use Rattle.bib_text.proofs.ListFacts.{all_append, passed_weaker}
 
 -- ---- ASCII texts without braces and backslashes, in braces
 
@@ -80,13 +80,7 @@ date_plain c digit = grind (arith, nat_tests)
 -- in braces, digits and hyphens read as themselves
 pub date_bytes_read : (text : List ℕ) → list_all is_date_byte text ≡ true
     → CanBeRead (record { bytes = in_braces text; pieces = literal (text_at 1 text) ∷ [] })
-date_bytes_read text all = plain_read text (all_more is_date_byte is_plain_ascii date_plain text all)
-
-digit_bytes : (text : List ℕ) → list_all is_ascii_digit text ≡ true → list_all is_date_byte text ≡ true
-digit_bytes [] all = refl
-digit_bytes (b ∷ bs) all =
-    let both = and_parts (is_ascii_digit b) (list_all is_ascii_digit bs) all in
-    and_from (is_date_byte b) (list_all is_date_byte bs) (rw both.0 refl) (digit_bytes bs both.1)
+date_bytes_read text all = plain_read text (passed_weaker is_date_byte is_plain_ascii date_plain text all)
 
 -- in braces, digits read as themselves
 digits_read : (text : List ℕ) → list_all is_ascii_digit text ≡ true
@@ -219,39 +213,25 @@ record ArePlain (names : SideNames) : Type 0 where
 digits_put : (name text : List ℕ) → is_plain_name name ≡ true → list_all is_ascii_digit text ≡ true → CanBePut (braced_field name text)
 digits_put name text plain digits = record { name = (plain_can name plain).0; value = digits_read text digits }
 
-abbreviation_plain : (month : Month) → is_plain_name (month_abbreviation month) ≡ true
-abbreviation_plain January = refl
-abbreviation_plain February = refl
-abbreviation_plain March = refl
-abbreviation_plain April = refl
-abbreviation_plain May = refl
-abbreviation_plain June = refl
-abbreviation_plain July = refl
-abbreviation_plain August = refl
-abbreviation_plain September = refl
-abbreviation_plain October = refl
-abbreviation_plain November = refl
-abbreviation_plain December = refl
-
-month_name_plain : (month : Month) → list_all is_plain_ascii (month_name month) ≡ true
-month_name_plain January = refl
-month_name_plain February = refl
-month_name_plain March = refl
-month_name_plain April = refl
-month_name_plain May = refl
-month_name_plain June = refl
-month_name_plain July = refl
-month_name_plain August = refl
-month_name_plain September = refl
-month_name_plain October = refl
-month_name_plain November = refl
-month_name_plain December = refl
+month_plain : (month : Month) → (is_plain_name (month_abbreviation month) ≡ true) × (list_all is_plain_ascii (month_name month) ≡ true)
+month_plain January = (refl, refl)
+month_plain February = (refl, refl)
+month_plain March = (refl, refl)
+month_plain April = (refl, refl)
+month_plain May = (refl, refl)
+month_plain June = (refl, refl)
+month_plain July = (refl, refl)
+month_plain August = (refl, refl)
+month_plain September = (refl, refl)
+month_plain October = (refl, refl)
+month_plain November = (refl, refl)
+month_plain December = (refl, refl)
 
 month_put : (defines : Bool) (name : List ℕ) (month : Month) → is_plain_name name ≡ true → CanBePut (month_as_field defines name month)
 month_put true name month plain =
-    record { name = (plain_can name plain).0; value = plain_read (month_name month) (month_name_plain month) }
+    record { name = (plain_can name plain).0; value = plain_read (month_name month) (month_plain month).1 }
 month_put false name month plain =
-    record { name = (plain_can name plain).0; value = name_read (month_abbreviation month) (abbreviation_plain month) }
+    record { name = (plain_can name plain).0; value = name_read (month_abbreviation month) (month_plain month).0 }
 
 months_put : (defines : Bool) (name : List ℕ) (month : Option Month) → is_plain_name name ≡ true
     → AllByRecursion CanBePut (month_fields defines name month)

@@ -1,4 +1,4 @@
--- The date that a year, a month and a day are read as is read from its text, where that is read as a date at all.
+-- The date that a year, a month and a day form is the date that their joined text is parsed as, if it can be parsed as a date.
 use Rattle.std.proofs.Common.{◌≡◌, inl, inr, ℕ, suc, ◌+◌, ◌-◌, ◌<◌, ◌≤◌, Bool, true, false, cond, ◌||◌, ◌==◌, List, [], ◌∷◌, ◌++◌, length, take, drop, refl, sym, ap, ◌∙◌, subst, arith, lit<, append-nil, Option, Some, None, pos}
 use Rattle.std.specs.Prelude.{◌&&◌, is_some, nat_lt, not}
 use Rattle.std.specs.List.{list_all, prefix_len}
@@ -25,8 +25,10 @@ use Rattle.bib_dates.specs.Readings.{Reading, ◌>>=◌, readable_value}
 use Rattle.bib_dates.specs.Readings.Reading.{says, error, unread}
 use Rattle.bib_dates.specs.ThreeFields.{after_gap, day_after, day_field, day_number, day_of, month_and_day, month_field, month_named, month_with_day, on_day, only_day, reported_day, three_fields_of, with_era, year_field}
 use Rattle.bib_dates.specs.Written.{datetime_text, with_zeros}
-use Rattle.bib_dates.proofs.Digits.{four, run_digits}
-use Rattle.bib_dates.proofs.DatesReread.{is_date_byte, is_side, text_survives, all_more, any_byte, any_none, both, date_plain, digit_bytes, no_slash, no_x}
+use Rattle.bib_text.proofs.DigitFacts.{run_digits, digit_no_hyphen}
+use Rattle.bib_text.proofs.ListFacts.{passed_weaker, passed_append}
+use Rattle.bib_dates.proofs.Digits.{four}
+use Rattle.bib_dates.proofs.DatesReread.{is_date_byte, is_side, text_survives, any_byte, any_none, date_plain, digit_bytes, no_slash, no_x}
 use Rattle.bib_dates.proofs.PartsReread.{Ends, IsNumber, after_hyphen, digits_plain, four_digits, hyphens_read, not_negative, nothing, number_reads, small_number_reads, two_digits, year_reads, within}
 use Rattle.bib_dates.proofs.PlainTexts.{capitals-plain, is_plain, plain, trim_end-plain, trim_start-plain}
 use Rattle.edit_convert.specs.Dates.{are_digits}
@@ -34,7 +36,7 @@ use Rattle.edit_convert.specs.Joined.{is_day_alone, is_month_alone, joined_text,
 
 -- ---- a reading of parts
 
--- what is read of two parts, one after the other
+-- if parsing one part and then another has a value, the first part has a value, and parsing the second one then has that value
 both_read : {A B : Type 0} (first : Reading A) (then : A → Reading B) (c : B) → (first >>= then) ≡ says c
     → (a : A) × (first ≡ says a) × (then a ≡ says c)
 both_read (says a) then c is = (a, refl, is)
@@ -45,9 +47,6 @@ said : {A : Type 0} (a b : A) → says a ≡ says b → a ≡ b
 said a b is = cc
 
 -- ---- the year
-
-no_minus : (b : ℕ) → is_ascii_digit b ≡ true → (b == 45) ≡ false
-no_minus b h = grind (arith, nat_tests)
 
 no_plus : (b : ℕ) → is_ascii_digit b ≡ true → (b == 43) ≡ false
 no_plus b h = grind (arith, nat_tests)
@@ -73,7 +72,7 @@ year_is (a ∷ b ∷ c ∷ d ∷ []) is =
     let size : prefix_len is_ascii_digit (a ∷ b ∷ c ∷ d ∷ []) ≡ 4 = rw (p.0, q.0, r.0, s.0) refl in
     let digits : AllDigits 10 (a ∷ b ∷ c ∷ d ∷ []) =
     subst (λ n. AllDigits 10 (take n (a ∷ b ∷ c ∷ d ∷ []))) size (run_digits (a ∷ b ∷ c ∷ d ∷ [])) in
-    (rw (whole, no_minus a p.0, no_plus a p.0, size, trim_start-plain [] refl) refl, four (a ∷ b ∷ c ∷ d ∷ []) digits (omega arith))
+    (rw (whole, digit_no_hyphen a p.0, no_plus a p.0, size, trim_start-plain [] refl) refl, four (a ∷ b ∷ c ∷ d ∷ []) digits (omega arith))
 year_is (a ∷ b ∷ c ∷ d ∷ e ∷ rest) is =
     absurd
     (too_long (length rest)
@@ -217,7 +216,7 @@ unmarked : (text : List ℕ) → list_all is_date_byte text ≡ true → (is_unc
 unmarked text h =
     let k =
     any_byte (λ b. is_date_byte b || b == 0) refl text
-    (all_more is_date_byte (λ b. is_date_byte b || b == 0) (λ b q. rw q refl) text h) (length text - 1) in
+    (passed_weaker is_date_byte (λ b. is_date_byte b || b == 0) (λ b q. rw q refl) text h) (length text - 1) in
     (not_uncertain (last text) k, not_approximate (last text) k)
 
 small_number_fails : (low high n : ℕ) (kind : TypeErrorKind) (xs rest : List ℕ) → lies low high n ≡ false
@@ -261,8 +260,9 @@ text_bytes n m k year month day =
     let is : IsNumber 2 (m + 1) (with_zeros 2 (m + 1)) = two_digits (m + 1) (omega arith) in
     let last : IsNumber 2 (k + 1) (with_zeros 2 (k + 1)) = two_digits (k + 1) (omega arith) in
     rw (not_negative n)
-    (both is_date_byte (with_zeros 4 n) ((45 ∷ with_zeros 2 (m + 1)) ++ (45 ∷ with_zeros 2 (k + 1))) (digit_bytes (with_zeros 4 n) y.digits)
-    (both is_date_byte (with_zeros 2 (m + 1)) (45 ∷ with_zeros 2 (k + 1)) (digit_bytes (with_zeros 2 (m + 1)) is.digits)
+    (passed_append is_date_byte (with_zeros 4 n) ((45 ∷ with_zeros 2 (m + 1)) ++ (45 ∷ with_zeros 2 (k + 1)))
+    (digit_bytes (with_zeros 4 n) y.digits)
+    (passed_append is_date_byte (with_zeros 2 (m + 1)) (45 ∷ with_zeros 2 (k + 1)) (digit_bytes (with_zeros 2 (m + 1)) is.digits)
     (digit_bytes (with_zeros 2 (k + 1)) last.digits)))
 
 value_fails : (text : List ℕ) (kind : TypeErrorKind) → list_all is_date_byte text ≡ true → side text ≡ error kind
@@ -286,7 +286,7 @@ date_fails : (n m k : ℕ) → n < 10000 → m < 12 → k < 31 → days_in_month
 date_fails n m k year month day past =
     let text : List ℕ = datetime_text (datetime (pos n) (Some m) (Some k) None) in
     let bytes : list_all is_date_byte text ≡ true = text_bytes n m k year month day in
-    let signs : plain text ≡ true = all_more is_date_byte is_plain date_plain text bytes in
+    let signs : plain text ≡ true = passed_weaker is_date_byte is_plain date_plain text bytes in
     ap (λ t. marked_date (trim_end t)) (capitals-plain text signs) ∙ ap marked_date (trim_end-plain text signs)
     ∙ marked_fails text DayOutOfRange bytes
     (value_fails text DayOutOfRange bytes (side_fails n m k year month day past))

@@ -19,12 +19,12 @@ use Rattle.bib_text.specs.Characters as char
 use Rattle.edit_convert.specs.Dates.{Sides, date_sides, from_names, more_fields, part_names, to_fields, side_year}
 use Rattle.edit_convert.specs.Joined.{is_month_name, joined_text, month_value}
 
--- whether neither BibTeX nor BibLaTeX has a type
+-- whether `EntryType` has no variant for a type; BibLaTeX has types without a variant, for example `artwork`
 abbrev pub is_unnamed_type : EntryType → Bool
 is_unnamed_type (Unknown name) = true
 is_unnamed_type kind = false
 
--- the name of the type that a dialect uses for a type, if it is another one; a type that neither dialect has is kept
+-- the name of the type that a dialect uses for a type, if it is another one. A type without a variant of `EntryType` is kept
 abbrev pub other_type : Dialect → EntryType → Option (List ℕ)
 other_type dialect kind =
     if is_unnamed_type kind || bytes_eq (entry_type_name (kind_in dialect kind)) (entry_type_name kind) then None
@@ -64,17 +64,17 @@ times_named fields name = length (filter (has_name name) fields)
 abbrev pub is_date_free : List FieldReading → Bool
 is_date_free fields = (times_named fields (codes "date") == 1) && not (list_any (is_field_there fields) part_names)
 
--- the sides of a date that BibTeX has fields for, given the text of the value if it is one literal
+-- the sides of a date that BibTeX has fields for. The argument is the text of the value, if the value is one literal.
 abbrev pub value_sides : Option (List ℕ) → Option Sides
 value_sides None = None
 value_sides (Some text) = date_sides text
 
--- whether an entry's date is replaced by fields of its parts: for BibTeX, if it may be
+-- whether an entry's date may be replaced by fields of its parts in a dialect; never for BibLaTeX
 abbrev pub divides_date : Dialect → List FieldReading → Bool
 divides_date Biblatex fields = false
 divides_date Bibtex fields = is_date_free fields
 
--- the sides of a field that is a date, if the entry's date is to be divided
+-- the sides of a field that is a date, if the entry's date may be divided
 abbrev pub date_if_divided : Bool → FieldReading → Option Sides
 date_if_divided divides f = if has_name (codes "date") f && divides then value_sides (single_text f.value.pieces) else None
 
@@ -130,7 +130,7 @@ abbrev pub printed_type : Dialect → EntryType → List FieldReading → Option
 printed_type Biblatex kind fields = None
 printed_type Bibtex kind fields = read_type kind fields
 
--- the value of the field `type` that is added to an entry: for BibLaTeX, if the type needs one and the entry has no field `type`
+-- the value of the field `type` that is added to an entry for BibLaTeX, if the type needs one and the entry has no such field
 abbrev pub missing_type : Dialect → EntryType → List FieldReading → Option (List ℕ)
 missing_type Biblatex kind fields = if is_field_there fields (codes "type") then None else type_value kind
 missing_type Bibtex kind fields = None
@@ -158,8 +158,8 @@ date_of_fields defines fields =
     date_of_parts (literal_of (find (has_name (codes "year")) fields))
     (month_of defines (find (has_name (codes "month")) fields)) (find (has_name (codes "day")) fields)
 
--- the text of the date that replaces its parts among an entry's fields, if they are joined: for BibLaTeX, if there is one of each, no
--- other date, and no comment that would be removed
+-- the text of the date that replaces its parts among an entry's fields, if they are joined. They are only joined for BibLaTeX, if
+-- `has_parts_once` and `keep_comments` hold
 abbrev pub joined_date : Dialect → Bool → List ℕ → List FieldReading → Option (List ℕ)
 joined_date Biblatex defines text fields =
     if has_parts_once fields && keep_comments text fields then date_of_fields defines fields else None
@@ -173,15 +173,15 @@ defines_month abbreviations = list_any (λ f. is_month_name f.name.text) abbrevi
 abbrev pub date_if_part : Option (List ℕ) → FieldReading → Option (List ℕ)
 date_if_part joined f = if is_date_part f then joined else None
 
--- what replaces a field: the field with another name, the text that styles print for a type, the parts of a date (with its sides, and
--- whether the file defines the abbreviation of a month), or together with the other parts a date
+-- the replacement of a field: another name, the text that styles print for a type, the fields of the parts of a date, or a date instead
+-- of its parts. `with_parts` has the sides, and whether the file defines the abbreviation of a month
 pub data Replacement : Type 0 where
   with_name : List ℕ → Replacement
   with_type : List ℕ → Replacement
   with_parts : Bool → Sides → Replacement
   with_date : List ℕ → Replacement
 
--- the first that there is: a joined date, another name, a type, the sides of a date
+-- the replacement by the first of these that isn't missing: a joined date, another name, a type, the sides of a date
 abbrev pub first_replacement : Bool → Option (List ℕ) → Option (List ℕ) → Option PrintedType → Option Sides → Option Replacement
 first_replacement defines (Some date) name type sides = Some (Replacement.with_date date)
 first_replacement defines None (Some name) type sides = Some (Replacement.with_name name)
@@ -193,7 +193,7 @@ first_replacement defines None None None None = None
 abbrev pub type_if_named : Option PrintedType → FieldReading → Option PrintedType
 type_if_named type f = if has_name (codes "type") f then type else None
 
--- what replaces an entry's field, if anything does. `defines` is whether the file defines the abbreviation of a month.
+-- the replacement of an entry's field, if there is one. `defines` is whether the file defines the abbreviation of a month.
 abbrev pub field_replacement : Dialect → Bool → List ℕ → EntryReading → FieldReading → Option Replacement
 field_replacement dialect defines text e f =
     first_replacement defines (date_if_part (joined_date dialect defines text e.fields) f) (new_field_name dialect e f)
@@ -208,8 +208,9 @@ abbrev pub can_be_removed : List ℕ → FieldReading → List FieldReading → 
 can_be_removed text f [] = false
 can_be_removed text f (g ∷ gs) = is_comment_free text f (g ∷ gs)
 
--- the change of a field before others, by what replaces it. The last part of a date is replaced by the date, and the parts before it are
--- removed. A `type` that became the entry's type is removed; if it can't be, its value becomes what styles print for the type.
+-- the change of a field, by its replacement; `following` are the fields after it. The last part of a date is replaced by the date, and the
+-- parts before it are removed. A `type` that became the entry's type is removed. If it can't be, its value becomes the text that styles
+-- print for the type.
 abbrev pub field_change : List ℕ → FieldReading → List FieldReading → Option Replacement → FieldChange
 field_change text f following None = FieldChange.kept
 field_change text f following (Some (Replacement.with_name name)) = FieldChange.renamed name
@@ -221,7 +222,7 @@ field_change text f following (Some (Replacement.with_parts defines sides)) =
 field_change text f following (Some (Replacement.with_date date)) =
     if list_any is_date_part following then FieldChange.removed else FieldChange.replaced (date_field date) [] []
 
--- the changes of fields, by what replaces each
+-- the changes of fields, by the replacement of each
 abbrev pub field_changes : List ℕ → (FieldReading → Option Replacement) → List FieldReading → List FieldChange
 field_changes text replacement [] = []
 field_changes text replacement (f ∷ fs) = field_change text f fs (replacement f) ∷ field_changes text replacement fs
@@ -241,7 +242,7 @@ with_missing_type (Some value) changes = with_field_before_kept (type_field valu
 abbrev pub keeps_one : (FieldReading → Option Replacement) → List FieldReading → Bool
 keeps_one replacement fields = list_any (λ f. not (is_some (replacement f))) fields
 
--- the new name of an entry's type, if it is replaced: by the type of BibTeX that its field `type` means, or else by the dialect's type.
+-- the new name of an entry's type, if it is replaced: the type of BibTeX that its field `type` means, or else the dialect's type.
 -- If a missing field `type` can't be added, since no field is kept, the type is kept too.
 abbrev pub type_for : Dialect → EntryType → Option PrintedType → Option (List ℕ) → Bool → Option (List ℕ)
 type_for dialect kind (Some type) missing keeps = Some type.name

@@ -75,7 +75,7 @@ sides_of (from ∷ []) = one_side (side_in from)
 sides_of (from ∷ to ∷ []) = two_sides (side_in from) (side_in to)
 sides_of (from ∷ to ∷ other ∷ rest) = None
 
--- the sides of a date or a range that BibTeX has fields for: it parses as a date, and each side is a year in four digits, perhaps with a
+-- the sides of a date or a range that BibTeX has fields for. It parses as a date, and each side is a year in four digits, perhaps with a
 -- month and a day in two each
 abbrev pub date_sides : List ℕ → Option Sides
 date_sides text = if is_some (readable_value (date_of text)) then sides_of (slice_split (λ c. c == char.slash) text) else None

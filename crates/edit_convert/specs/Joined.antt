@@ -1,5 +1,5 @@
 -- Meaning: words of public contracts.
--- A year, a month and perhaps a day joined to the text of one date, as in BibLaTeX: the date that the three fields are parsed as.
+-- A year, a month and perhaps a day joined to the text of one date, as in BibLaTeX. The three fields are parsed as this date.
 use Rattle.std.specs.Prelude.{ℕ, Bool, true, ◌&&◌, ◌||◌, if◌then◌else◌, List, [], ◌∷◌, is_some, not, Option, Some, None}
 use Rattle.std.specs.Char.{is_ascii_alphabetic}
 use Rattle.std.specs.List.{list_all}
@@ -33,8 +33,8 @@ month_date_text (Some d) =
     if is_some (first_side d.value).month && is_some (readable_value (date_of (datetime_text (first_side d.value))))
     then Some (datetime_text (first_side d.value)) else None
 
--- the text of the date that a year, a month and perhaps a day are parsed as; `None` if the year isn't four digits, if the month
--- names no month, if the day is no number, or if they are no date
+-- the text of the date that a year, a month and perhaps a day are parsed as. `None` if the year isn't four digits, if the month
+-- names no month, if the day isn't one or two digits, or if they are no date
 abbrev pub joined_text : List ℕ → List ℕ → Option (List ℕ) → Option (List ℕ)
 joined_text year month day =
     if are_digits 4 year && (is_month_alone month && is_day_alone day)

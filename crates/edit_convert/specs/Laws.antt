@@ -36,7 +36,7 @@ JoinedIsTheSame =
     (dialect : Dialect) (defines : Bool) (text : List ℕ) (e : EntryReading) (date : List ℕ)
     → joined_date dialect defines text e.fields ≡ Some date → IsDateOfParts defines e.fields date
 
--- the parts of a date are joined only if their entry has no date
+-- the parts of a date are joined only if their entry has no field `date`
 abbrev pub JoinedStaysApart : Type 0
 JoinedStaysApart =
     (dialect : Dialect) (defines : Bool) (text : List ℕ) (e : EntryReading) (date : List ℕ)

@@ -1,5 +1,6 @@
 -- Meaning: words of public contracts.
--- Notes on fields that a dialect doesn't read, or that are kept although the dialect has another field for them.
+-- Notes on fields that are kept although the dialect has another field for them or doesn't read them. There are also notes on replaced
+-- dates that it doesn't read fully.
 use Rattle.std.specs.Prelude.{ℕ, suc, Bool, ◌||◌, if◌then◌else◌, List, [], ◌∷◌, ◌++◌, codes, is_some, Option, Some, None}
 use Rattle.std.specs.List.{list_any}
 use Rattle.bib_syntax.specs.Grammar.{is_word}
@@ -39,7 +40,7 @@ abbrev pub dialect_note : Dialect → FieldReading → Option NoteKind
 dialect_note Biblatex f = biblatex_note f
 dialect_note Bibtex f = bibtex_note f
 
--- the note on a field that is kept, by the dialect's other name for it: if there is one, the entry has a field with that name
+-- the note on a field that is kept, by the dialect's other name for it. If there is one, the entry has a field with that name
 abbrev pub kept_note : Dialect → Option (List ℕ) → FieldReading → Option NoteKind
 kept_note dialect (Some other) f = Some NameIsThere
 kept_note dialect None f = dialect_note dialect f
@@ -53,7 +54,7 @@ abbrev pub replaced_note : Replacement → Option NoteKind
 replaced_note (Replacement.with_parts defines sides) = if has_unread_parts sides then Some PartsNotRead else None
 replaced_note change = None
 
--- the note on a field, by what replaces it
+-- the note on a field, by its replacement and the dialect's other name for it
 abbrev pub change_note : Dialect → Option Replacement → Option (List ℕ) → FieldReading → Option NoteKind
 change_note dialect (Some change) other f = replaced_note change
 change_note dialect None other f = kept_note dialect other f

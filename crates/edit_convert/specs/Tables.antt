@@ -37,7 +37,7 @@ sides_as_written sides = record { from = side_as_written sides.from; to = option
 abbrev pub printed_of : Option Printed → Option PrintedType
 printed_of printed = option_map (λ p. let type : PrintedType = record { name = p.name.now; text = p.text.now } in type) printed
 
--- what replaces a field, by the changes of its entry
+-- the replacement of a field, by the changes of its entry
 abbrev pub replacement_by : Changes → FieldReading → Option Replacement
 replacement_by changes f =
     first_replacement changes.defines (date_if_part (option_map string_bytes changes.joined) f)
@@ -50,7 +50,7 @@ replacement_by_one changes f =
     first_replacement changes.defines (date_if_part (option_map string_bytes changes.joined) f)
     (other_name (lent_names changes.names.items) f.name.text) (type_if_named (printed_of changes.printed) f) None
 
--- the change of a field before others, if a missing value of `type` is still to be added: before the first field that is kept
+-- the change of a field. A missing value of `type` that is still to be added comes before the first field that is kept
 abbrev pub pending_change : List ℕ → FieldReading → Option (List ℕ) → List FieldReading → Option Replacement → FieldChange
 pending_change text f (Some value) following None = FieldChange.preceded (type_field value) (codes " = ") (char.space ∷ [])
 pending_change text f pending following replacement = field_change text f following replacement

@@ -1,5 +1,5 @@
 -- Meaning: words of public contracts.
--- Types of BibTeX that are other types of BibLaTeX with a value of the field `type`, as Biber reads them: a Master's thesis is a
+-- Types of BibTeX that are other types of BibLaTeX with a value of the field `type`, as Biber reads them. A Master's thesis is a
 -- thesis with `type = {mathesis}` (BibLaTeX manual, "Type Aliases").
 use Rattle.std.specs.Prelude.{ℕ, List, [], ◌∷◌, codes, Option, Some, None}
 use Rattle.bib_text.specs.Enums.{value_named}

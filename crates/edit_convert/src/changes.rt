@@ -16,8 +16,9 @@ use bib_tables::dialects::Dialect;
 use bib_tables::mechanics::EntryType;
 use std::alloc::{AllocError, Global};
 
-// The changes of an entry: whether the file defines the abbreviation of a month; names of fields with their new names; the type of BibTeX
-// that its field `type` means; whether its date is divided; and the text of the date that its parts are joined to.
+// The changes of an entry. `defines` is whether the file defines the abbreviation of a month. `names` are names of fields with their new
+// names, and `printed` is the type of BibTeX that its field `type` means. `divides` is whether its date may be divided, and `joined` is
+// the text of the date that its parts are joined to.
 #[derive(Drop)]
 pub(crate) struct Changes {
     pub(crate) defines: bool,

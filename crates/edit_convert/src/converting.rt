@@ -8,7 +8,7 @@ ghost use Rattle.bib_syntax.specs.Reading.{FieldReading};
 ghost use Rattle.bib_syntax.specs.Views.{entry_reading_of, field_of, part_of};
 ghost use Rattle.edit_entries.specs.Placed.{IsPlaced};
 ghost use Rattle.edit_convert.specs.Conversions.{Replacement, IsConverted, conversion, date_if_divided, field_change};
-ghost use Rattle.edit_entries.specs.Changes.{edits_of_entries, edits_of_field, removal_edits, part_edits};
+ghost use Rattle.edit_entries.specs.Changes.{edits_of_entries, edits_of_field, part_edits};
 ghost use Rattle.edit_convert.specs.Conversions as spec;
 ghost use Rattle.edit_entries.specs.EditList.{edit_of};
 ghost use Rattle.edit_convert.specs.Tables.{change_edits, conversion_edits, lent_text, pending_after, pending_change, printed_of, replacement_by};
@@ -25,7 +25,7 @@ use bib_tables::dialects::Dialect;
 use bib_tables::mechanics::EntryType;
 use bib_text::spanned::Spanned;
 use edit_entries::document::RawDocument;
-use edit_entries::editing::{Edit, edited_all};
+use edit_entries::editing::{Edit, edited_all, push_removal};
 use edit_entries::values::value_end;
 use std::alloc::{AllocError, Global};
 
@@ -75,27 +75,6 @@ fn push_date_edit(
     Ok(())
 }
 
-// Adds the edit that removes a field, up to the next one. Does nothing if there is no next one.
-fn push_removal(
-    edits: &mut Vec<Edit>,
-    alloc: Global,
-    field: &Pair<'_>,
-    following: &[Pair<'_>],
-) -> Result<(), AllocError>
-    ensures { OnOk result (map edit_of edits.new.items ≡ map edit_of edits.old.items
-        ++ removal_edits (field_of field.now) (map field_of following.now)) }
-{
-    let [next, ..] = following else {
-        return Ok(());
-    };
-    edits.push(Edit {
-        start: field.key.span.start,
-        end: next.key.span.start,
-        text: String::new(alloc),
-    })?;
-    Ok(())
-}
-
 // Adds the edit of a part of a date that is joined with the others.
 fn push_joined_edit(
     edits: &mut Vec<Edit>,
@@ -134,7 +113,7 @@ fn date_if_part<'c>(joined: &'c Option<String>, field: &Pair<'_>) -> Option<&'c 
     }
 }
 
-// Adds the edit of a field `type` that became the entry's type: it is removed or, if it can't be, replaced by the text that styles print.
+// Adds the edit of a field `type` that became the entry's type: it is removed or, if it can't be, gets the text that styles print.
 fn push_type_edit(
     edits: &mut Vec<Edit>,
     alloc: Global,
@@ -373,32 +352,32 @@ fn edits(
 /// Returns the text of a document with its entry types and fields converted to those of `dialect`. Every other byte is kept: other values,
 /// comments, and the text between entries.
 ///
-/// **Types.** The name of a type that has another name in the dialect is replaced, in any ASCII case. A type that neither BibTeX nor
-/// BibLaTeX has is kept.
+/// **Types.** The name of a type that has another name in the dialect is replaced, in any ASCII case. A type without a variant of
+/// `EntryType`, such as `artwork`, is kept.
 ///
 /// For BibLaTeX a Master's thesis, a PhD thesis and a technical report without a field `type` get `type = {mathesis}`,
-/// `{phdthesis}` or `{techreport}`, as Biber reads them, before the first field that is unchanged. If there is no such field, the
-/// name of the type is kept.
+/// `{phdthesis}` or `{techreport}`, as Biber reads them. It comes before the first field that is unchanged. If there is no such
+/// field, the name of the type is kept.
 ///
-/// For BibTeX a thesis or report with one field `type` of these values becomes that type, and the field is removed. If the field is the
-/// last one, or a comment occurs between it and the next one, it gets the text that the standard styles print: `Master's thesis`,
-/// `PhD thesis` or `Technical Report`.
+/// For BibTeX a thesis with one field `type` of the first two values, or a report with the third, becomes that type, and the field is
+/// removed. If the field is the last one, or a comment occurs between it and the next one, it stays. Its value becomes the text that
+/// the standard styles print: `Master's thesis`, `PhD thesis` or `Technical Report`.
 ///
 /// **Names of fields.** For BibLaTeX `journal`, `address` and `school` become `journaltitle`, `location` and `institution`. For BibTeX
 /// `journaltitle` and `location` become `journal` and `address`; in an entry whose type before the conversion is a thesis, `institution`
 /// becomes `school`. A name is kept if the entry has a field with the other name.
 ///
-/// **Dates.** For BibTeX a `date` is replaced by `year`, and by `month` and `day` if it has them; a range also by `endyear`, `endmonth`
-/// and `endday`. This is done if its value is one literal that parses as a date, if each side is a year in four digits, perhaps
-/// with a month and a day in two each, and if the entry has one `date` and none of these fields. A month is written as its
+/// **Dates.** For BibTeX a `date` is replaced by `year`, and by `month` and `day` if it has them. A range is also replaced by `endyear`,
+/// `endmonth` and `endday`. This is done if the entry has one `date` and none of these fields, and the value is one literal that
+/// parses as a date. Each side must be a year in four digits, perhaps with a month and a day in two each. A month is written as its
 /// abbreviation. It is written as its English name in braces if the file defines the abbreviation of a month, since that may have
 /// another text.
 ///
-/// For BibLaTeX `year` and `month`, and `day` if there is one, are joined to one `date`: the last of them is replaced by the date, and
+/// For BibLaTeX `year` and `month`, and `day` if there is one, are joined to one `date`. The last of them is replaced by the date, and
 /// the others are removed. This is done if all of the following hold. The entry has one of each, and none of the fields `date`,
 /// `endyear`, `endmonth` and `endday`. The year is one literal of four digits. The month is the abbreviation of a month, and the
-/// file defines no such abbreviation, or the month is one literal that is the English name of a month, its first three letters or
-/// its number. The day, if there is one, is one literal of one or two digits. The parts are a date that exists. No comment would
+/// file defines no such abbreviation. Or it is one literal: the English name of a month, its first three letters or its number. The
+/// day, if there is one, is one literal of one or two digits. The parts are a date that exists. No comment would
 /// be removed.
 ///
 /// # Errors

@@ -98,7 +98,7 @@ fn is_date_free(fields: &[Pair<'_>]) -> bool
         )
 }
 
-// Returns whether an entry's date is replaced by fields of its parts: for BibTeX, if it may be.
+// Returns whether an entry's date may be replaced by fields of its parts in a dialect; never for BibLaTeX.
 pub(crate) fn divides_date(dialect: Dialect, fields: &[Pair<'_>]) -> bool
     ensures { result ≡ spec.divides_date dialect (map field_of fields.now) }
 {
@@ -108,7 +108,7 @@ pub(crate) fn divides_date(dialect: Dialect, fields: &[Pair<'_>]) -> bool
     }
 }
 
-// Returns the sides of a field that is a date, if the entry's date is to be divided.
+// Returns the sides of a field that is a date, if the entry's date may be divided.
 pub(crate) fn date_to_divide<'s>(
     alloc: Global,
     divides: bool,

@@ -133,7 +133,7 @@ fn month_date_text(alloc: Global, date: &Date) -> Result<Option<String>, AllocEr
 }
 
 // Returns the text of the date that `year`, `month` and `day` are parsed as. Returns `None` if `year` isn't four digits, if
-// `month` names no month, if `day` is no number, or if they are no date.
+// `month` names no month, if `day` isn't one or two digits, or if they are no date.
 fn joined_text(
     alloc: Global,
     year: &str,
@@ -205,7 +205,7 @@ fn month_among<'s>(defines: bool, fields: &[Pair<'s>]) -> Option<&'s str>
     month_value(defines, &field.value.v)
 }
 
-// Returns the text of the date whose parts are among an entry's fields, or `None` if a part is missing or has no such text.
+// Returns the text of the date whose parts are among an entry's fields, or `None` if they aren't the parts of a date (see `joined_text`).
 fn date_of_fields(
     alloc: Global,
     defines: bool,
@@ -228,7 +228,7 @@ fn date_of_fields(
     joined_text(alloc, year, month, Some(day))
 }
 
-// Returns whether there is one year, one month and at most one day, and none of the other fields of dates.
+// Returns whether there is one year, one month and at most one day, and no `date`, `endyear`, `endmonth` or `endday`.
 fn has_parts_once(fields: &[Pair<'_>]) -> bool
     ensures { result ≡ conversions.has_parts_once (map field_of fields.now) }
 {

@@ -24,14 +24,14 @@ fn kind_in(dialect: Dialect, kind: &EntryType) -> EntryType
     }
 }
 
-// Returns whether neither BibTeX nor BibLaTeX has a type.
+// Returns whether `EntryType` has no variant for a type. BibLaTeX has types without a variant, for example `artwork`.
 fn is_unknown(kind: &EntryType) -> bool
     ensures { result ≡ spec.is_unnamed_type kind.now }
 {
     matches!(kind, EntryType::Unknown(_))
 }
 
-// Returns the name of the type that a dialect uses for a type, if it is another one; a type that neither dialect has is kept.
+// Returns the name of the type that a dialect uses for a type, if it is another one. A type without a variant of `EntryType` is kept.
 pub(crate) fn other_type(dialect: Dialect, kind: &EntryType) -> Option<&'static str>
     ensures { lent_text result ≡ spec.other_type dialect kind.now }
 {

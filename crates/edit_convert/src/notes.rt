@@ -1,4 +1,5 @@
-//! Notes on the fields that a conversion keeps although the dialect doesn't read them, and on replaced dates that it doesn't read fully.
+//! Notes on the fields that a conversion keeps although the dialect has another field for them or doesn't read them. There are also notes
+//! on replaced dates that it doesn't read fully.
 
 ghost use Rattle.std.specs.Prelude.{◌≡◌, ◌++◌, IfOk, OnOk, is_some, map};
 ghost use Rattle.std.specs.Option.{option_and_then, option_map};
@@ -28,7 +29,7 @@ use std::alloc::{AllocError, Global};
 pub enum NoteKind {
     /// The field keeps its name, because its entry has a field with the dialect's name for it.
     NameIsThere,
-    /// The field is a `date` that isn't replaced: its value isn't one literal, BibTeX has no fields for it, or its entry already
+    /// The field is a `date` that isn't replaced. Its value isn't one literal, BibTeX has no fields for it, or its entry already
     /// has such fields or another `date`.
     DateStays,
     /// The field is a `month` that isn't joined with a year to a date.
@@ -292,9 +293,9 @@ fn entry_notes(
 
 /// Returns the notes on the fields of a document for a conversion to `dialect`, in file order.
 ///
-/// In both dialects there is a note on a field that keeps its name because its entry has a field with the dialect's name for it. For
-/// BibLaTeX there is a note on a month that isn't joined with a year. For BibTeX there is a note on a date that isn't divided, on a date
-/// that is divided and has a day or a second side, and on a field that no standard style reads.
+/// In both dialects, a field has a note if it keeps its name because its entry has a field with the dialect's name for it. For BibLaTeX, a
+/// month has a note if it isn't joined with a year. For BibTeX, a date has a note if it isn't divided, or if it is divided and has a day or
+/// a second side. So has any other field that no standard style reads and that isn't replaced.
 ///
 /// # Errors
 ///

@@ -101,7 +101,7 @@ pub(crate) fn printed_type(
     }
 }
 
-// Returns the value of the field `type` that is added to an entry: for BibLaTeX, if the type needs one and the entry has no field `type`.
+// Returns the value of the field `type` that is added to an entry for BibLaTeX, if the type needs one and the entry has no such field.
 pub(crate) fn missing_type(
     dialect: Dialect,
     kind: &EntryType,

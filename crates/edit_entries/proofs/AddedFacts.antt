@@ -4,7 +4,7 @@ use Rattle.std.specs.Prelude.{◌==◌, slice_get, codes}
 use Rattle.std.specs.Char.{is_whitespace}
 use Rattle.bib_text.specs.Places.{Place, place, CharAt, Longest}
 use Rattle.bib_text.specs.Places.Run.{stop, step}
-use Rattle.bib_text.proofs.PlaceFacts.{ahead_then, ahead_char, ahead_run, longest_same, same_char, same_place, stops_at}
+use Rattle.bib_text.proofs.PlaceFacts.{ahead_then, ahead_char, ahead_run, longest_same, same_char, same_place, stops_at, char_within}
 use Rattle.bib_syntax.specs.Reading.{EntryReading, FieldReading}
 use Rattle.bib_syntax.specs.Grammar.{Fields, Gap, longest}
 use Rattle.bib_syntax.proofs.FieldFacts.{ahead_gap, ahead_fields}
@@ -21,7 +21,6 @@ use Rattle.edit_entries.proofs.GrammarFacts.{below_char, gap_there, fields_there
 use Rattle.edit_entries.proofs.NewFieldFacts.{CanBePut, field_read}
 use Rattle.edit_entries.proofs.SplitFacts.{EntryBlock, ahead_file_before, block_of, split_file}
 use Rattle.edit_entries.proofs.StandsFacts.{ascii, first_part, last_part, past}
-use Rattle.edit_entries.proofs.MovedFacts.{char_within}
 use Rattle.edit_entries.proofs.EntryFacts.{goes, before_stretch, after_stretch, entry_edited_read}
 
 -- the place after the comma after an entry's key

@@ -7,6 +7,7 @@ use Rattle.std.proofs.lemmas.Option.{slice_get-map}
 use Rattle.bib_text.specs.Places.{Place, place, CharAt, Run}
 use Rattle.bib_text.specs.Places.Run.{stop, step}
 use Rattle.bib_text.proofs.PlaceFacts.{ahead_char, ahead_run, ahead_then}
+use Rattle.bib_text.proofs.ListFacts.{get_set}
 use Rattle.bib_syntax.specs.Reading.{Part, Piece, FieldReading, EntryReading}
 use Rattle.bib_syntax.specs.Reading.Piece.{literal, abbreviation}
 use Rattle.bib_syntax.specs.Grammar.{Element, Elements, Field, longest}
@@ -108,13 +109,6 @@ unmoved_field move at f stays within =
     ∙ ap (λ m. build f.name f.value.pieces m (move f.value.end)) (stays f.value.start within.value_start)
     ∙ ap (build f.name f.value.pieces f.value.start) (stays f.value.end within.value_end)
 
-within_less : (at less : ℕ) (ps : List Piece) → at ≤ less → PiecesWithin at ps → PiecesWithin less ps
-within_less at less [] more within = tt
-within_less at less (literal p ∷ ps) more within =
-    ((omega (arith, within.0.0), omega (arith, within.0.1)), within_less at less ps more within.1)
-within_less at less (abbreviation p ∷ ps) more within =
-    ((omega (arith, within.0.0), omega (arith, within.0.1)), within_less at less ps more within.1)
-
 -- a field of a document stands before its end
 pub field_stays : (d : Document) (k : ℕ) (e : EntryReading) (j : ℕ) (f : FieldReading) (move : ℕ → ℕ) (at : ℕ)
     → IsDocument d → slice_get d.says.entries k ≡ Some e → slice_get e.fields j ≡ Some f → f.value.end ≤ at
@@ -125,11 +119,6 @@ field_stays d k e j f move at read here there below stays =
     unmoved_field move f.value.end f (λ n small. stays n (omega arith)) (field_within g.field)
 
 -- ---- lists with another element in the place of one
-
-pub get_set_same : {A : Type 0} (xs : List A) (k : ℕ) (x y : A) → slice_get xs k ≡ Some x → slice_get (slice_set xs k y) k ≡ Some y
-get_set_same [] k x y here = absurd (cc)
-get_set_same (z ∷ zs) zero x y here = refl
-get_set_same (z ∷ zs) (suc k) x y here = get_set_same zs k x y here
 
 pub get_set_other : {A : Type 0} (xs : List A) (k j : ℕ) (y : A) → (j ≡ k → ⊥) → slice_get (slice_set xs k y) j ≡ slice_get xs j
 get_set_other [] k j y other = refl
@@ -228,7 +217,7 @@ other_entries d after edit k e entry read a some here agrees i x there =
           let x_is : x ≡ e = cc in (
             entry,
             subst (λ n. slice_get (slice_set all n entry) i ≡ Some entry) same.1
-                (get_set_same all i (moved_entry (moved_place edit) found.0) entry moved),
+                (get_set all i (moved_entry (moved_place edit) found.0) entry moved),
             subst (λ z. AgreesIn edit.start z entry) (sym x_is) agrees,
           )
       | inr other ↦ (

@@ -1,9 +1,10 @@
 -- Braces of a text, counted from its start.
 use Rattle.std.proofs.Common.{◌≡◌, ◌⊎◌, inl, inr, ℕ, zero, suc, ◌+◌, ◌-◌, ◌<◌, ◌≤◌, Bool, true, false, cond, List, length, take, get_or, refl, sym, ap, ◌∙◌, subst, arith, MatchBool}
-use Rattle.std.specs.Prelude.{◌==◌, ◌&&◌, nat_lt, not}
+use Rattle.std.specs.Prelude.{◌==◌, nat_lt, not}
 use Rattle.std.proofs.lemmas.Bool.Decides.{nat_tests}
 use Rattle.std.proofs.lemmas.List.{take_all}
 use Rattle.std.proofs.lemmas.List.Filters.{length-filter_more}
+use Rattle.std.proofs.lemmas.Bool.{and_parts, and_from}
 use Rattle.edit_entries.specs.Balance.{IsBalanced, byte_count, closes_opened, is_balanced}
 
 -- the first bytes of a text: no prefix has more closing braces than opening ones, and this many braces are open
@@ -125,21 +126,13 @@ module _ (text : List ℕ) (i depth : ℕ) (past : length text ≤ i) (counted :
 
 -- ---- the test and the record agree
 
-both_true : (a b : Bool) → (a && b) ≡ true → (a ≡ true) × (b ≡ true)
-both_true true true is = (refl, refl)
-both_true true false is = cc
-both_true false b is = cc
-
-and_true : (a b : Bool) → a ≡ true → b ≡ true → (a && b) ≡ true
-and_true a b one other = ap (λ x. x && b) one ∙ other
-
 opened_each : (text : List ℕ) (n m : ℕ) → closes_opened n text ≡ true → m ≤ n
     → byte_count 125 (take m text) ≤ byte_count 123 (take m text)
 opened_each text n zero is within = omega arith
 opened_each text zero (suc m) is within = absurd (omega (arith, within))
 opened_each text (suc n) (suc m) is within =
     let parts =
-    both_true (not (nat_lt (byte_count 123 (take (suc n) text)) (byte_count 125 (take (suc n) text)))) (closes_opened n text) is in
+    and_parts (not (nat_lt (byte_count 123 (take (suc n) text)) (byte_count 125 (take (suc n) text)))) (closes_opened n text) is in
     let first = parts.0 in
     let last : byte_count 125 (take (suc n) text) ≤ byte_count 123 (take (suc n) text) = grind (arith, nat_tests, first) in
     elim (at_or_before (suc m) n (omega (arith, within))) [
@@ -154,13 +147,13 @@ each_opened : (text : List ℕ) (n : ℕ) → ((m : ℕ) → byte_count 125 (tak
 each_opened text zero each = refl
 each_opened text (suc n) each =
     let this = each (suc n) in
-    and_true (not (nat_lt (byte_count 123 (take (suc n) text)) (byte_count 125 (take (suc n) text)))) (closes_opened n text)
+    and_from (not (nat_lt (byte_count 123 (take (suc n) text)) (byte_count 125 (take (suc n) text)))) (closes_opened n text)
     (grind (arith, nat_tests, this)) (each_opened text n each)
 
 pub balanced_test : (text : List ℕ) → IsBalanced text → is_balanced text ≡ true
 balanced_test text balanced =
     let closed = balanced.closed in
-    and_true (closes_opened (length text) text) (byte_count 123 text == byte_count 125 text)
+    and_from (closes_opened (length text) text) (byte_count 123 text == byte_count 125 text)
     (each_opened text (length text) balanced.closes)
     (grind (arith, nat_tests, closed))
 
@@ -168,7 +161,7 @@ pub test_balanced : (text : List ℕ) → is_balanced text ≡ true → IsBalanc
 test_balanced text is = record { closes = λ n. prefix n (earlier n (length text)); closed = closed }
   where
     parts : (closes_opened (length text) text ≡ true) × ((byte_count 123 text == byte_count 125 text) ≡ true)
-    parts = both_true _ _ is
+    parts = and_parts _ _ is
 
     closed : byte_count 123 text ≡ byte_count 125 text
     closed = let second = parts.1 in grind (arith, nat_tests, second)

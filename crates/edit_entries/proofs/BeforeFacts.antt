@@ -1,47 +1,31 @@
 -- A new field before a field, with a comma and white space between them.
-use Rattle.std.proofs.Common.{◌≡◌, ℕ, ◌+◌, ◌<◌, ◌≤◌, List, [], ◌∷◌, ◌++◌, length, drop, map, refl, sym, ap, ◌∙◌, subst, arith, length-append, Some}
+use Rattle.std.proofs.Common.{◌≡◌, ℕ, ◌+◌, ◌≤◌, List, [], ◌∷◌, ◌++◌, length, drop, map, refl, sym, ap, ◌∙◌, subst, arith, length-append, Some}
 use Rattle.std.specs.Prelude.{◌==◌, slice_get}
 use Rattle.std.specs.Char.{is_whitespace}
-use Rattle.std.proofs.lemmas.Str.{len_utf8_bounds}
-use Rattle.bib_text.specs.Places.{Place, place, CharAt, Longest, between}
+use Rattle.bib_text.specs.Places.{Place, place, Longest, between}
 use Rattle.bib_text.specs.Places.Run.{stop}
-use Rattle.bib_text.proofs.PlaceFacts.{ahead_char, ahead_run, ahead_then, stops_at}
+use Rattle.bib_text.proofs.PlaceFacts.{ahead_char, ahead_run, ahead_then, stops_at, char_within}
 use Rattle.bib_syntax.specs.Reading.{EntryReading, FieldReading, FileReading, Part, part}
 use Rattle.bib_syntax.specs.Grammar.{Field, Identifier, longest}
 use Rattle.bib_syntax.specs.Grammar.{Gap as gap}
-use Rattle.bib_syntax.proofs.FieldFacts.{ahead_elements, ahead_field, ahead_gap, ahead_identifier}
-use Rattle.bib_syntax.proofs.FileFacts.{ahead_head}
+use Rattle.bib_syntax.proofs.FieldFacts.{ahead_elements, ahead_field, ahead_identifier}
 use Rattle.bib_syntax.proofs.LawFacts.{start_not_white, start_plain}
 use Rattle.edit_entries.specs.Changes.{NewField, field_before, field_reading, name_edit, signed_field_text}
 use Rattle.edit_entries.specs.Documents.{Document, IsDocument, text_at}
 use Rattle.edit_entries.specs.Edits.{Edit, edited, moved_field, moved_place}
-use Rattle.edit_entries.proofs.EditFacts.{after_frame, moved_after, moved_before, new_bytes, text_stands, zone_after}
+use Rattle.edit_entries.proofs.EditFacts.{moved_before, new_bytes, text_stands}
 use Rattle.edit_entries.proofs.ElementFacts.{Ending, identifier_until}
-use Rattle.edit_entries.proofs.EntryFacts.{goes}
-use Rattle.edit_entries.proofs.GrammarFacts.{below_between, below_char, elements_there}
+use Rattle.edit_entries.proofs.EntryFacts.{ahead_to_field, goes}
+use Rattle.edit_entries.proofs.FieldNameFacts.{name_replaced, name_some}
 use Rattle.edit_entries.proofs.KindFacts.{IsWithin}
 use Rattle.edit_entries.proofs.FieldMadeFacts.{IsPut}
-use Rattle.edit_entries.proofs.MovedFacts.{char_within}
 use Rattle.edit_entries.proofs.NewFieldFacts.{CanBePut, IsSign, signed_read}
 use Rattle.edit_entries.proofs.PartFacts.{IsIn}
 use Rattle.edit_entries.proofs.PlacelessFacts.{file_placeless}
 use Rattle.edit_entries.proofs.PutFacts.{Begins, NewFields, fields_put, fields_put_read}
-use Rattle.edit_entries.proofs.SplitFacts.{FieldsBefore, ahead_fields_after, ahead_fields_before, ahead_file_before, split_fields, split_file}
+use Rattle.edit_entries.proofs.SplitFacts.{FieldsBefore, ahead_fields_after, split_fields, split_file}
 use Rattle.edit_entries.proofs.StandsFacts.{AreWhite, Stands, ascii, between_stands, copied_before, copy_frame, first_part, last_part, past, run_white}
-use Rattle.edit_entries.proofs.NewValueFacts.{run_ending}
-use Rattle.edit_entries.proofs.ZoneFacts.{Inside, char_there, inside, inside_between, longest_there, there}
-
--- the stretch of a field's name
-name_some : {u v : Place} {f : FieldReading} → Field longest u f v → f.name.start < f.name.end
-name_some field =
-    omega (
-      arith,
-      ap (λ p. p.start) field.name.reading,
-      ap (λ p. p.end) field.name.reading,
-      field.name.here.next,
-      (len_utf8_bounds field.name.first).0,
-      (ahead_run field.name.rest.run).at,
-    )
+use Rattle.edit_entries.proofs.ZoneFacts.{there}
 
 -- the bytes of an edit, where they stand in the new text
 pub bytes_stand : (edit : Edit) (text : List ℕ) → edit.start ≤ length text
@@ -69,51 +53,18 @@ field_behind text f lead {u} {v} same inside_text field =
     let name : List ℕ = f.name.text in
     let move = moved_place edit in
     let new : List ℕ = edited edit text in
-    let from_value = ahead_elements field.elements in
-    let from_white' = ahead_then (ahead_run field.white'.run) from_value in
-    let from_sign = ahead_then (ahead_char field.sign) from_white' in
-    let from_name = ahead_then (ahead_run field.white.run) from_sign in
-    let at_name = ahead_identifier field.name in
-    let at_end = ahead_then at_name from_name in
-    let start_is : edit.start ≡ u.at = ap (λ p. p.start) field.name.reading in
-    let end_is : edit.end ≡ field.name_end.at = ap (λ p. p.end) field.name.reading in
-    let some : edit.start < edit.end = name_some field in
-    let within : edit.end ≤ length text = omega (arith, end_is, from_name.at) in
-    let z = zone_after edit text (omega (arith, some)) within in
-    let frame = after_frame edit text in
-    let ja : Inside frame field.name_end = inside z (at_name.text ∙ same) (omega (arith, end_is)) (omega (arith, from_name.at)) in
-    let jv : Inside frame v = inside z (at_end.text ∙ same) (omega (arith, end_is, from_name.at)) (omega arith) in
-    let jb = inside_between z ja jv (ahead_run field.white.run) from_sign in
-    let jc = inside_between z jb jv (ahead_char field.sign) from_white' in
-    let jd = inside_between z jc jv (ahead_run field.white'.run) from_value in
-    let below : v.at < frame.end = omega arith in
-    let sign : Ending field.before_sign =
-    record { char = 61; next = field.after_sign; here = field.sign; no_name = refl; no_digit = refl; no_point = refl } in
-    let next = run_ending field.white.run sign in
-    let jx : Inside frame next.next =
-    inside z (next.here.same ∙ at_name.text ∙ same) (omega (arith, (ahead_char next.here).at, end_is))
-    (omega (arith, char_within next.here, ap length next.here.same, ap length (at_name.text ∙ same))) in
+    let r = name_replaced edit text f same inside_text refl refl field in
     let size : length edit.bytes ≡ length lead + length name = length-append lead name in
-    let end_goes : move field.name_end.at ≡ edit.start + length edit.bytes =
-    omega (arith, moved_after edit field.name_end.at (omega (arith, end_is)), end_is) in
     let to : Place = place new (edit.start + length edit.bytes) in
     let from : Place = place new (edit.start + length lead) in
-    let following : CharAt to next.char (goes edit text next.next) =
-    subst (λ n. CharAt (place new n) next.char (goes edit text next.next)) end_goes (char_there z ja jx next.here) in
-    let ending : Ending to = record {
-      char = next.char;
-      next = goes edit text next.next;
-      here = following;
-      no_name = next.no_name;
-      no_digit = next.no_digit;
-      no_point = next.no_point;
-    } in
-    let stands = last_part lead name (bytes_stand edit text (omega (arith, some, within))) in
+    let stands = last_part lead name (bytes_stand edit text (omega (arith, r.some, r.within))) in
     let name_is : name ≡ between u field.name_end = ap (λ p. p.text) field.name.reading in
-    let name_within : field.name_end.at ≤ length u.text = omega (arith, from_name.at, ap length same) in
-    let c = copied_before at_name name_within (subst (λ t. Stands from t to) name_is stands) following in
+    let name_within : field.name_end.at ≤ length u.text =
+    omega (arith, ap (λ p. p.end) field.name.reading, r.within, ap length same) in
+    let c =
+    copied_before (ahead_identifier field.name) name_within (subst (λ t. Stands from t to) name_is stands) r.ending.here in
     let f' = copy_frame u field.name_end from in
-    let i = identifier_until c.zone c.start c.end (subst Ending (sym c.goes_end) ending) field.name in
+    let i = identifier_until c.zone c.start c.end (subst Ending (sym c.goes_end) r.ending) field.name in
     let i1 : Identifier longest (there f' u) (part (there f' u) (there f' field.name_end)) (there f' field.name_end) =
     subst (λ p. Identifier longest (there f' u) p (there f' field.name_end)) i.reading i in
     let i2 : Identifier longest from (part from (there f' field.name_end)) (there f' field.name_end) =
@@ -123,21 +74,7 @@ field_behind text f lead {u} {v} same inside_text field =
     let build : List ℕ → ℕ → Part = λ (t : List ℕ) (n : ℕ). record { text = t; start = from.at; end = n } in
     let named : part from to ≡ text_at (edit.start + length lead) name =
     ap (λ t. build t to.at) (between_stands name stands) ∙ ap (build name) (omega (arith, size)) in
-    record {
-      name_end = goes edit text field.name_end;
-      before_sign = goes edit text field.before_sign;
-      after_sign = goes edit text field.after_sign;
-      value_start = goes edit text field.value_start;
-      name =
-          subst (λ n. Identifier longest from (text_at (edit.start + length lead) name) (place new n)) (sym end_goes)
-          (subst (λ p. Identifier longest from p to) named i3);
-      white = longest_there z ja jb (below_char jc field.sign) field.white;
-      sign = char_there z jb jc field.sign;
-      white' = longest_there z jc jd (below_between frame from_value below) field.white';
-      elements = elements_there z jd jv below field.elements;
-      starts = ap move field.starts;
-      ends = ap move field.ends;
-    }
+    subst (λ p. Field longest from (record (moved_field move f) { name = p }) (goes edit text v)) named (r.field i3)
 
 -- a new field and a field after it, in the place of the field
 pub preceded_put : (d : Document) (f : FieldReading) (n : NewField) (sign white : List ℕ) → CanBePut n → IsSign sign → AreWhite white
@@ -164,12 +101,7 @@ preceded_put d f n sign white can is_sign all is = record {
         let s = split_file k entry read here in
         let b = s.block in
         let g = split_fields j f b.fields there' in
-        let at_field =
-        ahead_then (ahead_file_before s.first)
-        (ahead_then (ahead_head b.head)
-        (ahead_then (ahead_run b.key.run)
-        (ahead_then (ahead_run b.white.run)
-        (ahead_then (ahead_char b.comma) (ahead_then (ahead_gap b.gap) (ahead_fields_before g.first)))))) in
+        let at_field = ahead_to_field s g in
         let from_end = ahead_then (ahead_fields_after g.rest) (ahead_char b.closes) in
         let over = ahead_field g.field in
         let size : length s.end.text ≡ length text = ap length (ahead_then at_field (ahead_then over from_end)).text in

@@ -1,28 +1,19 @@
 -- A file cut before each of its entries.
-use Rattle.std.proofs.Common.{◌≡◌, ◌⊎◌, inl, inr, [], ◌++◌, refl, sym, ap, ◌∙◌, subst}
+use Rattle.std.proofs.Common.{◌≡◌, inl, inr, [], ◌++◌, refl, sym, ap, ◌∙◌, subst}
 use Rattle.std.specs.Prelude.{ℕ, ◌==◌, not, ◌&&◌, true}
 use Rattle.bib_text.specs.Places.{Place, CharAt}
-use Rattle.bib_syntax.specs.Reading.{Part, EntryReading, FileReading, then}
+use Rattle.bib_syntax.specs.Reading.{EntryReading, FileReading, then}
 use Rattle.bib_syntax.specs.Kept.{entry_alone}
-use Rattle.bib_syntax.specs.Grammar.{LineComment, BlockKind, Body, Block, File, longest}
-use Rattle.bib_syntax.specs.Grammar.{Body as body}
+use Rattle.bib_syntax.specs.Grammar.{LineComment, Block, File, longest}
 use Rattle.bib_syntax.specs.Grammar.{File as file}
 use Rattle.bib_syntax.proofs.FileFacts.{then-then}
-use Rattle.edit_entries.proofs.SplitFacts.{EntryBlock, FileBefore, entry_block}
+use Rattle.edit_entries.proofs.SplitFacts.{EntryBlock, FileBefore, entry_block, one_entry}
 
 pub data ByEntries : Place → FileReading → Type 0 where
   last : {u : Place} {says : FileReading} → File longest u says → says.entries ≡ [] → ByEntries u says
   more : {u s v : Place} {before rest : FileReading} {e : EntryReading} → FileBefore u before s → before.entries ≡ []
       → EntryBlock s e v → File longest v rest → ByEntries v rest
       → ByEntries u (then before (then (entry_alone e) rest))
-
--- a block says one entry or none
-one_or_none : {start u v : Place} {kind : Part} {k : BlockKind} {says : FileReading}
-    → Body longest start kind k u says v → (says.entries ≡ []) ⊎ ((e : EntryReading) × (says ≡ entry_alone e))
-one_or_none (body.comment brace chars closes) = inl refl
-one_or_none (body.preamble quoted white closes is_brace) = inl refl
-one_or_none (body.strings fs closes) = inl refl
-one_or_none (body.entry key_end key white comma g list closes) = inr (_, refl)
 
 after_skipped : {u v : Place} {c : ℕ} {says : FileReading} → CharAt u c v → not (c == 64) && not (c == 37) ≡ true
     → ByEntries v says → ByEntries u says
@@ -46,7 +37,7 @@ by_entries (file.end end) = ByEntries.last (file.end end) refl
 by_entries (file.skipped char passes x) = after_skipped char passes (by_entries x)
 by_entries (file.line_comment m x) = after_comment m (by_entries x)
 by_entries {u} (file.block {first = first} {rest = rest} b x) =
-    elim (one_or_none b.body) [
+    elim (one_entry b.body) [
       | inl none ↦ after_block b none (by_entries x)
       | inr one ↦ subst (λ r. ByEntries u (then r rest)) (sym one.1)
           (ByEntries.more FileBefore.none refl (entry_block one.0 b (ap (λ r. r.entries) one.1)) x (by_entries x))

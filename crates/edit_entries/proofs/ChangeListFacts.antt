@@ -1,5 +1,5 @@
 -- Changes of entries and fields, as lists of these are gone through.
-use Rattle.std.proofs.Common.{◌≡◌, ◌⊎◌, inl, inr, ℕ, zero, suc, ◌+◌, ◌<◌, ◌≤◌, List, [], ◌∷◌, ◌++◌, Option, Some, None, map, take, drop, length, get_or, refl, sym, ap, ◌∙◌, subst, arith, append_assoc, append-nil}
+use Rattle.std.proofs.Common.{◌≡◌, ◌⊎◌, inl, inr, ℕ, zero, suc, ◌+◌, ◌<◌, List, [], ◌∷◌, ◌++◌, Option, Some, None, map, take, drop, length, get_or, refl, sym, ap, ◌∙◌, subst, arith, append_assoc, append-nil}
 use Rattle.std.specs.List.{AllByRecursion, flat_map}
 use Rattle.std.proofs.lemmas.List.{map-append, take_more, take-append-drop, length-map, length-take-le}
 use Rattle.bib_text.proofs.PlaceFacts.{ahead_run}
@@ -10,6 +10,7 @@ use Rattle.edit_entries.specs.EditList.{AreEditsInOrder}
 use Rattle.edit_entries.specs.Stretches.{AreChangesInOrder, EndsInWhite}
 use Rattle.edit_entries.specs.declared.errors.EditError.{EditError}
 use Rattle.edit_entries.specs.declared.errors.EditError.TheVariants.{NotInBraces, OutOfMemory}
+use Rattle.edit_entries.proofs.TrimmedFacts.{edits_earlier}
 
 pub all_left : {A : Type 0} (P : A → Type 0) (xs ys : List A) → AllByRecursion P (xs ++ ys) → AllByRecursion P xs
 all_left P [] ys all = tt
@@ -19,7 +20,7 @@ pub all_right : {A : Type 0} (P : A → Type 0) (xs ys : List A) → AllByRecurs
 all_right P [] ys all = all
 all_right P (x ∷ xs) ys all = all_right P xs ys all.1
 
--- what holds of all that comes of some elements holds of what comes of each
+-- a property of all elements that a function makes of a list is one of those that it makes of each element
 pub all_at : {A B C : Type 0} (P : C → Type 0) (g : B → List C) (view : A → B) (xs : List A) (k : ℕ) (x : A)
     → k < length xs → x ≡ get_or xs k x → AllByRecursion P (flat_map g (map view xs)) → AllByRecursion P (g (view x))
 all_at P g view [] k x within is all = absurd (omega arith)
@@ -28,7 +29,7 @@ all_at P g view (y ∷ ys) zero x within is all =
 all_at P g view (y ∷ ys) (suc k) x within is all =
     all_at P g view ys k x (omega arith) is (all_right P (g (view y)) (flat_map g (map view ys)) all)
 
--- an error is passed on
+-- an error of a part is an error of the whole, which implies the part
 pub refused_more : (P Q : Type 0) (e : EditError) → (Q → P) → (e ≡ OutOfMemory) ⊎ ((e ≡ NotInBraces) × (P → ⊥))
     → (e ≡ OutOfMemory) ⊎ ((e ≡ NotInBraces) × (Q → ⊥))
 refused_more P Q e part (inl memory) = inl memory
@@ -88,11 +89,6 @@ module _ {A : Type 0} (view : A → EntryReading) (names : List ℕ → List ℕ
 
 -- ---- changes as edits
 
-pub earlier : (text : List ℕ) (at before : ℕ) (edits : List Edit) → before ≤ at → AreEditsInOrder text at edits
-    → AreEditsInOrder text before edits
-earlier text at before [] less order = tt
-earlier text at before (edit ∷ edits) less order = (omega (arith, order.0), order.1, order.2, order.3, order.4)
-
 pub in_order : (text : List ℕ) (at : ℕ) (changes : List Change) → AreChangesInOrder text at changes
     → AllByRecursion (EndsInWhite text) changes → AreEditsInOrder text at (map (change_edit text) changes)
 in_order text at [] apart white = tt
@@ -103,7 +99,7 @@ in_order text at (Change.value f new ∷ changes) apart white = (
   omega arith,
   apart.2,
   white.0.1,
-  earlier text f.value.end (change_edit text (Change.value f new)).end (map (change_edit text) changes)
+  edits_earlier text f.value.end (change_edit text (Change.value f new)).end (map (change_edit text) changes)
       (ahead_run white.0.0).at (in_order text f.value.end changes apart.4 white.1),
 )
 
@@ -117,7 +113,7 @@ pushed text before key refs a b c first second third =
     ∙ ap (λ l. map (change_edit text) before ++ l) (sym (map-append (change_edit text) key refs))
     ∙ sym (map-append (change_edit text) before (key ++ refs))
 
--- what holds of the change of a key
+-- a property of a change of a key is one of the change of an entry's key, if its key changes
 pub key_all : (P : Change → Type 0) (o : Option (List ℕ)) (e : EntryReading) → ((new : List ℕ) → o ≡ Some new → P (Change.key e.key new))
     → AllByRecursion P (key_change o e)
 key_all P None e holds = tt

@@ -7,14 +7,15 @@ use Rattle.std.specs.Str.{trim_end}
 use Rattle.bib_text.specs.Places.{place, Run}
 use Rattle.bib_text.proofs.PlaceFacts.{ahead_char, ahead_run, ahead_then, same_place}
 use Rattle.bib_syntax.specs.Reading.{Part, FieldReading, EntryReading}
-use Rattle.bib_syntax.proofs.FieldFacts.{ahead_field, ahead_gap, ahead_identifier}
-use Rattle.bib_syntax.proofs.FileFacts.{ahead_head}
+use Rattle.bib_syntax.proofs.FieldFacts.{ahead_field, ahead_identifier}
 use Rattle.edit_entries.specs.Edits.{Edit, edited, edited_all, moved_place, moved_field, moved_entry}
 use Rattle.edit_entries.specs.Documents.{CanBeKey, CanStandInBraces, Document, IsDocument, entry_renamed, text_at, value_changed, value_edit, value_stretch, with_value}
 use Rattle.edit_entries.specs.References.{CanBeMade, Change, Changed, change_edit}
 use Rattle.edit_entries.specs.Stretches.{AreChangesInOrder, EndsInWhite}
-use Rattle.edit_entries.proofs.SplitFacts.{ahead_fields_before, ahead_file_before, split_fields, split_file}
-use Rattle.edit_entries.proofs.ValueFacts.{field_placed, value_changed_read, value_some}
+use Rattle.edit_entries.proofs.SplitFacts.{split_fields, split_file}
+use Rattle.edit_entries.proofs.NewValueFacts.{value_changed_read}
+use Rattle.edit_entries.proofs.ValueFacts.{field_placed, value_some}
+use Rattle.edit_entries.proofs.EntryFacts.{ahead_to_field}
 use Rattle.edit_entries.proofs.RenamedFacts.{entry_renamed_read, key_placed}
 use Rattle.edit_entries.proofs.AgreementFacts.{Agrees, AgreesIn, agrees_before, agrees_self, edited_agrees, get_set_other, moved_agrees, same_bytes, same_run}
 
@@ -77,13 +78,7 @@ stretch_some : (d : Document) (k : ℕ) (e : EntryReading) (j : ℕ) (f : FieldR
 stretch_some d k e j f end read here there ordered white =
     let s = split_file k e read here in
     let g = split_fields j f s.block.fields there in
-    let to_field =
-    ahead_then (ahead_file_before s.first)
-    (ahead_then (ahead_head s.block.head)
-    (ahead_then (ahead_run s.block.key.run)
-    (ahead_then (ahead_run s.block.white.run)
-    (ahead_then (ahead_char s.block.comma)
-    (ahead_then (ahead_gap s.block.gap) (ahead_fields_before g.first)))))) in
+    let to_field = ahead_to_field s g in
     let to_value =
     ahead_then (ahead_identifier g.field.name)
     (ahead_then (ahead_run g.field.white.run)

@@ -19,6 +19,7 @@ use Rattle.bib_syntax.specs.Grammar.{File as file}
 use Rattle.bib_syntax.proofs.FieldFacts.{ahead_identifier, ahead_element, ahead_field, ahead_gap, ahead_fields}
 use Rattle.bib_syntax.proofs.FileFacts.{ahead_head}
 use Rattle.edit_entries.proofs.SplitFacts.{EntryBlock, ahead_file_before}
+use Rattle.edit_entries.proofs.EntryFacts.{ahead_entry}
 use Rattle.edit_entries.specs.Cuts.{AreEntriesCut, AreGapsCut, ArePiecesCut, CanBeCut, IsEntryCut, IsPieceCut}
 use Rattle.edit_entries.proofs.ByEntriesFacts.{ByEntries, by_entries}
 use Rattle.bib_text.proofs.BoundaryFacts.{char_boundary}
@@ -65,7 +66,8 @@ cut_file text same (file.block b x) = cut_stood text same (stood b.head.sign)
 
 -- ---- elements
 
-element_cut : (text : List ℕ) {u v : Place} {e : Piece} → u.text ≡ text → Element longest u e v → IsPieceCut text e
+-- a piece of an element lies in the text and is cut at character boundaries
+pub element_cut : (text : List ℕ) {u v : Place} {e : Piece} → u.text ≡ text → Element longest u e v → IsPieceCut text e
 element_cut text same (element.number (number.whole char digit digits ends)) = cut_stood text same (stood char)
 element_cut text same (element.number (number.broken char digit digits point others ends)) = cut_stood text same (stood char)
 element_cut text same (element.named none i) = _
@@ -169,10 +171,7 @@ pub entries_cut : (text : List ℕ) (at : ℕ) {u : Place} {says : FileReading} 
 entries_cut text at same is cut (ByEntries.last x none) = subst (λ es. AreEntriesCut text at es) (sym none) cut
 entries_cut text at {u} same is cut (ByEntries.more {s = s} {v = v} {before = before} {rest = rest} {e = e} first none b x others) =
     let to_start = ahead_file_before first in
-    let to_end =
-    ahead_then (ahead_then (ahead_head b.head) (ahead_run b.key.run))
-    (ahead_then (ahead_then (ahead_run b.white.run) (ahead_then (ahead_char b.comma) (ahead_gap b.gap)))
-    (ahead_then (ahead_fields b.fields) (ahead_char b.closes))) in
+    let to_end = ahead_entry b in
     let at_start = to_start.text ∙ same in
     let after = cut_file text (to_end.text ∙ at_start) x in
     let here = entry_cut text at_start b after in

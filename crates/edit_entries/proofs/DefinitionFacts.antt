@@ -134,10 +134,12 @@ last_there test (x ∷ xs) (suc j) y here passes = last_after test x xs (last_th
 
 -- ---- definitions
 
-lower_same : (m n : List ℕ) → is_word m n ≡ true → str_to_ascii_lowercase m ≡ str_to_ascii_lowercase n
+-- names that are equal in any ASCII case are equal in lower case
+pub lower_same : (m n : List ℕ) → is_word m n ≡ true → str_to_ascii_lowercase m ≡ str_to_ascii_lowercase n
 lower_same m n is = (bytes_eq-Decides (str_to_ascii_lowercase m) (str_to_ascii_lowercase n)).0 is
 
-word_from : (m n : List ℕ) → str_to_ascii_lowercase m ≡ str_to_ascii_lowercase n → is_word m n ≡ true
+-- names that are equal in lower case are equal in any ASCII case
+pub word_from : (m n : List ℕ) → str_to_ascii_lowercase m ≡ str_to_ascii_lowercase n → is_word m n ≡ true
 word_from m n same = (bytes_eq-Decides (str_to_ascii_lowercase m) (str_to_ascii_lowercase n)).1 same
 
 last_by_name : (m n : List ℕ) (fs : List FieldReading) → str_to_ascii_lowercase m ≡ str_to_ascii_lowercase n

@@ -8,7 +8,7 @@ use Rattle.std.specs.Cmp.Lexicographic.{pointwise}
 use Rattle.std.proofs.lemmas.List.{drop_at}
 use Rattle.std.proofs.lemmas.Str.{encode_ascii}
 use Rattle.bib_text.specs.Places.{Place, place, CharAt, between}
-use Rattle.bib_text.proofs.PlaceFacts.{Ahead, ahead_then, ahead_char, ahead_run, stops_at}
+use Rattle.bib_text.proofs.PlaceFacts.{Ahead, ahead_then, ahead_char, ahead_run, stops_at, char_within}
 use Rattle.bib_syntax.specs.Characters.{is_id_continue}
 use Rattle.bib_syntax.specs.Reading.{Part}
 use Rattle.bib_syntax.specs.Grammar.{Identifier, Number, longest}
@@ -17,7 +17,6 @@ use Rattle.bib_syntax.proofs.FieldFacts.{ahead_identifier}
 use Rattle.edit_entries.specs.Edits.{moved_part}
 use Rattle.edit_entries.proofs.ZoneFacts.{Frame, Zone, Inside, there, inside_between, char_there, run_there, longest_there, part_there}
 use Rattle.edit_entries.proofs.GrammarFacts.{below_char}
-use Rattle.edit_entries.proofs.MovedFacts.{char_within}
 use Rattle.edit_entries.proofs.StandsFacts.{Stands, between_stands, joined, stands_between, stands_char}
 
 -- ---- what may stand after an element

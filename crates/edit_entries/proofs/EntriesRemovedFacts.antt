@@ -6,8 +6,8 @@ use Rattle.std.specs.List.{remove}
 use Rattle.std.proofs.lemmas.List.{drop_at, map-append, length-take-le}
 use Rattle.std.proofs.lemmas.Option.{slice_get-map}
 use Rattle.bib_text.specs.Places.{CharAt, Longest, Place, Run, Stops, place}
-use Rattle.bib_text.proofs.ListFacts.{get_here}
-use Rattle.bib_text.proofs.PlaceFacts.{ahead_char, ahead_run, ahead_then, char_here, same_place, stops_at, stops_at_end}
+use Rattle.bib_text.proofs.ListFacts.{get_here, remove_mapped}
+use Rattle.bib_text.proofs.PlaceFacts.{ahead_char, ahead_run, ahead_then, char_here, same_place, stops_at, stops_at_end, char_within}
 use Rattle.bib_syntax.specs.Reading.{EntryReading, FileReading}
 use Rattle.bib_syntax.specs.Grammar.{Block, File, longest}
 use Rattle.bib_syntax.specs.Grammar.{File as file}
@@ -26,7 +26,6 @@ use Rattle.edit_entries.proofs.EditFacts.{front, moved_before}
 use Rattle.edit_entries.proofs.EntryFacts.{ahead_entry}
 use Rattle.edit_entries.proofs.KeptFacts.{entry_inside, entry_stays, within_earlier, within_order}
 use Rattle.edit_entries.proofs.MadeFacts.{of_entries}
-use Rattle.edit_entries.proofs.MovedFacts.{char_within}
 use Rattle.edit_entries.proofs.PlacelessFacts.{file_placeless}
 use Rattle.edit_entries.proofs.RemovalFacts.{get_remove_before}
 use Rattle.edit_entries.proofs.RemovedFacts.{after_run, entry_removed_read, taken_out}
@@ -128,12 +127,6 @@ same_rest start end text within =
 pub record Removals (d : Document) (later : List Edit) (before rest : List EntryReading) (at : ℕ) : Type 0 where
   pub chain : Chain d later before rest at
   pub stops : Stops is_whitespace (place chain.after.text at)
-
-remove_mapped : {A B : Type 0} (view : A → B) (xs : List A) (k : ℕ) → map view (remove xs k) ≡ remove (map view xs) k
-remove_mapped view [] zero = refl
-remove_mapped view [] (suc k) = refl
-remove_mapped view (x ∷ xs) zero = refl
-remove_mapped view (x ∷ xs) (suc k) = ap (λ l. view x ∷ l) (remove_mapped view xs k)
 
 -- the reading without one entry
 removed_alike : (d new : Document) (before rest : List EntryReading) (e : EntryReading) (at : ℕ)

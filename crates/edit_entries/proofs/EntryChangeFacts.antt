@@ -52,7 +52,7 @@ equals m n same = grind (arith, nat_tests)
 lower : (m n : ℕ) → m < n → (m == n) ≡ false
 lower m n less = grind (arith, nat_tests)
 
--- entries that come later than the byte offset
+-- entries that begin after the byte offset `start` have no edits and are unchanged
 later_kept : (text : List ℕ) (at start : ℕ) (change : EntryChange) (es : List EntryReading) → AreEntriesIn text at es → start < at
     → (edits_of_entries (at_start start change) text es ≡ [])
     × (map (λ e. entry_changed e (at_start start change e)) es ≡ es)

@@ -7,11 +7,12 @@ use Rattle.std.proofs.lemmas.Bool.{cases_lt}
 use Rattle.std.proofs.lemmas.Option.{slice_get-map}
 use Rattle.std.proofs.lemmas.Str.{len_utf8_bounds}
 use Rattle.bib_text.proofs.PlaceFacts.{ahead_char, ahead_run, ahead_then}
+use Rattle.bib_text.proofs.ListFacts.{get_set}
 use Rattle.bib_syntax.specs.Reading.{EntryReading, FieldReading}
 use Rattle.bib_syntax.proofs.FieldFacts.{ahead_elements}
 use Rattle.edit_entries.specs.Edits.{Edit, edited, moved_place, moved_part, moved_field, moved_entry}
 use Rattle.edit_entries.specs.Documents.{Document, IsDocument, entry_edited, field_edit, field_limit}
-use Rattle.edit_entries.proofs.AgreementFacts.{Agrees, AgreesIn, agrees_before, edited_agrees, get_set_same, moved_agrees, unmoved_part}
+use Rattle.edit_entries.proofs.AgreementFacts.{Agrees, AgreesIn, agrees_before, edited_agrees, moved_agrees, unmoved_part}
 use Rattle.edit_entries.proofs.EditFacts.{moved_after, moved_before}
 use Rattle.edit_entries.proofs.MadeFacts.{Made, MadeFrom, get_put, kind_some, kinds_edited, put_alike}
 use Rattle.edit_entries.proofs.SplitFacts.{split_fields, split_file}
@@ -166,7 +167,7 @@ field_stepped d edits before others e p entry fb now fs f g edit news given read
         entry = entry';
         field = g;
         here =
-            get_set_same (map (moved_entry move) made.after.says.entries) k (moved_entry move entry) entry' moved_here;
+            get_set (map (moved_entry move) made.after.says.entries) k (moved_entry move entry) entry' moved_here;
         there = first;
         start = begins;
       };

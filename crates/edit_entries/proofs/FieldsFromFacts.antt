@@ -2,10 +2,11 @@
 use Rattle.std.proofs.Common.{◌≡◌, ℕ, zero, suc, ◌+◌, ◌-◌, ◌≤◌, Bool, true, false, cond, List, [], length, refl, ap, ◌∙◌, sym, subst, arith}
 use Rattle.std.specs.Prelude.{◌==◌, ◌||◌}
 use Rattle.std.specs.Char.{is_whitespace}
+use Rattle.std.proofs.lemmas.Bool.{and_parts}
 use Rattle.std.proofs.lemmas.Str.{len_utf8_ascii}
 use Rattle.bib_text.specs.Places.{Place, place, CharAt, Longest, Run, Stops}
 use Rattle.bib_text.specs.Places.Run.{stop, step}
-use Rattle.bib_text.proofs.PlaceFacts.{Ahead, ahead_char, ahead_run, ahead_then, char_clash, char_left, run_append, stops_at}
+use Rattle.bib_text.proofs.PlaceFacts.{Ahead, ahead_char, ahead_run, ahead_then, char_clash, char_left, run_append, stops_at, char_within}
 use Rattle.bib_syntax.specs.Reading.{EntryReading, FieldReading}
 use Rattle.bib_syntax.specs.Grammar.{Fields, Gap, LineComment, longest}
 use Rattle.bib_syntax.specs.Grammar.{Fields as fields}
@@ -13,9 +14,8 @@ use Rattle.bib_syntax.specs.Grammar.{Gap as gap}
 use Rattle.bib_syntax.proofs.FieldFacts.{ahead_fields, ahead_gap}
 use Rattle.edit_entries.specs.Changes.{IsTrimmed, value_end}
 use Rattle.edit_entries.specs.Documents.{field_limit}
-use Rattle.edit_entries.specs.Unset.{after_bytes, comma_after, comma_end, gap_end, has_byte_at, is_closed, is_no_line_feed, line_end_at, own_end}
+use Rattle.edit_entries.specs.Unset.{after_bytes, comma_after, comma_end, gap_end, has_byte_at, has_comment_beside, is_closed, is_no_line_feed, line_end_at, own_end}
 use Rattle.edit_entries.proofs.GapEndFacts.{Starts, byte_char, comment_line, fields_start, gap_found, gap_stops, run_stopped}
-use Rattle.edit_entries.proofs.MovedFacts.{char_within}
 use Rattle.edit_entries.proofs.SplitFacts.{FieldsAfter}
 use Rattle.edit_entries.proofs.UnsetFacts.{limit_of}
 use Rattle.edit_entries.proofs.ValueFacts.{Stands, run_stands}
@@ -61,7 +61,7 @@ pub fields_from : {u v w : Place} {fs : List FieldReading} (text : List ℕ) (e 
     → is_closed text e j f ≡ true → FieldsAfter u fs v → CharAt v 125 w → FieldsFrom text (comma_end text e j f) fs v
 unfolding limit_of
 fields_from {v = v} {w = w} text e j f here stops trimmed limit closed (FieldsAfter.last space) closes =
-    by_case (has_byte_at text g 44) (has_byte_at text g 125) (has_byte_at text f.value.end 37) refl refl refl closed gap'
+    by_case (has_byte_at text g 44) (has_byte_at text g 125) (has_comment_beside text f) refl refl refl closed gap'
   where
     g : ℕ
     g = comma_after text e j f
@@ -79,7 +79,7 @@ fields_from {v = v} {w = w} text e j f here stops trimmed limit closed (FieldsAf
     within = omega (arith, limit, char_within closes, ap length ((ahead_then (ahead_gap gap') (ahead_char closes)).text))
 
     by_case : (comma brace own : Bool) → has_byte_at text g 44 ≡ comma → has_byte_at text g 125 ≡ brace
-        → has_byte_at text f.value.end 37 ≡ own → (comma || brace) ≡ true → Gap longest (place text f.value.end) v
+        → has_comment_beside text f ≡ own → (comma || brace) ≡ true → Gap longest (place text f.value.end) v
         → FieldsFrom text (cond comma (g + 1) (cond own (line_end_at text n) (value_end text f))) [] v
     by_case true brace own c b o closed x =
         let found = gap_found text f.value.end (field_limit e j) 44 x closes (omega (arith, limit)) within (omega arith) refl refl c in
@@ -98,7 +98,8 @@ fields_from {v = v} {w = w} text e j f here stops trimmed limit closed (FieldsAf
     }
     by_case false true true c b o closed (gap.white white ends) =
         let same = run_stopped white.run stops' in
-        let percent = subst (λ p. CharAt p 37 (place text (f.value.end + 1))) same (byte_char text f.value.end 37 (omega arith) o) in
+        let sign = (and_parts (has_byte_at text f.value.end 37) _ o).0 in
+        let percent = subst (λ p. CharAt p 37 (place text (f.value.end + 1))) same (byte_char text f.value.end 37 (omega arith) sign) in
         absurd (char_clash percent closes refl)
     by_case false true true c b o closed (gap.line_comment {w = after} white m white') =
         let same = run_stopped white.run stops' in

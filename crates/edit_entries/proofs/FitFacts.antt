@@ -1,39 +1,38 @@
 -- Values that can be written: their bytes are read as their pieces.
-use Rattle.std.proofs.Common.{◌≡◌, inl, ℕ, ◌+◌, ◌-◌, ◌<◌, Bool, true, false, cond, List, [], ◌∷◌, ◌++◌, length, take, drop, refl, sym, ap, ◌∙◌, subst, arith, append-nil}
+use Rattle.std.proofs.Common.{◌≡◌, ℕ, ◌+◌, ◌-◌, Bool, true, false, cond, List, [], ◌∷◌, ◌++◌, length, map, take, drop, refl, sym, ap, ◌∙◌, subst, arith, append-nil}
 use Rattle.std.specs.Prelude.{◌==◌, ◌&&◌}
 use Rattle.std.specs.Char.{is_ascii_digit}
 use Rattle.std.specs.List.{list_all}
-use Rattle.std.proofs.lemmas.Bool.Decides.{nat_tests}
 use Rattle.std.proofs.lemmas.List.{drop_at, take_all}
 use Rattle.std.proofs.lemmas.Str.{encode_ascii}
+use Rattle.std.proofs.lemmas.Bool.{and_parts}
 use Rattle.bib_text.specs.Places.{Place, place, CharAt, Run, between}
 use Rattle.bib_text.specs.Places.Run.{stop, step}
 use Rattle.bib_text.proofs.PlaceFacts.{stops_at_end}
+use Rattle.bib_text.proofs.DigitFacts.{digit_small}
 use Rattle.bib_syntax.specs.Reading.{Part}
 use Rattle.bib_syntax.specs.Reading.Piece.{abbreviation, literal}
 use Rattle.bib_syntax.specs.Grammar.{Element, Identifier, NoDigit, Number, longest}
 use Rattle.edit_entries.specs.Changes.{braced_value}
-use Rattle.edit_entries.specs.Documents.{CanStandInBraces, in_braces, text_at}
+use Rattle.edit_entries.specs.Documents.{CanStandInBraces, text_at}
 use Rattle.edit_entries.specs.Setting.{CanBeNewName, IsBare, IsWritableAt, SetValue, begins_with_digit, is_bare_number, new_value}
 use Rattle.edit_entries.proofs.NewFieldFacts.{element_read}
-use Rattle.edit_entries.proofs.NewValueFacts.{CanBeRead}
+use Rattle.edit_entries.proofs.NewValueFacts.{CanBeRead, braced_elements}
 use Rattle.edit_entries.proofs.StandsFacts.{Stands, ascii, first_part, last_part, nothing, past}
-use Rattle.edit_entries.proofs.ValueFacts.{braced_stands}
+use Rattle.edit_entries.specs.Edits.{moved_piece}
 use Rattle.bib_syntax.specs.Reading.{FieldReading}
 
 -- ---- a text in braces
 
 pub braced_read : (text : List ℕ) → CanStandInBraces text → CanBeRead (braced_value text)
-braced_read text can =
-    let whole : List ℕ = in_braces text in
-    let size : 0 + length whole - 0 ≡ length whole = omega arith in
-    element_read {a = place whole 0} whole
-    (Element.braced (braced_stands whole [] text 0 can (sym (append-nil whole)) (inl (omega arith)))) (omega arith)
-    (ap (λ n. take n whole) size ∙ take_all (length whole) whole (omega arith))
+braced_read text can u v w stands ending white stops =
+    let x = braced_elements text can u v w stands ending white stops in
+    record { reading = x.reading; elements = x.elements; alike = ap (map (moved_piece (λ n. 0))) x.is }
 
 -- ---- a whole text
 
-whole_bytes : (text : List ℕ) → between (place text 0) (place text (length text)) ≡ text
+-- the text between its start and its end is the whole text
+pub whole_bytes : (text : List ℕ) → between (place text 0) (place text (length text)) ≡ text
 whole_bytes text =
     let size : length text - 0 ≡ length text = omega arith in
     ap (λ n. take n text) size ∙ take_all (length text) text (omega arith)
@@ -47,17 +46,10 @@ whole_part text p is =
 
 -- ---- a number
 
-both_true : (a b : Bool) → (a && b) ≡ true → (a ≡ true) × (b ≡ true)
-both_true true b is = (refl, is)
-both_true false b is = absurd (cc)
-
-digit_small : (b : ℕ) → is_ascii_digit b ≡ true → b < 128
-digit_small b digit = grind (arith, nat_tests)
-
 digits_run : {u v : Place} (bytes : List ℕ) → list_all is_ascii_digit bytes ≡ true → Stands u bytes v → Run is_ascii_digit u v
 digits_run {u} {v} [] all s = subst (λ p. Run is_ascii_digit u p) (nothing s) stop
 digits_run {u} {v} (b ∷ bs) all s =
-    let both = both_true (is_ascii_digit b) (list_all is_ascii_digit bs) all in
+    let both = and_parts (is_ascii_digit b) (list_all is_ascii_digit bs) all in
     step (ascii b (digit_small b both.0) (first_part (b ∷ []) bs s)) both.0
     (digits_run {u = past u (b ∷ [])} {v = v} bs both.1 (last_part (b ∷ []) bs s))
 

@@ -27,7 +27,7 @@ use Rattle.edit_entries.proofs.ZoneFacts.{Frame, Zone, Inside, there, inside_bet
 pub below_between : (f : Frame) {v w : Place} → Ahead w v → v.at < f.end → w.at < f.end
 below_between f {v} {w} ahead below = omega (arith, ahead.at)
 
--- a place where a character of the zone stands
+-- a place at which a character of the zone begins lies before the end of the zone
 pub below_char : {f : Frame} {u v : Place} {c : ℕ} → Inside f v → CharAt u c v → u.at < f.end
 below_char {f} {u} {v} {c} iv char =
     let width : 1 ≤ len_utf8 c = (len_utf8_bounds c).0 in
@@ -156,7 +156,7 @@ line_comment_there {f} z iu iv below m =
     let a = inside_between z iu iv (ahead_char m.sign) (ahead_run m.line.run) in
     record { inside = there f m.inside; sign = char_there z iu a m.sign; line = longest_there z a iv below m.line }
 
--- the line feed after a line comment stands before another character
+-- a line comment ends before a later character that isn't a line feed
 pub line_before : {u v w x : Place} {c : ℕ} → LineComment u v → Ahead v w → CharAt w c x → (c == 10) ≡ false → v.at < w.at
 line_before {u} {v} {w} {x} {c} m ahead char other =
     elim (cases_lt v.at w.at) [
@@ -166,7 +166,7 @@ line_before {u} {v} {w} {x} {c} m ahead char other =
           absurd (test_clash (not (c == 10)) (not_from_false (c == 10) other) (m.line.stops c x (subst (λ p. CharAt p c x) same char)))
     ]
 
--- a gap, where what stands after it in both texts is known
+-- a gap of the first text is a gap at the moved places of the second text, if neither white space nor a percent sign comes after it there
 pub gap_until : {f : Frame} {u v x : Place} {c : ℕ} → Zone f → Inside f u → Inside f v → CharAt v c x
     → (c == 10) ≡ false → Stops is_whitespace (there f v) → Stops (λ d. d == 37) (there f v) → Gap longest u v
     → Gap longest (there f u) (there f v)
@@ -211,7 +211,7 @@ fields_there {f} z iu iv below (fields.more field g comma h rest) =
     (gap_there z a b (below_char c comma) g)
     (char_there z b c comma) (gap_there z c d (below_between f (ahead_fields rest) below) h) (fields_there z d iv below rest)
 
--- a head, where what stands after it in the second text is known
+-- a head of the first text is a head at the moved places of the second text, if no white space comes after it there
 pub head_until : {f : Frame} {u v : Place} {kind : Part} → Zone f → Inside f u → Inside f v
     → Stops is_whitespace (there f v) → Head longest u kind v
     → Head longest (there f u) (moved_part f.move kind) (there f v)
@@ -240,7 +240,7 @@ pub head_there : {f : Frame} {u v : Place} {kind : Part} → Zone f → Inside f
     → Head longest u kind v → Head longest (there f u) (moved_part f.move kind) (there f v)
 head_there z iu iv below h = head_until z iu iv (stops_there is_whitespace z iv below h.white'.stops) h
 
--- what a preamble says
+-- the reading of a preamble
 abbrev says_preamble : List ℕ → FileReading
 says_preamble text = record { preamble = text; entries = []; abbreviations = [] }
 

@@ -1,17 +1,17 @@
 -- Facts on the indices of entries by names.
 use Rattle.std.proofs.Common.{◌≡◌, ℕ, suc, ◌+◌, ◌<◌, Bool, true, false, cond, List, [], ◌∷◌, ◌++◌, Option, Some, None, length, map, take, get_or, refl, sym, ap, ◌∙◌, arith}
-use Rattle.std.specs.Prelude.{String, bytes_eq, is_some, option_map}
+use Rattle.std.specs.Prelude.{String, bytes_eq, is_some}
 use Rattle.std.specs.Borrow.{Bor}
 use Rattle.std.specs.BTreeMap.{BTreeMap, get_by_text}
 use Rattle.std.specs.Str.{str_to_ascii_lowercase}
 use Rattle.std.proofs.lemmas.List.{length-map, length-take-le}
 use Rattle.std.proofs.lemmas.Slice.Eq.{bytes_eq-Decides}
+use Rattle.bib_text.proofs.ListFacts.{mapped_more}
 use Rattle.bib_syntax.specs.Grammar.{is_word}
 use Rattle.bib_syntax.specs.Reading.{EntryReading}
 use Rattle.edit_entries.specs.Documents.{first_position, next_index}
 use Rattle.edit_entries.specs.NewKeys.{index_for, index_for_word}
 use Rattle.edit_entries.specs.References.{first_found}
-use Rattle.edit_entries.proofs.NameSetFacts.{seen_more}
 
 -- ---- one index or else another
 
@@ -42,10 +42,6 @@ given_more None true true index = refl
 given_more None true false index = refl
 given_more None false true index = refl
 given_more None false false index = refl
-
-pub some_map : {A B : Type 0} (f : A → B) (o : Option A) → is_some (option_map f o) ≡ is_some o
-some_map f None = refl
-some_map f (Some x) = refl
 
 -- ---- maps with an index for a name
 
@@ -107,7 +103,7 @@ pub first_more : {A : Type 0} (view : A → EntryReading) (test : EntryReading �
     ≡ first_found (first_position test (map view (take i xs))) (cond (test (view x)) (Some i) None)
 first_more view test xs i x within is =
     let size : length (map view (take i xs)) ≡ i = length-map (take i xs) view ∙ length-take-le i xs (omega arith) in
-    ap (first_position test) (seen_more view xs i x within is) ∙ first_append test (map view (take i xs)) (view x)
+    ap (first_position test) (mapped_more view xs i x within is) ∙ first_append test (map view (take i xs)) (view x)
     ∙ ap (λ n. first_found (first_position test (map view (take i xs))) (cond (test (view x)) (Some n) None)) size
 
 -- an index is given to one more entry

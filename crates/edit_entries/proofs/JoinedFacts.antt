@@ -6,7 +6,7 @@ use lib.Dec.{eqb}
 use Rattle.std.proofs.lemmas.Bool.{cases_lt}
 use Rattle.std.proofs.lemmas.List.{drop_at, take_all, take_at}
 use Rattle.bib_text.specs.Places.{AtEnd, Place, place, CharAt}
-use Rattle.bib_text.proofs.PlaceFacts.{ahead_char, ahead_run, char_left, no_char_at_end, run_push, stops_at, stops_at_end}
+use Rattle.bib_text.proofs.PlaceFacts.{ahead_char, ahead_run, char_left, no_char_at_end, run_push, stops_at, stops_at_end, char_within}
 use Rattle.bib_syntax.specs.Reading.{Piece, FieldReading, EntryReading, FileReading, empty_reading, then}
 use Rattle.bib_syntax.specs.Reading.Piece.{literal, abbreviation}
 use Rattle.bib_syntax.specs.Grammar.{Block, File, IsRawReading, LineComment, longest}
@@ -18,7 +18,7 @@ use Rattle.edit_entries.proofs.EditFacts.{ascii_stands, rest_stands}
 use Rattle.bib_text.proofs.BoundaryFacts.{not_over}
 use Rattle.edit_entries.proofs.ZoneFacts.{Frame, Inside, Zone, char_there, inside_between, run_there, there}
 use Rattle.edit_entries.proofs.GrammarFacts.{block_there, line_comment_there}
-use Rattle.edit_entries.proofs.MovedFacts.{body_within, char_within, file_there, run_within}
+use Rattle.edit_entries.proofs.MovedFacts.{body_within, file_there, run_within}
 
 -- ---- what stays where it is
 

@@ -3,7 +3,7 @@ use Rattle.std.proofs.Common.{◌≡◌, inr, ℕ, ◌+◌, ◌<◌, ◌≤◌, 
 use Rattle.std.specs.Prelude.{slice_get}
 use Rattle.std.proofs.lemmas.Str.{len_utf8_bounds}
 use Rattle.bib_text.specs.Places.{place, CharAt}
-use Rattle.bib_text.proofs.PlaceFacts.{ahead_char, ahead_run, ahead_then}
+use Rattle.bib_text.proofs.PlaceFacts.{ahead_char, ahead_run, ahead_then, char_within}
 use Rattle.bib_syntax.specs.Reading.{Part, EntryReading}
 use Rattle.bib_syntax.specs.Grammar.{BlockKind, Head, Identifier, block_kind, longest}
 use Rattle.bib_syntax.proofs.FieldFacts.{ahead_fields, ahead_gap, ahead_identifier}
@@ -13,7 +13,6 @@ use Rattle.edit_entries.proofs.EditFacts.{Fits, before_frame, after_frame, moved
 use Rattle.edit_entries.proofs.ZoneFacts.{Inside, char_there, inside, inside_between, longest_there, part_there}
 use Rattle.edit_entries.proofs.GrammarFacts.{below_between, below_char, fields_there, gap_there}
 use Rattle.edit_entries.proofs.SplitFacts.{EntryBlock, ahead_file_before, block_of, split_file}
-use Rattle.edit_entries.proofs.MovedFacts.{char_within}
 use Rattle.edit_entries.proofs.EntryFacts.{entry_edited_read, goes}
 use Rattle.edit_entries.proofs.ValueFacts.{run_stands}
 use Rattle.edit_entries.proofs.NameStandsFacts.{name_stands}

@@ -4,14 +4,11 @@ use Rattle.std.specs.Prelude.{◌&&◌, ◌==◌, ◌||◌, max, ◌-◌, length
 use Rattle.std.specs.Char.{is_whitespace}
 use Rattle.std.specs.List.{list_all}
 use Rattle.std.proofs.lemmas.Bool.Decides.{nat_tests}
+use Rattle.std.proofs.lemmas.Bool.{and_parts}
 use Rattle.bib_syntax.specs.Reading.{FieldReading}
 use Rattle.edit_entries.specs.Layouts.{after_equals, before_equals, is_blank_byte, new_before_sign, new_sign, padding_or, wide_column}
 use Rattle.edit_entries.proofs.NewFieldFacts.{IsSign, usual_sign}
 use Rattle.edit_entries.proofs.StandsFacts.{AreWhite, spaces_white}
-
-both : (a b : Bool) → (a && b) ≡ true → (a ≡ true) × (b ≡ true)
-both true b is = (refl, is)
-both false b is = absurd (cc)
 
 blank_white : (b : ℕ) → is_blank_byte b ≡ true → (b < 128) × (is_whitespace b ≡ true)
 blank_white b blank = by_case (b == 32) (b == 9) refl refl blank
@@ -28,7 +25,7 @@ blank_white b blank = by_case (b == 32) (b == 9) refl refl blank
 blanks_white : (bytes : List ℕ) → list_all is_blank_byte bytes ≡ true → AreWhite bytes
 blanks_white [] all = tt
 blanks_white (b ∷ bs) all =
-    let parts = both (is_blank_byte b) (list_all is_blank_byte bs) all in
+    let parts = and_parts (is_blank_byte b) (list_all is_blank_byte bs) all in
     (blank_white b parts.0, blanks_white bs parts.1)
 
 pub new_sign_is : (text name : List ℕ) (first : FieldReading) (fields : List FieldReading) → IsSign (new_sign text name first fields)
@@ -43,7 +40,7 @@ new_sign_is text name first fields =
         → IsSign (cond b (new_before_sign text name first fields ++ 61 ∷ after_equals text first) (codes " = "))
     by_case false is = usual_sign
     by_case true is =
-        let parts = both (list_all is_blank_byte (before_equals text first)) (list_all is_blank_byte (after_equals text first)) is in
+        let parts = and_parts (list_all is_blank_byte (before_equals text first)) (list_all is_blank_byte (after_equals text first)) is in
         record {
           before = new_before_sign text name first fields;
           after = after_equals text first;

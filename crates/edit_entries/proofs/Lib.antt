@@ -14,6 +14,7 @@ pub mod ElementFacts
 pub mod ElementStandsFacts
 pub mod EntriesRemovedFacts
 pub mod EntryChangeFacts
+pub mod EntryCopyFacts
 pub mod EntryFacts
 pub mod FieldEditFacts
 pub mod FieldMadeFacts

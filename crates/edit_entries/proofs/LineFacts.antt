@@ -7,23 +7,21 @@ use Rattle.std.specs.Str.{IsCharBoundary}
 use Rattle.std.proofs.lemmas.Str.{len_utf8_ascii, len_utf8_bounds}
 use Rattle.bib_text.specs.Places.{Place, place, CharAt}
 use Rattle.bib_text.proofs.BoundaryFacts.{Border, char_boundary}
-use Rattle.bib_text.proofs.PlaceFacts.{Ahead, ahead_char, ahead_here, ahead_run, ahead_then, char_left, same_place, stops_at}
+use Rattle.bib_text.proofs.PlaceFacts.{Ahead, ahead_char, ahead_here, ahead_run, ahead_then, char_left, same_place, stops_at, char_within}
 use Rattle.bib_syntax.specs.Reading.{EntryReading, FieldReading}
 use Rattle.bib_syntax.specs.Grammar.{Field, Fields, Gap, longest}
 use Rattle.bib_syntax.specs.Grammar.{Fields as fields}
 use Rattle.bib_syntax.specs.Grammar.{Gap as gap}
 use Rattle.bib_syntax.proofs.FieldFacts.{ahead_elements, ahead_field, ahead_fields, ahead_gap, elements_stop}
-use Rattle.bib_syntax.proofs.FileFacts.{ahead_head}
 use Rattle.edit_entries.specs.Changes.{IsTrimmed, value_end}
 use Rattle.edit_entries.specs.Documents.{Document, IsDocument, field_limit}
-use Rattle.edit_entries.specs.Edits.{Edit, edited, moved_place, moved_entry, moved_field, moved_part}
-use Rattle.edit_entries.specs.Unset.{after_bytes, comma_after, comma_before, comma_end, end_before, has_byte_at, is_closed, is_no_line_feed, line_edit}
+use Rattle.edit_entries.specs.Edits.{Edit, edited, moved_place, moved_field}
+use Rattle.edit_entries.specs.Unset.{after_bytes, comma_after, comma_before, comma_end, end_before, has_byte_at, has_comment_beside, is_closed, is_no_line_feed, line_edit}
 use Rattle.edit_entries.proofs.EditFacts.{Fits, before_frame, after_frame, moved_after, moved_before, zone_before, zone_after}
-use Rattle.edit_entries.proofs.ZoneFacts.{Frame, Inside, Zone, char_there, inside, inside_between, longest_there, part_there, there}
-use Rattle.edit_entries.proofs.GrammarFacts.{below_between, below_char, field_there, fields_there, gap_there, head_there}
-use Rattle.edit_entries.proofs.SplitFacts.{EntryBlock, EntrySplit, FieldSplit, FieldsBefore, ahead_fields_after, ahead_fields_before, ahead_file_before, block_of, split_fields, split_file}
-use Rattle.edit_entries.proofs.MovedFacts.{char_within}
-use Rattle.edit_entries.proofs.EntryFacts.{entry_edited_read, goes}
+use Rattle.edit_entries.proofs.ZoneFacts.{Frame, Inside, Zone, char_there, inside, inside_between, there}
+use Rattle.edit_entries.proofs.GrammarFacts.{below_between, below_char, field_there, fields_there, gap_there}
+use Rattle.edit_entries.proofs.SplitFacts.{EntrySplit, FieldSplit, FieldsBefore, ahead_fields_after, ahead_file_before, split_fields, split_file}
+use Rattle.edit_entries.proofs.EntryFacts.{ahead_to_comma, ahead_to_field, before_or_at, fields_edited_read, goes}
 use Rattle.edit_entries.proofs.RemovedFacts.{taken_out}
 use Rattle.edit_entries.proofs.FieldsFromFacts.{FieldsFrom, GapAndFields, fields_from, fields_stand}
 use Rattle.edit_entries.proofs.GapEndFacts.{gap_found, gap_past}
@@ -148,17 +146,11 @@ cut_removed d k e j f edit s g {end} c r low low_is after_comma over some border
     let past : c.after.at ≤ edit.start = omega (arith, low_is, after_comma) in
     let b = s.block in
     let move = moved_place edit in
-    let to_start = ahead_file_before s.first in
-    let at_key = ahead_then to_start (ahead_head b.head) in
-    let at_end = ahead_then at_key (ahead_run b.key.run) in
-    let at_before = ahead_then at_end (ahead_run b.white.run) in
-    let at_comma = ahead_then at_before (ahead_char b.comma) in
-    let at_field = ahead_then at_comma (ahead_then (ahead_gap b.gap) (ahead_fields_before g.first)) in
-    let at_value = ahead_then at_field (ahead_field g.field) in
-    let at_brace = ahead_then at_value (ahead_fields_after g.rest) in
-    let at_close = ahead_then at_brace (ahead_char b.closes) in
+    let frame = before_frame edit text in
+    let at_comma = ahead_then (ahead_file_before s.first) (ahead_to_comma b) in
+    let at_value = ahead_then (ahead_to_field s g) (ahead_field g.field) in
+    let at_close = ahead_then at_value (ahead_then (ahead_fields_after g.rest) (ahead_char b.closes)) in
     let up = ahead_up_to c.fields in
-    let at_after = ahead_then at_comma up in
     let rest = r.rest in
     let to_brace = ahead_then (ahead_gap rest.gap) (ahead_fields rest.fields) in
     let within : edit.end ≤ length text =
@@ -175,30 +167,10 @@ cut_removed d k e j f edit s g {end} c r low low_is after_comma over some border
     let opens = gap_stands rest.gap (fields_stand rest.fields b.closes).here in
     let fits : Fits edit text = record { ordered = omega (arith, some); within = within; border = border } in
     let z1 = zone_before edit text fits in
-    let from_comma = ahead_then (ahead_char b.comma) up in
-    let from_white = ahead_then (ahead_run b.white.run) from_comma in
-    let from_key = ahead_then (ahead_run b.key.run) from_white in
-    let from_head = ahead_then (ahead_head b.head) from_key in
-    let ix : Inside (before_frame edit text) c.after =
-    record {
-      text = at_after.text;
-      start = omega arith;
-      end = past;
-      moved = ap (λ n. n + 0) (moved_before edit c.after.at (omega (arith, past, some)));
-    } in
-    let iu : Inside (before_frame edit text) s.start =
-    record {
-      text = to_start.text;
-      start = omega arith;
-      end = omega (arith, from_head.at, past);
-      moved = ap (λ n. n + 0) (moved_before edit s.start.at (omega (arith, from_head.at, past, some)));
-    } in
-    let ia = inside_between z1 iu ix (ahead_head b.head) from_key in
-    let ib = inside_between z1 ia ix (ahead_run b.key.run) from_white in
-    let ic = inside_between z1 ib ix (ahead_run b.white.run) from_comma in
-    let id = inside_between z1 ic ix (ahead_char b.comma) up in
-    let frame = before_frame edit text in
-    let comma_below = below_char id b.comma in
+    let ix : Inside frame c.after =
+    before_or_at edit text (up.text ∙ at_comma.text) past (omega (arith, past, some)) in
+    let id : Inside frame b.after_comma =
+    before_or_at edit text at_comma.text (omega (arith, up.at, past)) (omega (arith, up.at, past, some)) in
     let rest' : GapAndFields (goes edit text c.after) (map (moved_field move) g.following) (goes edit text b.brace) =
     record {
       start = goes edit text rest.start;
@@ -208,41 +180,13 @@ cut_removed d k e j f edit s g {end} c r low low_is after_comma over some border
     let all = joined (up_to_there z1 id ix c.fields) rest' in
     let listed : map (moved_field move) g.before ++ map (moved_field move) g.following ≡ remove (map (moved_field move) e.fields) j =
     sym (taken_out (moved_field move) g.before g.following f j g.index) ∙ ap (λ fs. remove (map (moved_field move) fs) j) (sym g.whole) in
-    let e' : EntryReading = record (moved_entry move e) { fields = remove (map (moved_field move) e.fields) j } in
-    let block : EntryBlock (goes edit text s.start) e' (goes edit text s.end) = record {
-      inside = goes edit text b.inside;
-      key_end = goes edit text b.key_end;
-      before_comma = goes edit text b.before_comma;
-      after_comma = goes edit text b.after_comma;
-      fields_start = all.start;
-      brace = goes edit text b.brace;
-      head = head_there z1 iu ia (below_between frame (ahead_then (ahead_run b.key.run) (ahead_run b.white.run)) comma_below) b.head;
-      is_entry = b.is_entry;
-      key = longest_there z1 ia ib (below_between frame (ahead_run b.white.run) comma_below) b.key;
-      white = longest_there z1 ib ic comma_below b.white;
-      comma = char_there z1 ic id b.comma;
-      gap = all.gap;
-      fields = subst (λ fs. Fields longest all.start fs (goes edit text b.brace)) listed all.fields;
-      closes = char_there z2 jz jd b.closes;
-      key_is = ap (moved_part move) b.key_is ∙ sym (part_there z1 ia ib (ahead_run b.key.run));
-      starts = ap move b.starts;
-      ends = ap move b.ends;
-    } in
-    let key_end_is = ap (λ p. p.end) b.key_is in
     record {
       read =
-          entry_edited_read d edit k e e' fits s
-          (omega (
-            arith,
-            past,
-            (ahead_head b.head).at,
-            (ahead_run b.key.run).at,
-            (ahead_run b.white.run).at,
-            b.comma.next,
-            (len_utf8_bounds 44).0,
-            up.at,
-          )) (omega (arith, r.is, to_brace.at, (ahead_char b.closes).at)) (block_of block);
-      past = omega (arith, past, key_end_is, (ahead_run b.white.run).at, from_comma.at);
+          fields_edited_read d edit k e (remove (map (moved_field move) e.fields) j) fits s (omega (arith, up.at, past))
+          (omega (arith, up.at, past, some)) (omega (arith, r.is, to_brace.at)) all.gap
+          (subst (λ fs. Fields longest all.start fs (goes edit text b.brace)) listed all.fields);
+      past =
+          omega (arith, past, ap (λ p. p.end) b.key_is, (ahead_run b.white.run).at, (ahead_char b.comma).at, up.at);
       after_comma = after_comma;
       over = over;
       some = some;
@@ -302,7 +246,7 @@ comma_past text e j f {u} field =
       field.starts,
     ) in
     let last : f.value.start ≤ f.value.end = omega (arith, field.starts, field.ends, (ahead_elements field.elements).at) in
-    by_case (has_byte_at text (comma_after text e j f) 44) (has_byte_at text f.value.end 37) (has_byte_at text (n - 1) 13)
+    by_case (has_byte_at text (comma_after text e j f) 44) (has_comment_beside text f) (has_byte_at text (n - 1) 13)
     (gap_past text f.value.end (field_limit e j)) first last
   where
     n : ℕ
@@ -330,13 +274,8 @@ preceded d k e j f read here there' =
     let s = split_file k e read here in
     let b = s.block in
     let g = split_fields j f b.fields there' in
-    let to_start = ahead_file_before s.first in
-    let at_key = ahead_then to_start (ahead_head b.head) in
-    let at_end = ahead_then at_key (ahead_run b.key.run) in
-    let at_before = ahead_then at_end (ahead_run b.white.run) in
-    let at_comma = ahead_then at_before (ahead_char b.comma) in
-    let at_field = ahead_then at_comma (ahead_then (ahead_gap b.gap) (ahead_fields_before g.first)) in
-    let at_value = ahead_then at_field (ahead_field g.field) in
+    let at_comma = ahead_then (ahead_file_before s.first) (ahead_to_comma b) in
+    let at_value = ahead_then (ahead_to_field s g) (ahead_field g.field) in
     let key_gap = gap.white b.white (stops_at (λ c. c == 37) b.comma refl) in
     let c = comma_found e.key.end (sym (ap (λ p. p.end) b.key_is)) key_gap b.comma b.gap g.first in
     let ends : c.from.at ≡ end_before e j = c.is ∙ sym (end_is e j g.before g.following f g.whole g.index) in

@@ -3,7 +3,7 @@ use Rattle.std.proofs.Common.{◌≡◌, ℕ, zero, suc, ◌+◌, ◌<◌, ◌�
 use Rattle.std.specs.Prelude.{slice_get}
 use Rattle.std.specs.Option.{option_map_or}
 use Rattle.bib_text.specs.Places.{place}
-use Rattle.bib_text.proofs.PlaceFacts.{ahead_char, ahead_then}
+use Rattle.bib_text.proofs.PlaceFacts.{ahead_char, ahead_then, char_within}
 use Rattle.bib_syntax.specs.Reading.{EntryReading, FieldReading}
 use Rattle.bib_syntax.proofs.FieldFacts.{ahead_fields, ahead_gap}
 use Rattle.edit_entries.specs.Documents.{Document, IsDocument, field_limit}
@@ -12,7 +12,6 @@ use Rattle.edit_entries.proofs.FieldsFromFacts.{fields_past}
 use Rattle.edit_entries.proofs.GapEndFacts.{fields_start, gap_past, gap_stops, gap_within}
 use Rattle.edit_entries.proofs.KeptFacts.{field_inside}
 use Rattle.edit_entries.proofs.LineFacts.{LineRemoved, Surroundings, before_name, comma_place, line_cut, preceded}
-use Rattle.edit_entries.proofs.MovedFacts.{char_within}
 use Rattle.edit_entries.proofs.PrefixFacts.{byte_prefix, gap_found_there, gap_prefix}
 use Rattle.edit_entries.proofs.UnsetFacts.{limit_is, limit_of}
 

@@ -10,7 +10,7 @@ use Rattle.bib_syntax.specs.Reading.{Part, EntryReading, FieldReading, FileReadi
 use Rattle.bib_syntax.specs.Grammar.{BlockKind, block_kind}
 use Rattle.edit_entries.specs.Edits.{Edit, edited, edited_all, moved_place, moved_part, moved_field, moved_entry, moved_file, placeless}
 use Rattle.edit_entries.specs.Documents.{CanBeName, Document, IsDocument, entry_edited}
-use Rattle.edit_entries.proofs.AgreementFacts.{Agrees, AgreesIn, agrees_before, edited_agrees, get_set_other, get_set_same, moved_agrees, unmoved_part}
+use Rattle.edit_entries.proofs.AgreementFacts.{Agrees, AgreesIn, agrees_before, edited_agrees, get_set_other, moved_agrees, unmoved_part}
 use Rattle.edit_entries.proofs.EditFacts.{moved_before}
 use Rattle.edit_entries.proofs.MovedFacts.{exchanged}
 use Rattle.edit_entries.proofs.RenamedFacts.{key_placed}
@@ -18,7 +18,7 @@ use Rattle.edit_entries.proofs.SplitFacts.{split_file}
 use Rattle.edit_entries.proofs.PlacelessFacts.{file_placeless}
 use Rattle.edit_entries.proofs.KindFacts.{IsWithin, kind_exchanged_read, kind_stretch, with_kind}
 use Rattle.edit_entries.proofs.PutFacts.{fields_put, put_at, put_is}
-use Rattle.bib_text.proofs.ListFacts.{get_here}
+use Rattle.bib_text.proofs.ListFacts.{get_here, get_set, map_set}
 
 -- ---- what is known where the edits from a place on are made
 
@@ -138,7 +138,7 @@ kinds_edited d after edit k e entry read a some here kept i x there below =
           let x_is : x ≡ e = cc in (
             entry,
             subst (λ n. slice_get (slice_set all n entry) i ≡ Some entry) same.1
-                (get_set_same all i (moved_entry move found.0) entry moved),
+                (get_set all i (moved_entry move found.0) entry moved),
             kept (subst (λ y. y.kind.end ≤ edit.start) x_is below) ∙ ap (λ y. y.kind) (sym x_is),
           )
       | inr other ↦
@@ -152,11 +152,6 @@ kinds_edited d after edit k e entry read a some here kept i x there below =
     ]
 
 -- ---- what is said
-
-map_set : {A B : Type 0} (view : A → B) (xs : List A) (k : ℕ) (y : A) → map view (slice_set xs k y) ≡ slice_set (map view xs) k (view y)
-map_set view [] k y = refl
-map_set view (x ∷ xs) zero y = refl
-map_set view (x ∷ xs) (suc k) y = ap (λ l. view x ∷ l) (map_set view xs k y)
 
 map_put : {A B : Type 0} (view : A → B) (xs news : List A) (j : ℕ) → map view (put_at j news xs) ≡ put_at j (map view news) (map view xs)
 map_put view [] news j = refl

@@ -4,7 +4,7 @@ use Rattle.std.specs.Prelude.{slice_set}
 use Rattle.std.proofs.lemmas.List.{length-map, map-append, set_at}
 use Rattle.bib_text.specs.Places.{Place, CharAt, Run}
 use Rattle.bib_text.specs.Places.Run.{stop, step}
-use Rattle.bib_text.proofs.PlaceFacts.{Ahead, ahead_then, ahead_char, char_left}
+use Rattle.bib_text.proofs.PlaceFacts.{Ahead, ahead_then, ahead_char, char_within}
 use Rattle.bib_syntax.specs.Reading.{Part, FieldReading, EntryReading, FileReading, then}
 use Rattle.bib_syntax.specs.Kept.{entry_alone}
 use Rattle.bib_syntax.specs.Grammar.{BlockKind, Body, File, longest}
@@ -64,12 +64,6 @@ file_before_there {f} {u} {v} z iu iv sign (FileBefore.block {first = first} {re
     (FileBefore.block (block_there z iu a b) (file_before_there z a iv sign others))
 
 -- ---- a file to its end
-
--- the place after a character is in the text
-pub char_within : {u v : Place} {c : ℕ} → CharAt u c v → v.at ≤ length v.text
-char_within {u} {v} {c} char =
-    let size : length v.text ≡ length u.text = ap length char.same in
-    omega (arith, char_left char, char.next)
 
 pub run_within : {test : ℕ → Bool} {u v : Place} → Run test u v → u.at ≤ length u.text → v.at ≤ length v.text
 run_within stop within = within

@@ -3,6 +3,7 @@ use Rattle.std.proofs.Common.{◌≡◌, ℕ, suc, Bool, List, [], ◌∷◌, �
 use Rattle.std.specs.Prelude.{is_some, option_and_then}
 use Rattle.std.specs.Option.{option_map_or}
 use Rattle.std.specs.Str.{trim}
+use Rattle.bib_text.proofs.ListFacts.{any_same}
 use Rattle.bib_tables.specs.ReferenceFields.{is_reference_field}
 use Rattle.bib_syntax.specs.Grammar.{is_word}
 use Rattle.bib_syntax.specs.Reading.{EntryReading, FieldReading, Piece}
@@ -12,7 +13,6 @@ use Rattle.edit_entries.specs.NewKeys.{index_for, index_for_word, index_in_names
 use Rattle.edit_entries.specs.References.{between_white, elements_of, first_found, has_alias, has_key_word, is_renamed, key_change, key_renaming, new_reference, reference_changes, renamed_element, renamed_list, renamed_text, renamed_value, renamed_where_listed, renaming, unless_other, value_change}
 use Rattle.edit_entries.specs.declared.new_keys.Names.{Names}
 use Rattle.edit_entries.specs.declared.new_keys.NewKeys.{NewKeys}
-use Rattle.edit_entries.proofs.NameSetFacts.{any_same}
 use Rattle.edit_entries.proofs.ReferenceFacts.{join_read}
 
 -- ---- new names that agree

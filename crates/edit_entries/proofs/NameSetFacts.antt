@@ -1,19 +1,15 @@
 -- Facts on sets of names.
-use Rattle.std.proofs.Common.{◌≡◌, ◌<◌, ◌+◌, ◌||◌, ℕ, Bool, true, false, cond, List, [], ◌∷◌, ◌++◌, map, take, length, get_or, refl, sym, ap, ap₂, ◌∙◌, append-nil}
+use Rattle.std.proofs.Common.{◌≡◌, ◌+◌, ◌||◌, ℕ, Bool, true, false, cond, List, [], ◌∷◌, ◌++◌, refl, sym, ap, ap₂, ◌∙◌, append-nil}
 use Rattle.std.specs.List.{list_any}
-use Rattle.std.proofs.lemmas.List.{map-append, take_more}
 use Rattle.std.proofs.lemmas.List.Concat.{flat_map-append}
 use Rattle.std.proofs.lemmas.List.Folds.{list_any-append}
+use Rattle.bib_text.proofs.ListFacts.{any_same}
 use Rattle.bib_syntax.specs.Reading.{EntryReading}
 use Rattle.bib_syntax.specs.Grammar.{is_word}
 use Rattle.bib_queries.specs.Known.{all_names}
 use Rattle.bib_queries.specs.Names.{entry_names}
 use Rattle.edit_entries.specs.NameSets.{AreNamesOf, holds_name}
 use Rattle.edit_entries.specs.NewNames.{has_word, shares_name}
-
-pub or_cond : (b x : Bool) → cond b true x ≡ (b || x)
-or_cond true x = refl
-or_cond false x = refl
 
 pub or_after : (b x y : Bool) → cond b true (x || y) ≡ (cond b true x || y)
 or_after true x y = refl
@@ -24,17 +20,6 @@ or_turned true true = refl
 or_turned true false = refl
 or_turned false true = refl
 or_turned false false = refl
-
--- two tests that agree
-pub any_same : {A : Type 0} (f g : A → Bool) → ((x : A) → f x ≡ g x) → (xs : List A) → list_any f xs ≡ list_any g xs
-any_same f g same [] = refl
-any_same f g same (x ∷ xs) = ap₂ (λ a b. a || b) (same x) (any_same f g same xs)
-
--- some elements and one more, as they are seen
-pub seen_more : {A B : Type 0} (view : A → B) (xs : List A) (i : ℕ) (x : A) → i < length xs → x ≡ get_or xs i x
-    → map view (take (i + 1) xs) ≡ map view (take i xs) ++ view x ∷ []
-seen_more view xs i x within is =
-    ap (map view) (take_more xs i x within ∙ ap (λ y. take i xs ++ y ∷ []) (sym is)) ∙ map-append view (take i xs) (x ∷ [])
 
 word_more : (entries : List EntryReading) (e : EntryReading) (name : List ℕ)
     → has_word (all_names (entries ++ e ∷ [])) name ≡ (has_word (entry_names e) name || has_word (all_names entries) name)

@@ -1,4 +1,4 @@
--- A name of a type or of a field that stands in a text.
+-- The bytes of the name of a type or of a field in a text, and their reading.
 use Rattle.std.proofs.Common.{◌≡◌, inr, ℕ, ◌+◌, ◌-◌, false, List, ◌++◌, length, take, drop, refl, sym, ap, ◌∙◌, subst, arith}
 use Rattle.std.proofs.lemmas.List.{take_at}
 use Rattle.bib_text.specs.Places.{Place, place, CharAt, Run, between}
@@ -10,7 +10,7 @@ use Rattle.edit_entries.specs.Documents.{CanBeName, text_at}
 use Rattle.edit_entries.proofs.EditFacts.{piece_frame, zone_piece}
 use Rattle.edit_entries.proofs.ZoneFacts.{Inside, char_there, inside_between, run_there}
 
--- a name is read where its bytes stand before a character that no name goes on with
+-- the bytes of a name are parsed as this name if the next character can't continue a name
 pub name_stands : {v : Place} (whole rest name : List ℕ) (at c : ℕ) → CanBeName name → drop at whole ≡ name ++ rest
     → CharAt (place whole (at + length name)) c v → is_id_continue c ≡ false
     → Identifier longest (place whole at) (text_at at name) (place whole (at + length name))

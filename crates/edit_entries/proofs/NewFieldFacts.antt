@@ -5,22 +5,20 @@ use Rattle.std.specs.Char.{is_whitespace}
 use Rattle.std.specs.List.{AllByRecursion}
 use Rattle.bib_text.specs.Places.{Place, place, Longest, Run, Stops, between}
 use Rattle.bib_text.specs.Places.Run.{stop}
-use Rattle.bib_text.proofs.PlaceFacts.{ahead_char, ahead_run, ahead_then, same_place, stops_at}
+use Rattle.bib_text.proofs.PlaceFacts.{ahead_char, ahead_run, ahead_then, same_place, stops_at, char_within}
 use Rattle.bib_syntax.specs.Reading.{Piece, EntryReading, FieldReading}
 use Rattle.bib_syntax.specs.Reading.Piece.{abbreviation, literal}
 use Rattle.bib_syntax.specs.Grammar.{Element, Field, longest}
 use Rattle.bib_syntax.specs.Grammar.{Elements as elements}
 use Rattle.bib_syntax.specs.Grammar.{Gap as gap}
-use Rattle.bib_syntax.proofs.FieldFacts.{ahead_field, ahead_gap, elements_stop}
-use Rattle.bib_syntax.proofs.FileFacts.{ahead_head}
+use Rattle.bib_syntax.proofs.FieldFacts.{ahead_field, elements_stop}
 use Rattle.bib_syntax.proofs.LawFacts.{start_not_white, start_plain}
 use Rattle.edit_entries.specs.Edits.{Edit, edited, moved_field, moved_piece, moved_place}
 use Rattle.edit_entries.specs.Documents.{CanBeName, Document, IsDocument, text_at}
 use Rattle.edit_entries.proofs.AgreementFacts.{Agrees, agrees_before, same_run}
 use Rattle.edit_entries.proofs.EditFacts.{after_frame, moved_after, moved_before, new_bytes, text_stands, zone_after}
-use Rattle.edit_entries.proofs.EntryFacts.{goes}
-use Rattle.edit_entries.proofs.MovedFacts.{char_within}
-use Rattle.edit_entries.proofs.SplitFacts.{FieldsBefore, ahead_fields_before, ahead_file_before, split_fields, split_file}
+use Rattle.edit_entries.proofs.EntryFacts.{ahead_to_field, goes}
+use Rattle.edit_entries.proofs.SplitFacts.{FieldsBefore, split_fields, split_file}
 use Rattle.edit_entries.proofs.ValueFacts.{elements_opens}
 use Rattle.edit_entries.proofs.ZoneFacts.{Inside, char_there, inside, run_there, stops_there, there}
 use Rattle.edit_entries.proofs.ElementFacts.{Ending}
@@ -40,7 +38,8 @@ pub record CanBePut (n : NewField) : Type 0 where
   pub name : CanBeName n.name
   pub value : CanBeRead n.value
 
-piece_placeless : (move : ℕ → ℕ) (e : Piece) → moved_piece (λ n. 0) (moved_piece move e) ≡ moved_piece (λ n. 0) e
+-- a moved piece is the old one, except for its byte offsets
+pub piece_placeless : (move : ℕ → ℕ) (e : Piece) → moved_piece (λ n. 0) (moved_piece move e) ≡ moved_piece (λ n. 0) e
 piece_placeless move (literal p) = refl
 piece_placeless move (abbreviation p) = refl
 
@@ -204,12 +203,7 @@ module _ (d : Document) (f : FieldReading) (n : NewField) (ns : List NewField) (
       let s = split_file k entry read here in
       let b = s.block in
       let g = split_fields j f b.fields there' in
-      let to_field =
-      ahead_then (ahead_file_before s.first)
-      (ahead_then (ahead_head b.head)
-      (ahead_then (ahead_run b.key.run)
-      (ahead_then (ahead_run b.white.run)
-      (ahead_then (ahead_char b.comma) (ahead_then (ahead_gap b.gap) (ahead_fields_before g.first)))))) in
+      let to_field = ahead_to_field s g in
       let at_end = ahead_then to_field (ahead_field g.field) in
       let end : place text f.value.end ≡ g.end = same_place {u = place text f.value.end} {v = g.end} (sym at_end.text) g.field.ends in
       let same = (agrees_before at f.value.end d after past agrees).text in

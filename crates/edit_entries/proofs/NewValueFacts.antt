@@ -1,5 +1,5 @@
--- A field with another value, where the bytes of the value are read as its elements wherever they stand.
-use Rattle.std.proofs.Common.{◌≡◌, inr, ℕ, ◌+◌, ◌<◌, ◌≤◌, true, List, ◌++◌, length, drop, map, refl, sym, ap, ◌∙◌, subst, arith, Some}
+-- A field with another value: the bytes of the value are parsed as its elements wherever they occur.
+use Rattle.std.proofs.Common.{◌≡◌, inr, ℕ, ◌+◌, ◌<◌, ◌≤◌, true, List, [], ◌∷◌, ◌++◌, length, drop, map, refl, sym, ap, ◌∙◌, subst, arith, Some}
 use Rattle.std.specs.Prelude.{◌==◌, not, ◌&&◌, slice_get}
 use Rattle.std.specs.Char.{is_whitespace, is_control}
 use Rattle.std.proofs.lemmas.Bool.{and_right}
@@ -7,22 +7,24 @@ use Rattle.std.proofs.lemmas.Bool.Decides.{nat_tests}
 use Rattle.std.proofs.lemmas.Str.{len_utf8_bounds}
 use Rattle.bib_text.specs.Places.{Place, place, CharAt, Run, Stops, Longest}
 use Rattle.bib_text.specs.Places.Run.{stop, step}
-use Rattle.bib_text.proofs.PlaceFacts.{ahead_then, ahead_char, ahead_run, same_place, stops_at}
+use Rattle.bib_text.proofs.PlaceFacts.{ahead_then, ahead_char, ahead_run, same_place, stops_at, char_within}
 use Rattle.bib_syntax.specs.Characters.{is_delimiter}
 use Rattle.bib_syntax.specs.Reading.{Piece, FieldReading, EntryReading}
-use Rattle.bib_syntax.specs.Grammar.{Elements, Field, Gap, longest}
+use Rattle.bib_syntax.specs.Reading.Piece.{literal}
+use Rattle.bib_text.proofs.BoundaryFacts.{Border}
+use Rattle.bib_syntax.specs.Grammar.{Braced, Elements, Field, Gap, longest}
+use Rattle.bib_syntax.specs.Grammar.{Element as element}
+use Rattle.bib_syntax.specs.Grammar.{Elements as elements}
 use Rattle.bib_syntax.specs.Grammar.{Gap as gap}
-use Rattle.bib_syntax.proofs.FieldFacts.{ahead_identifier, ahead_field, ahead_gap, elements_stop}
-use Rattle.bib_syntax.proofs.FileFacts.{ahead_head}
+use Rattle.bib_syntax.proofs.FieldFacts.{ahead_identifier, ahead_field, elements_stop}
 use Rattle.edit_entries.specs.Edits.{Edit, edited, moved_place, moved_field, moved_piece}
-use Rattle.edit_entries.specs.Documents.{Document, IsDocument, field_edited}
+use Rattle.edit_entries.specs.Documents.{CanStandInBraces, Document, IsDocument, field_edited, in_braces, text_at, value_changed, value_edit}
 use Rattle.edit_entries.proofs.EditFacts.{Fits, before_frame, after_frame, moved_before, moved_after, zone_before, zone_after, new_bytes, text_stands}
 use Rattle.edit_entries.proofs.ZoneFacts.{Inside, there, inside, inside_between, char_there, run_there, longest_there, stops_there}
 use Rattle.edit_entries.proofs.GrammarFacts.{below_between, below_char, identifier_there}
-use Rattle.edit_entries.proofs.SplitFacts.{FieldsAfter, ahead_file_before, ahead_fields_before, split_file, split_fields}
-use Rattle.edit_entries.proofs.MovedFacts.{char_within}
-use Rattle.edit_entries.proofs.EntryFacts.{goes, field_edited_read}
-use Rattle.edit_entries.proofs.ValueFacts.{elements_opens, value_some}
+use Rattle.edit_entries.proofs.SplitFacts.{FieldsAfter, split_file, split_fields}
+use Rattle.edit_entries.proofs.EntryFacts.{ahead_to_field, goes, field_edited_read}
+use Rattle.edit_entries.proofs.ValueFacts.{braced_stands, elements_opens, value_some}
 use Rattle.edit_entries.proofs.ElementFacts.{Ending}
 use Rattle.edit_entries.proofs.StandsFacts.{Stands}
 use Rattle.edit_entries.specs.Changes.{NewValue}
@@ -35,11 +37,19 @@ pub record AreRead (pieces : List Piece) (u w : Place) : Type 0 where
   pub elements : Elements longest u reading w
   pub alike : map (moved_piece (λ n. 0)) reading ≡ map (moved_piece (λ n. 0)) pieces
 
+-- elements that stand between two places, about which this is known
+pub record ReadWith (known : Place → List Piece → Type 0) (u w : Place) : Type 0 where
+  pub reading : List Piece
+  pub elements : Elements longest u reading w
+  pub is : known u reading
+
 -- bytes are read so wherever they stand, up to where no name and no number goes on, and white space after that
+abbrev pub CanBeReadTo : (Place → Place → Type 0) → List ℕ → Type 0
+CanBeReadTo read bytes =
+    (u v w : Place) → Stands u bytes v → Ending v → Longest is_whitespace v w → Stops (λ c. c == 35) w → read u w
+
 abbrev pub CanBeRead : NewValue → Type 0
-CanBeRead new =
-    (u v w : Place) → Stands u new.bytes v → Ending v → Longest is_whitespace v w → Stops (λ c. c == 35) w
-    → AreRead new.pieces u w
+CanBeRead new = CanBeReadTo (AreRead new.pieces) new.bytes
 
 -- ---- what stands after a value
 
@@ -81,10 +91,10 @@ record ValueStretch (edit : Edit) (text : List ℕ) (f : FieldReading) (u v : Pl
   some : edit.start < edit.end
 
 -- the elements in the place of a value's
-new_elements : (edit : Edit) (text : List ℕ) (new : NewValue) (f : FieldReading) {u v : Place} → edit.bytes ≡ new.bytes
-    → CanBeRead new → (s : ValueStretch edit text f u v)
-    → AreRead new.pieces (place (edited edit text) edit.start) (goes edit text v)
-new_elements edit text new f {u} {v} bytes can s =
+new_elements : (read : Place → Place → Type 0) (edit : Edit) (text bytes : List ℕ) (f : FieldReading) {u v : Place}
+    → edit.bytes ≡ bytes → CanBeReadTo read bytes → ValueStretch edit text f u v
+    → read (place (edited edit text) edit.start) (goes edit text v)
+new_elements read edit text new f {u} {v} bytes can s =
     let white = ahead_run s.white in
     let following = s.following in
     let within : edit.end ≤ length text =
@@ -115,11 +125,11 @@ new_elements edit text new f {u} {v} bytes can s =
     let from : Place = place (edited edit text) edit.start in
     let to : Place = goes edit text (place text edit.end) in
     let standing : drop edit.start (edited edit text) ≡ edit.bytes ++ drop edit.end text = new_bytes edit text (omega (arith, s.some)) in
-    let stands : Stands from new.bytes to = record {
+    let stands : Stands from new to = record {
       same = refl;
       here =
           standing ∙ ap (λ xs. xs ++ drop edit.end text) bytes
-          ∙ ap (λ xs. new.bytes ++ xs)
+          ∙ ap (λ xs. new ++ xs)
           (sym (text_stands (edited edit text) edit.bytes (drop edit.end text) edit.start standing)
           ∙ ap (λ n. drop n (edited edit text)) (sym is_end));
       next = is_end ∙ ap (λ xs. edit.start + length xs) bytes;
@@ -146,11 +156,11 @@ new_elements edit text new f {u} {v} bytes can s =
     record { run = run_there z2 here there' s.white; stops = stops_there is_whitespace z2 there' below stops.0 } in
     can from to (goes edit text v) stands ending' blank (stops_there (λ c. c == 35) z2 there' below stops.1)
 
-fits_value : (edit : Edit) (text : List ℕ) (new : NewValue) (f : FieldReading) {u v : Place} → edit.bytes ≡ new.bytes
-    → CanBeRead new → ValueStretch edit text f u v → Fits edit text
-fits_value edit text new f bytes can s =
+fits_value : (edit : Edit) (text : List ℕ) (f : FieldReading) (reading : List Piece) {u v : Place} → ValueStretch edit text f u v
+    → Elements longest (place (edited edit text) edit.start) reading (goes edit text v) → Fits edit text
+fits_value edit text f reading s all =
     let white = ahead_run s.white in
-    let opens = elements_opens (new_elements edit text new f bytes can s).elements in
+    let opens = elements_opens all in
     record {
       ordered = omega (arith, s.some);
       within =
@@ -169,13 +179,11 @@ fits_value edit text new f bytes can s =
 abbrev pub with_pieces : List Piece → FieldReading → FieldReading
 with_pieces pieces f = record f { value = record f.value { pieces = pieces } }
 
-new_field : (edit : Edit) (text : List ℕ) (new : NewValue) (f : FieldReading) {u v : Place}
-    → (bytes : edit.bytes ≡ new.bytes) (can : CanBeRead new) (s : ValueStretch edit text f u v)
-    → Field longest (goes edit text u)
-    (with_pieces (new_elements edit text new f bytes can s).reading (moved_field (moved_place edit) f))
-    (goes edit text v)
-new_field edit text new f {u} {v} bytes can s =
-    let fits = fits_value edit text new f bytes can s in
+new_field : (edit : Edit) (text : List ℕ) (f : FieldReading) (reading : List Piece) {u v : Place} → ValueStretch edit text f u v
+    → Elements longest (place (edited edit text) edit.start) reading (goes edit text v)
+    → Field longest (goes edit text u) (with_pieces reading (moved_field (moved_place edit) f)) (goes edit text v)
+new_field edit text f reading {u} {v} s all_new =
+    let fits = fits_value edit text f reading s all_new in
     let z1 = zone_before edit text fits in
     let field = s.field in
     let to_sign = ahead_then (ahead_identifier field.name) (ahead_run field.white.run) in
@@ -200,10 +208,8 @@ new_field edit text new f {u} {v} bytes can s =
     let ic = inside_between z1 ib iv (ahead_char field.sign) (ahead_run field.white'.run) in
     let is_at : edit.start ≡ moved_place edit field.value_start.at =
     sym (moved_before edit edit.start s.some) ∙ ap (moved_place edit) s.start in
-    let reading = (new_elements edit text new f bytes can s).reading in
     let value_elements =
-    subst (λ n. Elements longest (place (edited edit text) n) reading (goes edit text v)) is_at
-    (new_elements edit text new f bytes can s).elements in
+    subst (λ n. Elements longest (place (edited edit text) n) reading (goes edit text v)) is_at all_new in
     let opens = elements_opens value_elements in
     record {
       name_end = goes edit text field.name_end;
@@ -223,13 +229,14 @@ new_field edit text new f {u} {v} bytes can s =
 
 -- ---- a text with another value of a field
 
--- a document with another value of a field
-pub record IsExchanged (d : Document) (edit : Edit) (k : ℕ) (e : EntryReading) (j : ℕ) (f : FieldReading) (new : NewValue) : Type 0 where
-  pub reading : List Piece
-  pub alike : map (moved_piece (λ n. 0)) reading ≡ map (moved_piece (λ n. 0)) new.pieces
-  pub some : edit.start < edit.end
-  pub within : edit.start ≤ length d.text
-  pub read : IsDocument (field_edited d edit k e j (with_pieces reading (moved_field (moved_place edit) f)))
+-- a document with another value of a field, about which this is known
+record IsReplaced (d : Document) (edit : Edit) (k : ℕ) (e : EntryReading) (j : ℕ) (f : FieldReading)
+    (known : Place → List Piece → Type 0) : Type 0 where
+  reading : List Piece
+  is : known (place (edited edit d.text) edit.start) reading
+  some : edit.start < edit.end
+  within : edit.start ≤ length d.text
+  read : IsDocument (field_edited d edit k e j (with_pieces reading (moved_field (moved_place edit) f)))
 
 -- the stretch of a value up to the white space after it
 abbrev pub IsStretch : List ℕ → FieldReading → Edit → Type 0
@@ -237,19 +244,13 @@ IsStretch text f edit =
     (edit.start ≡ f.value.start) × (edit.start ≤ edit.end)
     × Run is_whitespace (place text edit.end) (place text f.value.end)
 
-pub value_exchanged : (d : Document) (edit : Edit) (k : ℕ) (e : EntryReading) (j : ℕ) (f : FieldReading)
-    (new : NewValue) → IsDocument d → slice_get d.says.entries k ≡ Some e → slice_get e.fields j ≡ Some f
-    → edit.bytes ≡ new.bytes → CanBeRead new → IsStretch d.text f edit → IsExchanged d edit k e j f new
-value_exchanged d edit k e j f new read here there' bytes can at =
+value_replaced : (known : Place → List Piece → Type 0) (d : Document) (edit : Edit) (k : ℕ) (e : EntryReading) (j : ℕ)
+    (f : FieldReading) (new : List ℕ) → IsDocument d → slice_get d.says.entries k ≡ Some e → slice_get e.fields j ≡ Some f
+    → edit.bytes ≡ new → CanBeReadTo (ReadWith known) new → IsStretch d.text f edit → IsReplaced d edit k e j f known
+value_replaced known d edit k e j f new read here there' bytes can at =
     let s = split_file k e read here in
     let g = split_fields j f s.block.fields there' in
-    let to_field =
-    ahead_then (ahead_file_before s.first)
-    (ahead_then (ahead_head s.block.head)
-    (ahead_then (ahead_run s.block.key.run)
-    (ahead_then (ahead_run s.block.white.run)
-    (ahead_then (ahead_char s.block.comma)
-    (ahead_then (ahead_gap s.block.gap) (ahead_fields_before g.first)))))) in
+    let to_field = ahead_to_field s g in
     let over = ahead_field g.field in
     let to_value =
     ahead_then (ahead_identifier g.field.name)
@@ -271,16 +272,16 @@ value_exchanged d edit k e j f new read here there' bytes can at =
       following = after_ending g.rest s.block.closes;
       some = some;
     } in
-    let fits = fits_value edit d.text new f bytes can stretch in
-    let found = new_elements edit d.text new f bytes can stretch in
+    let found = new_elements (ReadWith known) edit d.text new f bytes can stretch in
+    let fits = fits_value edit d.text f found.reading stretch found.elements in
     record {
       reading = found.reading;
-      alike = found.alike;
+      is = found.is;
       some = some;
       within = omega (arith, fits.ordered, fits.within);
       read = field_edited_read d edit k e j f (with_pieces found.reading (moved_field (moved_place edit) f)) fits s g
           (omega (arith, start, to_value.at, (ahead_char g.field.sign).at, name_before g.field)) (ahead_run blank).at
-          (new_field edit d.text new f bytes can stretch);
+          (new_field edit d.text f found.reading stretch found.elements);
     }
   where
     name_before : {u v : Place} {f : FieldReading} → (field : Field longest u f v) → u.at < field.value_start.at
@@ -290,3 +291,55 @@ value_exchanged d edit k e j f new read here there' bytes can at =
         (ahead_then (ahead_run field.white.run)
         (ahead_then (ahead_char field.sign) (ahead_run field.white'.run))) in
         omega (arith, rest.at, field.name.here.next, (len_utf8_bounds field.name.first).0)
+
+-- a document with another value of a field, up to byte offsets
+pub record IsExchanged (d : Document) (edit : Edit) (k : ℕ) (e : EntryReading) (j : ℕ) (f : FieldReading) (new : NewValue) : Type 0 where
+  pub reading : List Piece
+  pub alike : map (moved_piece (λ n. 0)) reading ≡ map (moved_piece (λ n. 0)) new.pieces
+  pub some : edit.start < edit.end
+  pub within : edit.start ≤ length d.text
+  pub read : IsDocument (field_edited d edit k e j (with_pieces reading (moved_field (moved_place edit) f)))
+
+pub value_exchanged : (d : Document) (edit : Edit) (k : ℕ) (e : EntryReading) (j : ℕ) (f : FieldReading)
+    (new : NewValue) → IsDocument d → slice_get d.says.entries k ≡ Some e → slice_get e.fields j ≡ Some f
+    → edit.bytes ≡ new.bytes → CanBeRead new → IsStretch d.text f edit → IsExchanged d edit k e j f new
+value_exchanged d edit k e j f new read here there bytes can at =
+    let known = λ (u : Place) (reading : List Piece). map (moved_piece (λ n. 0)) reading ≡ map (moved_piece (λ n. 0)) new.pieces in
+    let r =
+    value_replaced known d edit k e j f new.bytes read here there bytes (λ u v w stands ending white stops.
+    let x = can u v w stands ending white stops in
+    record { reading = x.reading; elements = x.elements; is = x.alike }) at in
+    record { reading = r.reading; alike = r.is; some = r.some; within = r.within; read = r.read }
+
+-- ---- a value in braces
+
+-- a text in braces is read as one literal, which begins after the brace
+pub braced_elements : (value : List ℕ) → CanStandInBraces value
+    → CanBeReadTo (ReadWith (λ u reading. reading ≡ literal (text_at (u.at + 1) value) ∷ [])) (in_braces value)
+braced_elements value can u v w stands ending white stops =
+    let to : v ≡ place u.text (u.at + length (in_braces value)) =
+    same_place {u = v} {v = place u.text (u.at + length (in_braces value))} stands.same stands.next in
+    let border : Border (place u.text (u.at + length (in_braces value))) =
+    subst (λ p. Border p) to (inr (ending.char, ending.next, ending.here)) in
+    let braced : Braced u (text_at (u.at + 1) value) v =
+    subst (λ p. Braced u (text_at (u.at + 1) value) p) (sym to)
+    (braced_stands u.text (drop v.at u.text) value u.at can stands.here border) in
+    record {
+      reading = literal (text_at (u.at + 1) value) ∷ [];
+      elements = elements.last (element.braced braced) white stops;
+      is = refl;
+    }
+
+pub value_changed_read : (d : Document) (k : ℕ) (e : EntryReading) (j : ℕ) (f : FieldReading) (value : List ℕ)
+    → IsDocument d → slice_get d.says.entries k ≡ Some e → slice_get e.fields j ≡ Some f → CanStandInBraces value
+    → Run is_whitespace (place d.text (value_edit d.text f value).end) (place d.text f.value.end)
+    → IsDocument (value_changed d k e j f value)
+value_changed_read d k e j f value read here there can white =
+    let edit : Edit = value_edit d.text f value in
+    let moved : FieldReading = moved_field (moved_place edit) f in
+    let r =
+    value_replaced (λ u reading. reading ≡ literal (text_at (u.at + 1) value) ∷ []) d edit k e j f (in_braces value) read here there refl
+    (braced_elements value can) (refl, omega arith, white) in
+    let kept : edit.start ≡ moved_place edit edit.start = sym (moved_before edit edit.start r.some) in
+    subst (λ pieces. IsDocument (field_edited d edit k e j (with_pieces pieces moved)))
+    (r.is ∙ ap (λ n. literal (text_at (n + 1) value) ∷ []) kept) r.read

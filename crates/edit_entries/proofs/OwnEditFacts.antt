@@ -1,31 +1,25 @@
--- An entry in which each field with a name is removed by itself.
+-- An entry from which each field with a given name is removed by an edit of its own.
 use Rattle.std.proofs.Common.{◌≡◌, ℕ, zero, suc, ◌+◌, ◌<◌, ◌≤◌, Bool, true, false, cond, List, [], ◌∷◌, ◌++◌, length, map, take, refl, sym, ap, ◌∙◌, subst, arith, append_assoc, length-append, Option, Some, None}
-use Rattle.std.specs.Prelude.{◌&&◌, ◌||◌, ◌==◌, not, option_map, slice_get}
+use Rattle.std.specs.Prelude.{◌&&◌, ◌||◌, ◌==◌, not, slice_get}
 use Rattle.std.specs.List.{list_any, remove}
 use Rattle.std.specs.Option.{option_map_or}
-use Rattle.std.proofs.lemmas.Bool.Decides.{nat_tests}
-use Rattle.std.proofs.lemmas.Option.{slice_get-map}
-use Rattle.bib_text.proofs.ListFacts.{get_here}
+use Rattle.std.proofs.lemmas.Bool.{eqb-true}
+use Rattle.bib_text.proofs.ListFacts.{get_here, element_at}
 use Rattle.bib_text.proofs.PlaceFacts.{test_clash}
 use Rattle.bib_syntax.specs.Reading.{EntryReading, FieldReading}
 use Rattle.edit_entries.specs.Changes.{IsTrimmed}
-use Rattle.edit_entries.specs.Documents.{Document, IsDocument, entry_edited, field_limit, has_name}
+use Rattle.edit_entries.specs.Documents.{Document, IsDocument, field_limit, has_name}
 use Rattle.edit_entries.specs.Edits.{Edit, edited, edited_all, moved_entry, moved_field, moved_place, placeless}
 use Rattle.edit_entries.specs.Unset.{comma_after, comma_before, comma_end, edit_before, end_before, feed_after, feed_before, gap_end, has_byte_at, has_percent, is_closed, joining_edit, line_edit, lines_edit, own_edit, own_edits, own_end, plain_edit, sign_after, sign_before, with_edit}
-use Rattle.edit_entries.proofs.AgreementFacts.{field_stays, get_set_other, get_set_same}
 use Rattle.edit_entries.proofs.CommentFacts.{joining_removed, lines_removed}
 use Rattle.edit_entries.proofs.EditFacts.{moved_before}
-use Rattle.edit_entries.proofs.FieldMadeFacts.{none_put}
 use Rattle.edit_entries.proofs.GapEndFacts.{gap_past, gap_within}
-use Rattle.edit_entries.proofs.KeptFacts.{AreEditsWithin, entry_stays, field_inside, front_kept, within_earlier}
+use Rattle.edit_entries.proofs.KeptFacts.{AreEditsWithin, field_inside, front_kept, within_earlier}
 use Rattle.edit_entries.proofs.LineFacts.{LineRemoved, before_name, line_removed, surroundings}
 use Rattle.edit_entries.proofs.LineThereFacts.{limit_after, line_there}
-use Rattle.edit_entries.proofs.MadeFacts.{of_entries, put_alike}
-use Rattle.edit_entries.proofs.RemovalFacts.{begins, get_remove_before, start_in_fields, unnamed, with_fields}
-use Rattle.edit_entries.proofs.UnsetFacts.{ends_before, field_cut}
-
-equal : (m n : ℕ) → (m == n) ≡ true → m ≡ n
-equal m n is = grind (arith, nat_tests)
+use Rattle.edit_entries.proofs.MadeFacts.{of_entries}
+use Rattle.edit_entries.proofs.RemovalFacts.{begins, field_cut_out, unnamed, with_fields}
+use Rattle.edit_entries.proofs.UnsetFacts.{field_cut}
 
 -- an edit that removes a field and no comment of another one
 own_removed : (d : Document) (k : ℕ) (e : EntryReading) (j : ℕ) (f : FieldReading) (edit : Edit) → IsDocument d
@@ -63,7 +57,7 @@ own_removed d k e j f edit read here there trimmed is =
     by_case true true true true true false true false c p s n l m chosen = absurd (cc)
     by_case true true true true true false true true c p s n l m chosen =
         let same : lines_edit d.text e j f ≡ edit = cc in
-        let limit = equal (sign_after d.text e j f) (field_limit e j) l in
+        let limit = eqb-true (sign_after d.text e j f) (field_limit e j) l in
         subst (λ x. LineRemoved d k e j f (comma_before d.text e j f + 1) x) same
         (lines_removed d k e j f read here there trimmed c s p limit m)
 
@@ -92,11 +86,6 @@ plain_parts text e j f edit is =
     by_case false closed percent c p is = absurd (cc)
 
 -- ---- lists
-
-element_at : {A : Type 0} (xs : List A) (n : ℕ) → n < length xs → (x : A) × (slice_get xs n ≡ Some x)
-element_at [] n less = absurd (omega (arith, less))
-element_at (x ∷ xs) zero less = (x, refl)
-element_at (x ∷ xs) (suc n) less = element_at xs n (omega (arith, less))
 
 -- the end before a field, if the fields before it are the same
 ends_same : (e x : EntryReading) (n : ℕ) → x.key.end ≡ e.key.end
@@ -195,39 +184,19 @@ module _ (d : Document) (before others : List EntryReading) (e : EntryReading) (
       let there : slice_get e.fields n ≡ Some f = ap (λ xs. slice_get xs n) cut ∙ get_here fb f fs in
       let there' : slice_get x.fields n ≡ Some f = rest.fields n f (omega (arith, size)) there in
       let move = moved_place edit in
-      let stays = λ (m : ℕ) (small : m ≤ f.name.start). moved_before edit m (omega (arith, small, new.over)) in
-      let z : EntryReading = with_fields (moved_entry move x) (remove (map (moved_field move) x.fields) n) in
-      let moved_here = slice_get-map (moved_entry move) rest.after.says.entries k ∙ ap (option_map (moved_entry move)) rest.here in
-      let p : EntryReading = with_fields e ((fb ++ f ∷ []) ++ unnamed name fs) in
-      let put_entry : List FieldReading → EntryReading = λ (fs : List FieldReading). with_fields (moved_entry move x) fs in
-      let put =
-      put_alike d rest.after edit before others p rest.alike x fb (unnamed name fs) f [] [] rest.here
-      (append_assoc fb (f ∷ []) (unnamed name fs)) refl in
-      let left : unnamed name (f ∷ fs) ≡ unnamed name fs = ap (λ b. cond (not b) (f ∷ unnamed name fs) (unnamed name fs)) named in
+      let gone =
+      field_cut_out d rest.after before others e x name fb f fs edit rest.read rest.here there'
+      (λ m small. moved_before edit m (omega (arith, small, new.over))) named rest.fields rest.kept rest.alike in
       record {
         after = field_cut rest.after k x n edit;
         read = new.read;
         text = ap (edited edit) rest.text;
-        entry = z;
-        here = get_set_same (map (moved_entry move) rest.after.says.entries) k (moved_entry move x) z moved_here;
+        entry = with_fields (moved_entry move x) (remove (map (moved_field move) x.fields) n);
+        here = gone.here;
         key = moved_before edit x.key.end (omega (arith, new.past, new.some)) ∙ rest.key;
-        fields = λ i g less found.
-            let found' = rest.fields i g (omega (arith, size, less)) found in
-            get_remove_before (map (moved_field move) x.fields) n i less ∙ slice_get-map (moved_field move) x.fields i
-            ∙ ap (option_map (moved_field move)) found'
-            ∙ ap Some
-            (field_stays rest.after k x i g move f.name.start rest.read rest.here found'
-            (ends_before rest.after k x i n g f rest.read rest.here less found' there') stays);
-        kept = λ i y less found.
-            let found' = rest.kept i y less found in
-            get_set_other (map (moved_entry move) rest.after.says.entries) k i z (λ same. omega (arith, same, less))
-            ∙ slice_get-map (moved_entry move) rest.after.says.entries i ∙ ap (option_map (moved_entry move)) found'
-            ∙ ap Some
-            (entry_stays rest.after i k y x move rest.read found' rest.here less
-            (λ m small. stays m (omega (arith, small, start_in_fields rest.after k x n f rest.read rest.here there'))));
-        alike =
-            ap (λ l. placeless (entry_edited rest.after edit k (put_entry l)).says) (none_put (map (moved_field move) x.fields) n)
-            ∙ put ∙ ap (λ l. placeless (of_entries d.says (before ++ with_fields e (fb ++ l) ∷ others))) (sym left);
+        fields = gone.fields;
+        kept = gone.kept;
+        alike = gone.alike;
         some = λ is. (own.after_comma, omega (arith, own.some), own.start_cut, own.end_cut, later);
         none = λ is. absurd (clash (has_name name f) (list_any (has_name name) fs) named is);
       }

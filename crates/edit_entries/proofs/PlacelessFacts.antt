@@ -6,12 +6,13 @@ use Rattle.edit_entries.specs.Edits.{moved_piece, moved_field, moved_entry, move
 
 -- ---- what is said without places
 
-pieces_placeless : (move : ℕ → ℕ) (ps : List Piece) → map (moved_piece (λ n. 0)) (map (moved_piece move) ps) ≡ map (moved_piece (λ n. 0)) ps
+pub pieces_placeless : (move : ℕ → ℕ) (ps : List Piece)
+    → map (moved_piece (λ n. 0)) (map (moved_piece move) ps) ≡ map (moved_piece (λ n. 0)) ps
 pieces_placeless move [] = refl
 pieces_placeless move (literal p ∷ ps) = ap (λ xs. moved_piece (λ n. 0) (literal p) ∷ xs) (pieces_placeless move ps)
 pieces_placeless move (abbreviation p ∷ ps) = ap (λ xs. moved_piece (λ n. 0) (abbreviation p) ∷ xs) (pieces_placeless move ps)
 
-field_placeless : (move : ℕ → ℕ) (f : FieldReading) → moved_field (λ n. 0) (moved_field move f) ≡ moved_field (λ n. 0) f
+pub field_placeless : (move : ℕ → ℕ) (f : FieldReading) → moved_field (λ n. 0) (moved_field move f) ≡ moved_field (λ n. 0) f
 field_placeless move f =
     ap
     (λ ps.
@@ -22,14 +23,14 @@ field_placeless move f =
     } in
     g) (pieces_placeless move f.value.pieces)
 
-fields_placeless : (move : ℕ → ℕ) (fs : List FieldReading)
+pub fields_placeless : (move : ℕ → ℕ) (fs : List FieldReading)
     → map (moved_field (λ n. 0)) (map (moved_field move) fs) ≡ map (moved_field (λ n. 0)) fs
 fields_placeless move [] = refl
 fields_placeless move (f ∷ fs) =
     ap (λ g. g ∷ map (moved_field (λ n. 0)) (map (moved_field move) fs)) (field_placeless move f)
     ∙ ap (λ gs. moved_field (λ n. 0) f ∷ gs) (fields_placeless move fs)
 
-entry_placeless : (move : ℕ → ℕ) (e : EntryReading) → moved_entry (λ n. 0) (moved_entry move e) ≡ moved_entry (λ n. 0) e
+pub entry_placeless : (move : ℕ → ℕ) (e : EntryReading) → moved_entry (λ n. 0) (moved_entry move e) ≡ moved_entry (λ n. 0) e
 entry_placeless move e =
     ap (λ fs. let r : EntryReading = record (moved_entry (λ n. 0) e) { fields = fs } in r)
     (fields_placeless move e.fields)

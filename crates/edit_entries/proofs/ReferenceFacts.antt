@@ -2,6 +2,7 @@
 use Rattle.std.proofs.Common.{◌≡◌, ℕ, zero, suc, ◌<◌, Bool, true, false, cond, List, [], ◌∷◌, ◌++◌, map, length, get_or, take, refl, sym, ap, ◌∙◌, arith, Option, Some, None}
 use Rattle.std.specs.Prelude.{◌||◌, is_some, option_map}
 use Rattle.std.specs.List.{find, flat_map, join_by, list_any}
+use Rattle.bib_text.proofs.OptionFacts.{some_mapped}
 
 -- the first element that passes a test, if none before it does
 pub found_at : {A : Type 0} (test : A → Bool) (xs : List A) (k : ℕ) (x : A) → k < length xs → x ≡ get_or xs k x
@@ -28,10 +29,6 @@ none_found test (y ∷ ys) x none fails = by_case (test y) none (λ rest. none_f
         → cond b (Some y) (find test (ys ++ x ∷ [])) ≡ None
     by_case true clash rest = absurd (cc)
     by_case false found rest = rest found
-
-some_mapped : {A B : Type 0} (f : A → B) (o : Option A) → is_some (option_map f o) ≡ is_some o
-some_mapped f None = refl
-some_mapped f (Some x) = refl
 
 some_found : {A : Type 0} (test : A → Bool) (xs : List A) → is_some (find test xs) ≡ list_any test xs
 some_found test [] = refl

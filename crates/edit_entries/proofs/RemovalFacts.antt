@@ -5,16 +5,16 @@ use Rattle.std.specs.List.{remove}
 use Rattle.std.specs.Option.{option_map_or}
 use Rattle.std.specs.Str.{IsCharBoundary}
 use Rattle.std.proofs.lemmas.List.{map-append, take_more, length-map, length-take-le}
-use Rattle.bib_text.proofs.ListFacts.{get_here}
+use Rattle.bib_text.proofs.ListFacts.{get_here, get_set}
 use Rattle.std.proofs.lemmas.Option.{slice_get-map}
 use Rattle.bib_syntax.specs.Reading.{FieldReading, EntryReading}
 use Rattle.edit_entries.specs.Edits.{Edit, edited, edited_all, moved_place, moved_field, moved_entry, placeless}
 use Rattle.edit_entries.specs.Documents.{Document, IsDocument, entry_edited, field_edit, field_limit, has_name}
 use Rattle.edit_entries.specs.Unset.{removals}
 use Rattle.edit_entries.proofs.EditFacts.{moved_after, moved_before}
-use Rattle.edit_entries.proofs.AgreementFacts.{field_stays, get_set_other, get_set_same}
+use Rattle.edit_entries.proofs.AgreementFacts.{field_stays, get_set_other}
 use Rattle.edit_entries.proofs.KeptFacts.{AreEditsWithin, entry_inside, entry_stays, field_inside, within_earlier}
-use Rattle.edit_entries.proofs.UnsetFacts.{ends_before, field_removed, field_removed_read, fields_placed, limit_past}
+use Rattle.edit_entries.proofs.UnsetFacts.{ends_before, field_cut, field_removed, field_removed_read, fields_placed, limit_past}
 use Rattle.edit_entries.proofs.FieldMadeFacts.{none_put}
 use Rattle.edit_entries.proofs.MadeFacts.{of_entries, put_alike}
 
@@ -73,6 +73,60 @@ limit_moved : (edit : Edit) (o : Option FieldReading) (end : ℕ) → option_map
 limit_moved edit None end is none = omega (arith, moved_after edit end (omega arith), is, ap length none)
 limit_moved edit (Some f) end is none = omega (arith, moved_after edit f.name.start (omega arith), is, ap length none)
 
+-- a document without a field of an entry: the edit ends before the fields that were gone through, and begins after the others
+pub record FieldCutOut (d after : Document) (before others : List EntryReading) (e x : EntryReading) (name : List ℕ)
+    (fb fs : List FieldReading) (edit : Edit) : Type 0 where
+  pub here : slice_get (field_cut after (length before) x (length fb) edit).says.entries (length before)
+      ≡ Some (with_fields (moved_entry (moved_place edit) x) (remove (map (moved_field (moved_place edit)) x.fields) (length fb)))
+  pub fields : (i : ℕ) (g : FieldReading) → i < length fb → slice_get e.fields i ≡ Some g
+      → slice_get (remove (map (moved_field (moved_place edit)) x.fields) (length fb)) i ≡ Some g
+  pub kept : (i : ℕ) (y : EntryReading) → i < length before → slice_get d.says.entries i ≡ Some y
+      → slice_get (field_cut after (length before) x (length fb) edit).says.entries i ≡ Some y
+  pub alike : placeless (field_cut after (length before) x (length fb) edit).says
+      ≡ placeless (of_entries d.says (before ++ with_fields e (fb ++ unnamed name fs) ∷ others))
+
+pub field_cut_out : (d after : Document) (before others : List EntryReading) (e x : EntryReading) (name : List ℕ)
+    (fb : List FieldReading) (f : FieldReading) (fs : List FieldReading) (edit : Edit) → IsDocument after
+    → slice_get after.says.entries (length before) ≡ Some x → slice_get x.fields (length fb) ≡ Some f
+    → ((m : ℕ) → m ≤ f.name.start → moved_place edit m ≡ m) → has_name name f ≡ true
+    → ((i : ℕ) (g : FieldReading) → i < length (fb ++ f ∷ []) → slice_get e.fields i ≡ Some g → slice_get x.fields i ≡ Some g)
+    → ((i : ℕ) (y : EntryReading) → i < length before → slice_get d.says.entries i ≡ Some y → slice_get after.says.entries i ≡ Some y)
+    → placeless after.says ≡ placeless (of_entries d.says (before ++ with_fields e ((fb ++ f ∷ []) ++ unnamed name fs) ∷ others))
+    → FieldCutOut d after before others e x name fb (f ∷ fs) edit
+field_cut_out d after before others e x name fb f fs edit read here there stays named fields kept alike =
+    let k : ℕ = length before in
+    let n : ℕ = length fb in
+    let move = moved_place edit in
+    let size : length (fb ++ f ∷ []) ≡ suc n = omega (arith, length-append fb (f ∷ [])) in
+    let z : EntryReading = with_fields (moved_entry move x) (remove (map (moved_field move) x.fields) n) in
+    let moved_here = slice_get-map (moved_entry move) after.says.entries k ∙ ap (option_map (moved_entry move)) here in
+    let p : EntryReading = with_fields e ((fb ++ f ∷ []) ++ unnamed name fs) in
+    let put_entry : List FieldReading → EntryReading = λ (fs : List FieldReading). with_fields (moved_entry move x) fs in
+    let put =
+    put_alike d after edit before others p alike x fb (unnamed name fs) f [] [] here
+    (append_assoc fb (f ∷ []) (unnamed name fs)) refl in
+    let left : unnamed name (f ∷ fs) ≡ unnamed name fs = ap (λ b. cond (not b) (f ∷ unnamed name fs) (unnamed name fs)) named in
+    record {
+      here = get_set (map (moved_entry move) after.says.entries) k (moved_entry move x) z moved_here;
+      fields = λ i g less found.
+          let found' = fields i g (omega (arith, size, less)) found in
+          get_remove_before (map (moved_field move) x.fields) n i less ∙ slice_get-map (moved_field move) x.fields i
+          ∙ ap (option_map (moved_field move)) found'
+          ∙ ap Some
+          (field_stays after k x i g move f.name.start read here found'
+          (ends_before after k x i n g f read here less found' there) stays);
+      kept = λ i y less found.
+          let found' = kept i y less found in
+          get_set_other (map (moved_entry move) after.says.entries) k i z (λ same. omega (arith, same, less))
+          ∙ slice_get-map (moved_entry move) after.says.entries i ∙ ap (option_map (moved_entry move)) found'
+          ∙ ap Some
+          (entry_stays after i k y x move read found' here less
+          (λ m small. stays m (omega (arith, small, start_in_fields after k x n f read here there))));
+      alike =
+          ap (λ l. placeless (entry_edited after edit k (put_entry l)).says) (none_put (map (moved_field move) x.fields) n)
+          ∙ put ∙ ap (λ l. placeless (of_entries d.says (before ++ with_fields e (fb ++ l) ∷ others))) (sym left);
+    }
+
 module _ (d : Document) (before others : List EntryReading) (e : EntryReading) (name : List ℕ) (read : IsDocument d)
     (whole : d.says.entries ≡ before ++ e ∷ others) where
   abbrev k : ℕ
@@ -93,18 +147,13 @@ module _ (d : Document) (before others : List EntryReading) (e : EntryReading) (
       let move = moved_place edit in
       let build : ℕ → Edit = λ (end : ℕ). record { start = f.name.start; end = end; bytes = [] } in
       let some : f.name.start < field_limit x n = limit_past rest.after k x n f rest.read rest.here there' in
-      let stays = λ (m : ℕ) (small : m ≤ f.name.start). moved_before edit m (omega arith) in
-      let z : EntryReading = with_fields (moved_entry move x) (remove (map (moved_field move) x.fields) n) in
-      let moved_here = slice_get-map (moved_entry move) rest.after.says.entries k ∙ ap (option_map (moved_entry move)) rest.here in
       let more : List Edit = removals name e (suc n) fs in
       let edit_is : edit ≡ field_edit e n f = ap build (subst (λ m. begins x m ≡ begins e m) size rest.limit) in
       let with_edit : Bool → List Edit = λ (b : Bool). cond b (field_edit e n f ∷ []) [] ++ more in
-      let p : EntryReading = with_fields e ((fb ++ f ∷ []) ++ unnamed name fs) in
-      let put_entry : List FieldReading → EntryReading = λ (fs : List FieldReading). with_fields (moved_entry move x) fs in
-      let put =
-      put_alike d rest.after edit before others p rest.alike x fb (unnamed name fs) f [] [] rest.here
-      (append_assoc fb (f ∷ []) (unnamed name fs)) refl in
-      let left : unnamed name (f ∷ fs) ≡ unnamed name fs = ap (λ b. cond (not b) (f ∷ unnamed name fs) (unnamed name fs)) named in
+      let gone =
+      field_cut_out d rest.after before others e x name fb f fs edit rest.read rest.here there'
+      (λ m small. moved_before edit m (omega (arith, small, some)))
+      named rest.fields rest.kept rest.alike in
       record {
         after = field_removed rest.after k x n f;
         read = field_removed_read rest.after k x n f rest.read rest.here there';
@@ -112,30 +161,16 @@ module _ (d : Document) (before others : List EntryReading) (e : EntryReading) (
             ap (edited edit) rest.text ∙ ap (λ m. edited edit (edited_all (removals name e m fs) d.text)) size
             ∙ ap (λ y. edited y (edited_all more d.text)) edit_is
             ∙ ap (λ b. edited_all (with_edit b) d.text) (sym named);
-        entry = z;
-        here = get_set_same (map (moved_entry move) rest.after.says.entries) k (moved_entry move x) z moved_here;
-        fields = λ i g less found.
-            let found' = rest.fields i g (omega (arith, size)) found in
-            get_remove_before (map (moved_field move) x.fields) n i less ∙ slice_get-map (moved_field move) x.fields i
-            ∙ ap (option_map (moved_field move)) found'
-            ∙ ap Some
-            (field_stays rest.after k x i g move f.name.start rest.read rest.here found'
-            (ends_before rest.after k x i n g f rest.read rest.here less found' there') stays);
+        entry = with_fields (moved_entry move x) (remove (map (moved_field move) x.fields) n);
+        here = gone.here;
+        fields = gone.fields;
         limit =
             ap (λ o. option_map_or (λ g. g.name.start) o (move x.end))
             (get_remove_at (map (moved_field move) x.fields) n ∙ slice_get-map (moved_field move) x.fields (suc n))
             ∙ limit_moved edit (slice_get x.fields (suc n)) x.end refl refl
             ∙ sym (ap (λ o. option_map_or (λ g. g.name.start) o e.end) there);
-        kept = λ i y less found.
-            let found' = rest.kept i y less found in
-            get_set_other (map (moved_entry move) rest.after.says.entries) k i z (λ same. omega (arith, same, less))
-            ∙ slice_get-map (moved_entry move) rest.after.says.entries i ∙ ap (option_map (moved_entry move)) found'
-            ∙ ap Some
-            (entry_stays rest.after i k y x move rest.read found' rest.here less
-            (λ m small. stays m (omega (arith, small, start_in_fields rest.after k x n f rest.read rest.here there'))));
-        alike =
-            ap (λ l. placeless (entry_edited rest.after edit k (put_entry l)).says) (none_put (map (moved_field move) x.fields) n)
-            ∙ put ∙ ap (λ l. placeless (of_entries d.says (before ++ with_fields e (fb ++ l) ∷ others))) (sym left);
+        kept = gone.kept;
+        alike = gone.alike;
       }
 
   pub all_removed : (fb fs : List FieldReading) → e.fields ≡ fb ++ fs → Removed d before others e name fb fs

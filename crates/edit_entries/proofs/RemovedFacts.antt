@@ -9,13 +9,13 @@ use Rattle.std.proofs.lemmas.List.{length-map, map-append, take_at, drop_at}
 use Rattle.std.proofs.lemmas.Str.{len_utf8_bounds, IsCharBoundary-end}
 use Rattle.bib_text.specs.Places.{Place, place, Longest, Run}
 use Rattle.bib_text.specs.Places.Run.{stop, step}
-use Rattle.bib_text.proofs.PlaceFacts.{ahead_char, ahead_run, ahead_then, char_left, same_place}
+use Rattle.bib_text.proofs.PlaceFacts.{ahead_run, ahead_then, char_left, same_place, char_within}
 use Rattle.bib_syntax.specs.Reading.{EntryReading, FieldReading, FileReading, then}
 use Rattle.bib_syntax.specs.Kept.{entry_alone}
 use Rattle.bib_syntax.specs.Grammar.{File, longest}
 use Rattle.bib_syntax.specs.Grammar.{File as file}
-use Rattle.bib_syntax.proofs.FieldFacts.{ahead_fields, ahead_gap}
-use Rattle.bib_syntax.proofs.FileFacts.{ahead_head, is_skipped, skipped_rest}
+use Rattle.bib_syntax.proofs.FieldFacts.{ahead_fields}
+use Rattle.bib_syntax.proofs.FileFacts.{is_skipped, skipped_rest}
 use Rattle.edit_entries.specs.Edits.{Edit, edited, moved_place, moved_entry, moved_field, moved_file}
 use Rattle.edit_entries.specs.Documents.{Document, EntryRemoved, HasEntry, IsEdited, IsDocument, entry_removed}
 use Rattle.edit_entries.specs.Placed.{IsEntryPlaced}
@@ -23,8 +23,8 @@ use Rattle.bib_text.proofs.BoundaryFacts.{Border, char_boundary}
 use Rattle.edit_entries.proofs.EditFacts.{Fits, before_frame, after_frame, length-edited, moved_after, moved_before, zone_before, zone_after}
 use Rattle.edit_entries.proofs.ZoneFacts.{Inside, inside}
 use Rattle.edit_entries.proofs.SplitFacts.{ahead_file_before, joined_file, split_file}
-use Rattle.edit_entries.proofs.MovedFacts.{char_within, file_before_there, file_there, run_within}
-use Rattle.edit_entries.proofs.EntryFacts.{ahead_entry, goes}
+use Rattle.edit_entries.proofs.MovedFacts.{file_before_there, file_there, run_within}
+use Rattle.edit_entries.proofs.EntryFacts.{ahead_entry, ahead_to_fields, goes}
 
 -- white space between blocks is passed over
 white_skipped : (c : ℕ) → is_whitespace c ≡ true → is_skipped c ≡ true
@@ -82,11 +82,7 @@ entry_removed_read d k e at read here white =
     let to_start = ahead_file_before s.first in
     let over = ahead_entry b in
     let to_end = ahead_then to_start over in
-    let to_brace =
-    ahead_then (ahead_head b.head)
-    (ahead_then (ahead_run b.key.run)
-    (ahead_then (ahead_run b.white.run)
-    (ahead_then (ahead_char b.comma) (ahead_then (ahead_gap b.gap) (ahead_fields b.fields))))) in
+    let to_brace = ahead_then (ahead_to_fields b) (ahead_fields b.fields) in
     let closing : s.end.at ≡ e.end + 1 = omega (arith, b.closes.next, b.ends) in
     let end_is : s.end ≡ place d.text (e.end + 1) = same_place {u = s.end} {v = place d.text (e.end + 1)} to_end.text closing in
     let blank : Run is_whitespace s.end (place d.text at) = subst (λ p. Run is_whitespace p (place d.text at)) (sym end_is) white.run in
@@ -143,11 +139,7 @@ entry_placed d k e read here =
     let s = split_file k e read here in
     let b = s.block in
     let to_start = ahead_file_before s.first in
-    let to_brace =
-    ahead_then (ahead_head b.head)
-    (ahead_then (ahead_run b.key.run)
-    (ahead_then (ahead_run b.white.run)
-    (ahead_then (ahead_char b.comma) (ahead_then (ahead_gap b.gap) (ahead_fields b.fields))))) in
+    let to_brace = ahead_then (ahead_to_fields b) (ahead_fields b.fields) in
     let brace_text = (ahead_then to_start to_brace).text in
     let closing : s.end.at ≡ e.end + 1 = omega (arith, b.closes.next, b.ends) in
     record {

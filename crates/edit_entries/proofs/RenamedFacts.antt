@@ -7,7 +7,7 @@ use Rattle.std.proofs.lemmas.List.{take_at}
 use Rattle.std.proofs.lemmas.Str.{len_utf8_bounds}
 use Rattle.bib_text.specs.Places.{Place, place, CharAt, Run, between}
 use Rattle.bib_text.specs.Places.Run.{stop, step}
-use Rattle.bib_text.proofs.PlaceFacts.{Ahead, ahead_char, ahead_run, ahead_then, stops_at}
+use Rattle.bib_text.proofs.PlaceFacts.{Ahead, ahead_char, ahead_run, ahead_then, stops_at, char_within}
 use Rattle.bib_syntax.specs.Characters.{is_key}
 use Rattle.bib_syntax.specs.Reading.{Part, part, EntryReading}
 use Rattle.bib_syntax.proofs.FieldFacts.{ahead_fields, ahead_gap, ahead_identifier}
@@ -20,7 +20,6 @@ use Rattle.edit_entries.proofs.EditFacts.{Fits, before_frame, after_frame, piece
 use Rattle.edit_entries.proofs.ZoneFacts.{Inside, char_there, inside, inside_between, longest_there, run_there, stops_there, there}
 use Rattle.edit_entries.proofs.GrammarFacts.{below_char, fields_there, gap_there, head_until}
 use Rattle.edit_entries.proofs.SplitFacts.{EntryBlock, ahead_file_before, block_of, split_file}
-use Rattle.edit_entries.proofs.MovedFacts.{char_within}
 use Rattle.edit_entries.proofs.EntryFacts.{entry_edited_read, goes}
 use Rattle.edit_entries.proofs.ValueFacts.{run_stands}
 use Rattle.bib_syntax.proofs.LawFacts.{key_dark}

@@ -7,6 +7,7 @@ use Rattle.std.specs.Option.{option_map_or}
 use Rattle.std.specs.Str.{IsUtf8, trim_end}
 use Rattle.bib_text.specs.Places.{Run, place}
 use Rattle.bib_text.proofs.ListFacts.{get_here}
+use Rattle.bib_text.proofs.PlaceFacts.{ahead_run}
 use Rattle.bib_syntax.specs.Reading.{EntryReading, FieldReading, FileReading}
 use Rattle.edit_entries.specs.Changes.{IsTrimmed, value_end}
 use Rattle.edit_entries.specs.Cuts.{AreEntriesCut}
@@ -14,7 +15,7 @@ use Rattle.edit_entries.specs.Documents.{Document, IsDocument, IsEdited, field_l
 use Rattle.edit_entries.specs.EditList.{AreEditsInOrder}
 use Rattle.edit_entries.specs.Edits.{Edit, edited_all, moved_entry, placeless}
 use Rattle.edit_entries.specs.Selected.{FieldsUnset, unset_if_selected, without_if_selected, would_be_empty}
-use Rattle.edit_entries.specs.Unset.{after_bytes, comma_after, comma_before, comma_end, commented_edit, edit_before, end_before, feed_after, feed_before, gap_end, has_byte_at, has_percent, is_closed, is_line_space, is_no_line_feed, line_end_at, or_removals, own_edit, own_edits, own_end, plain_edit, sign_after, sign_before, unset_edits, with_edit, without_named}
+use Rattle.edit_entries.specs.Unset.{after_bytes, comma_after, comma_before, comma_end, commented_edit, edit_before, end_before, feed_after, feed_before, gap_end, has_byte_at, has_comment_beside, has_percent, is_closed, is_line_space, is_no_line_feed, line_end_at, or_removals, own_edit, own_edits, own_end, plain_edit, sign_after, sign_before, unset_edits, with_edit, without_named}
 use Rattle.edit_entries.proofs.AgreementFacts.{same_bytes, same_run}
 use Rattle.edit_entries.proofs.CutFacts.{document_cut}
 use Rattle.edit_entries.proofs.KeptFacts.{AreEditsWithin, IsFieldInside, edited_append, entry_inside, field_inside, front_kept, within_append, within_earlier, within_order}
@@ -28,8 +29,13 @@ use Rattle.edit_entries.proofs.ValueFacts.{field_placed}
 
 -- ---- the edits of an entry depend on the text up to its end
 
+-- a value ends at the end of its span or before it
+value_end_within : (text : List ℕ) (f : FieldReading) → IsTrimmed text f → value_end text f ≤ f.value.end
+value_end_within text f trimmed = (ahead_run trimmed).at
+
 module _ (x y : List ℕ) (e : EntryReading) (at : ℕ) (same : take at x ≡ take at y) (past : e.end < at) (key : e.key.end ≤ e.end)
-    (inside : (j : ℕ) (f : FieldReading) → slice_get e.fields j ≡ Some f → IsFieldInside e f) where
+    (inside : (j : ℕ) (f : FieldReading) → slice_get e.fields j ≡ Some f → IsFieldInside e f)
+    (ends : (j : ℕ) (f : FieldReading) → slice_get e.fields j ≡ Some f → value_end y f ≤ f.value.end) where
   byte_same : (n c : ℕ) → n ≤ e.end → has_byte_at x n c ≡ has_byte_at y n c
   byte_same n c within = byte_prefix x y at same n c (omega (arith, within, past))
 
@@ -82,16 +88,24 @@ module _ (x y : List ℕ) (e : EntryReading) (at : ℕ) (same : take at x ≡ ta
   line_end_same : (n : ℕ) → n ≤ e.end → line_end_at x n ≡ line_end_at y n
   line_end_same n within = ap (λ b. cond b (n - 1) n) (byte_same (n - 1) 13 (omega (arith, within)))
 
+  beside_same : (j : ℕ) (f : FieldReading) → slice_get e.fields j ≡ Some f → has_comment_beside x f ≡ has_comment_beside y f
+  beside_same j f there =
+      let at_field = inside j f there in
+      let first : value_end y f ≤ e.end = omega (arith, ends j f there, at_field.end) in
+      ap (λ b. b && (after_bytes is_no_line_feed x (value_end x f) f.value.end == f.value.end)) (byte_same f.value.end 37 at_field.end)
+      ∙ ap (λ n. has_byte_at y f.value.end 37 && (after_bytes is_no_line_feed x n f.value.end == f.value.end)) (value_end_same j f there)
+      ∙ ap (λ n. has_byte_at y f.value.end 37 && (n == f.value.end))
+      (after_same is_no_line_feed (value_end y f) f.value.end first at_field.end)
+
   own_end_same : (j : ℕ) (f : FieldReading) → slice_get e.fields j ≡ Some f → own_end x e j f ≡ own_end y e j f
   own_end_same j f there =
       let at_field = inside j f there in
       let n : ℕ = after_bytes is_no_line_feed y f.value.end (field_limit e j) in
       let n_in : n ≤ e.end = after_within is_no_line_feed y f.value.end (field_limit e j) e.end at_field.end (limit_inside j) in
       let feed = after_same is_no_line_feed f.value.end (field_limit e j) at_field.end (limit_inside j) in
-      ap (λ b. cond b (line_end_at x (after_bytes is_no_line_feed x f.value.end (field_limit e j))) (value_end x f))
-      (byte_same f.value.end 37 at_field.end)
-      ∙ ap (λ m. cond (has_byte_at y f.value.end 37) m (value_end x f)) (ap (line_end_at x) feed ∙ line_end_same n n_in)
-      ∙ ap (cond (has_byte_at y f.value.end 37) (line_end_at y n)) (value_end_same j f there)
+      ap (λ b. cond b (line_end_at x (after_bytes is_no_line_feed x f.value.end (field_limit e j))) (value_end x f)) (beside_same j f there)
+      ∙ ap (λ m. cond (has_comment_beside y f) m (value_end x f)) (ap (line_end_at x) feed ∙ line_end_same n n_in)
+      ∙ ap (cond (has_comment_beside y f) (line_end_at y n)) (value_end_same j f there)
 
   comma_same : (j : ℕ) (f : FieldReading) → slice_get e.fields j ≡ Some f → comma_end x e j f ≡ comma_end y e j f
   comma_same j f there =
@@ -302,16 +316,17 @@ module _ (d : Document) (selected : List ℕ → Bool) (name : List ℕ) (read :
       let past : e.end < e.end + 1 = omega arith in
       let trimmed = λ (j : ℕ) (f : FieldReading) (there : slice_get e.fields j ≡ Some f).
       trimmed_known d.text f utf8 (field_placed d k e j f read here there) in
+      let ends = λ (j : ℕ) (f : FieldReading) (there : slice_get e.fields j ≡ Some f). value_end_within d.text f (trimmed j f there) in
       let trimmed' : (j : ℕ) (f : FieldReading) → slice_get e.fields j ≡ Some f → IsTrimmed new.text f =
       λ (j : ℕ) (f : FieldReading) (there : slice_get e.fields j ≡ Some f).
       subst (λ n. Run is_whitespace (place new.text n) (place new.text f.value.end))
-      (sym (value_end_same new.text d.text e (e.end + 1) more.front past at_entry.key_end inside j f there))
+      (sym (value_end_same new.text d.text e (e.end + 1) more.front past at_entry.key_end inside ends j f there))
       (same_run d.text new.text (e.end + 1) more.front refl (omega (arith, (inside j f there).end)) (trimmed j f there)) in
       let a = around new.says.entries k e here' in
       let x = entry_unset new a.before a.following e name more.read a.whole trimmed' in
       let own = entry_unset d before es e name read whole trimmed in
       let edits : unset_edits new.text name e ≡ unset_edits d.text name e =
-      unset_same new.text d.text e (e.end + 1) more.front past at_entry.key_end inside name
+      unset_same new.text d.text e (e.end + 1) more.front past at_entry.key_end inside ends name
       (λ (j : ℕ) (f : FieldReading) (there : slice_get e.fields j ≡ Some f). before_name d k e j f read here there)
       (λ (j : ℕ) (f : FieldReading) (there : slice_get e.fields j ≡ Some f)
       (comma : has_byte_at d.text (comma_before d.text e j f) 44 ≡ true) (closed : is_closed d.text e j f ≡ true).

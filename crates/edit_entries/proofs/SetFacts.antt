@@ -4,6 +4,7 @@ use Rattle.std.specs.Prelude.{IfErr, IfOk, slice_get, slice_set, ◌||◌}
 use Rattle.std.specs.Char.{is_whitespace}
 use Rattle.std.specs.List.{AllByRecursion, list_any}
 use Rattle.std.specs.Str.{IsCharBoundary, IsUtf8}
+use Rattle.std.proofs.lemmas.Bool.{or_right, or_left}
 use Rattle.bib_text.specs.Places.{CharAt, Longest, place}
 use Rattle.bib_text.proofs.PlaceFacts.{ahead_run, ahead_then, same_place}
 use Rattle.bib_text.proofs.BoundaryFacts.{char_boundary}
@@ -111,14 +112,6 @@ change_can : (value : SetValue) (following : List FieldReading) (b : Bool) → (
 change_can value following true can = can refl
 change_can value following false can = tt
 
-or_first : (a b : Bool) → a ≡ true → (a || b) ≡ true
-or_first true b is = refl
-or_first false b is = absurd (cc)
-
-or_second : (a b : Bool) → b ≡ true → (a || b) ≡ true
-or_second true b is = refl
-or_second false b is = is
-
 values_can : (name : List ℕ) (value : SetValue) (fs : List FieldReading) → (list_any (has_other_value name value) fs ≡ true
     → CanBeRead (new_value value))
     → CanFieldsChange fs (map (set_change name value) fs)
@@ -126,8 +119,8 @@ values_can name value [] can = tt
 values_can name value (f ∷ fs) can =
     let here : Bool = has_other_value name value f in
     let later : Bool = list_any (has_other_value name value) fs in (
-      change_can value fs here (λ is. can (or_first here later is)),
-      values_can name value fs (λ is. can (or_second here later is)),
+      change_can value fs here (λ is. can (or_left here later is)),
+      values_can name value fs (λ is. can (or_right here later is)),
     )
 
 pub set_can : (name : List ℕ) (value : SetValue) (e : EntryReading)

@@ -3,7 +3,8 @@ use Rattle.std.proofs.Common.{◌≡◌, ℕ, zero, suc, Bool, true, false, cond
 use Rattle.std.specs.Prelude.{bytes_eq, not, ◌&&◌, ◌||◌, slice_get, slice_set}
 use Rattle.std.specs.List.{list_any}
 use Rattle.std.specs.Str.{str_to_ascii_lowercase}
-use Rattle.std.proofs.lemmas.Slice.Eq.{bytes_eq-Decides}
+use Rattle.bib_text.proofs.ListFacts.{get_set, get_mapped}
+use Rattle.bib_text.proofs.BytesFacts.{bytes_itself}
 use Rattle.bib_syntax.specs.Reading.{EntryReading, FieldReading, Piece}
 use Rattle.bib_syntax.specs.Reading.Piece.{abbreviation, literal}
 use Rattle.bib_syntax.specs.Grammar.{is_word}
@@ -52,17 +53,6 @@ last_mapped view test other same [] = refl
 last_mapped view test other same (x ∷ xs) =
     ap (λ b. or_first b (last_position other (map view xs))) (same x)
     ∙ ap (or_first (test x)) (last_mapped view test other same xs)
-
-get_set : {A : Type 0} (xs : List A) (k : ℕ) (x y : A) → slice_get xs k ≡ Some x → slice_get (slice_set xs k y) k ≡ Some y
-get_set [] k x y here = absurd (cc)
-get_set (z ∷ zs) zero x y here = refl
-get_set (z ∷ zs) (suc k) x y here = get_set zs k x y here
-
-get_mapped : {A B : Type 0} (view : A → B) (xs : List A) (k : ℕ) (x : A) → slice_get xs k ≡ Some x
-    → slice_get (map view xs) k ≡ Some (view x)
-get_mapped view [] k x here = absurd (cc)
-get_mapped view (z ∷ zs) zero x here = let same : z ≡ x = cc in ap (λ y. Some (view y)) same
-get_mapped view (z ∷ zs) (suc k) x here = get_mapped view zs k x here
 
 -- an element of a mapped list comes from one of the list
 from_mapped : {A B : Type 0} (view : A → B) (xs : List A) (k : ℕ) (y : B) → slice_get (map view xs) k ≡ Some y
@@ -184,18 +174,15 @@ entry_there d after key k e changed entry same alike =
 
 -- ---- the law
 
-same_text : (text : List ℕ) → bytes_eq text text ≡ true
-same_text text = (bytes_eq-Decides text text).1 refl
-
 -- a new value is the value
 new_is_same : (value : SetValue) → is_same_value value (new_value value).pieces ≡ true
-new_is_same (SetValue.plain_text text) = same_text text
+new_is_same (SetValue.plain_text text) = bytes_itself text
 new_is_same (SetValue.bare_text text) = by_case (is_bare_number text) refl
   where
     by_case : (b : Bool) → is_bare_number text ≡ b
         → is_bare_piece text (cond b (literal (text_at 0 text)) (abbreviation (text_at 0 text))) ≡ true
-    by_case true is = ap (λ n. n && bytes_eq text text) is ∙ same_text text
-    by_case false is = same_text (str_to_ascii_lowercase text)
+    by_case true is = ap (λ n. n && bytes_eq text text) is ∙ bytes_itself text
+    by_case false is = bytes_itself (str_to_ascii_lowercase text)
 
 -- a field after its value is set
 abbrev set_field : List ℕ → SetValue → FieldReading → FieldReading
@@ -248,6 +235,35 @@ map_map : {A B C : Type 0} (f : A → B) (g : B → C) (xs : List A) → map g (
 map_map f g [] = refl
 map_map f g (y ∷ ys) = ap (λ zs. g (f y) ∷ zs) (map_map f g ys)
 
+-- an entry that begins with a new field has the value, if its other fields haven't the name
+new_there : {after : Document} {key name : List ℕ} {value : SetValue} {k : ℕ} {changed : EntryReading} (rest : List FieldReading)
+    → (x : IsThere after key k changed) → changed.fields ≡ field_reading (field_with_value name value) ∷ rest
+    → list_any (has_name name) rest ≡ false → HasValue after key name value
+new_there {after} {key} {name} {value} {k} {changed} rest x are none =
+    let new : FieldReading = field_reading (field_with_value name value) in
+    let fields : map field_no_offsets x.entry.fields ≡ map field_no_offsets (new ∷ rest) =
+    ap (λ y. y.fields) x.alike ∙ ap (map field_no_offsets) are in
+    let here : slice_get (map field_no_offsets x.entry.fields) 0 ≡ Some (field_no_offsets new) = ap (λ fs. slice_get fs 0) fields in
+    let found = from_mapped field_no_offsets x.entry.fields 0 (field_no_offsets new) here in
+    record {
+      index = k;
+      entry = x.entry;
+      at = 0;
+      field = found.0;
+      has = x.has;
+      named = record {
+        last =
+            sym (last_mapped field_no_offsets (has_name name) (has_name name) (λ f. refl) x.entry.fields)
+            ∙ ap (last_position (has_name name)) fields
+            ∙ last_mapped field_no_offsets (has_name name) (has_name name) (λ f. refl) (new ∷ rest)
+            ∙ ap (or_first (is_word name name)) (none_last (has_name name) rest none)
+            ∙ ap (λ b. cond b (Some 0) None) (bytes_itself (str_to_ascii_lowercase name));
+        here = found.1;
+      };
+      is = sym (value_no_offsets (λ n. 0) value found.0.value.pieces) ∙ ap (λ f. is_same_value value f.value.pieces) found.2
+          ∙ value_no_offsets (λ n. 0) value (new_value value).pieces ∙ new_is_same value;
+    }
+
 pub set_there : {d after : Document} {key name : List ℕ} {value : SetValue} → FieldSet d key name value after
     → HasValue after key name value
 set_there {d} {after} {key} {name} {value} (FieldSet.changed {k = k} {e = e} entry there can is) =
@@ -284,48 +300,7 @@ set_there {d} {after} {key} {name} {value}
     let put : fields_changed e.fields (field_put d.text name value first others).fields ≡ new ∷ e.fields =
     ap (λ fs. fields_changed fs (field_put d.text name value first others).fields) are
     ∙ ap (λ fs. new ∷ first ∷ fs) (fields_kept others) ∙ ap (λ fs. new ∷ fs) (sym are) in
-    let fields : map field_no_offsets x.entry.fields ≡ map field_no_offsets (new ∷ e.fields) =
-    ap (λ y. y.fields) x.alike ∙ ap (map field_no_offsets) put in
-    let here : slice_get (map field_no_offsets x.entry.fields) 0 ≡ Some (field_no_offsets new) = ap (λ fs. slice_get fs 0) fields in
-    let found = from_mapped field_no_offsets x.entry.fields 0 (field_no_offsets new) here in
-    record {
-      index = k;
-      entry = x.entry;
-      at = 0;
-      field = found.0;
-      has = x.has;
-      named = record {
-        last =
-            sym (last_mapped field_no_offsets (has_name name) (has_name name) (λ f. refl) x.entry.fields)
-            ∙ ap (last_position (has_name name)) fields
-            ∙ last_mapped field_no_offsets (has_name name) (has_name name) (λ f. refl) (new ∷ e.fields)
-            ∙ ap (or_first (is_word name name)) (none_last (has_name name) e.fields none)
-            ∙ ap (λ b. cond b (Some 0) None) (same_text (str_to_ascii_lowercase name));
-        here = found.1;
-      };
-      is = sym (value_no_offsets (λ n. 0) value found.0.value.pieces) ∙ ap (λ f. is_same_value value f.value.pieces) found.2
-          ∙ value_no_offsets (λ n. 0) value (new_value value).pieces ∙ new_is_same value;
-    }
+    new_there e.fields x put none
 set_there {d} {after} {key} {name} {value} (FieldSet.only {k = k} {e = e} entry none can_name can_value is) =
-    let new : FieldReading = field_reading (field_with_value name value) in
-    let changed : EntryReading = record e { fields = new ∷ [] } in
-    let x = entry_there d after key k e changed entry refl is.alike in
-    let fields : map field_no_offsets x.entry.fields ≡ field_no_offsets new ∷ [] = ap (λ y. y.fields) x.alike in
-    let here : slice_get (map field_no_offsets x.entry.fields) 0 ≡ Some (field_no_offsets new) = ap (λ fs. slice_get fs 0) fields in
-    let found = from_mapped field_no_offsets x.entry.fields 0 (field_no_offsets new) here in
-    record {
-      index = k;
-      entry = x.entry;
-      at = 0;
-      field = found.0;
-      has = x.has;
-      named = record {
-        last =
-            sym (last_mapped field_no_offsets (has_name name) (has_name name) (λ f. refl) x.entry.fields)
-            ∙ ap (last_position (has_name name)) fields
-            ∙ ap (λ b. cond b (Some 0) None) (same_text (str_to_ascii_lowercase name));
-        here = found.1;
-      };
-      is = sym (value_no_offsets (λ n. 0) value found.0.value.pieces) ∙ ap (λ f. is_same_value value f.value.pieces) found.2
-          ∙ value_no_offsets (λ n. 0) value (new_value value).pieces ∙ new_is_same value;
-    }
+    let changed : EntryReading = record e { fields = field_reading (field_with_value name value) ∷ [] } in
+    new_there [] (entry_there d after key k e changed entry refl is.alike) refl refl

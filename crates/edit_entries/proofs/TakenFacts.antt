@@ -5,9 +5,9 @@ use Rattle.std.proofs.lemmas.List.{length-map, length-take-le}
 use Rattle.std.proofs.lemmas.List.Folds.{list_any-append}
 use Rattle.bib_syntax.specs.Grammar.{is_word}
 use Rattle.bib_syntax.specs.Reading.{EntryReading}
-use Rattle.bib_text.proofs.ListFacts.{some_same}
+use Rattle.bib_text.proofs.ListFacts.{some_same, mapped_more}
 use Rattle.edit_entries.specs.NewNames.{IsNewKeyTaken, has_word, kept_names, new_keys, staying_names}
-use Rattle.edit_entries.proofs.NameSetFacts.{or_turned, seen_more}
+use Rattle.edit_entries.proofs.NameSetFacts.{or_turned}
 use Rattle.edit_entries.proofs.PositionFacts.{slice_get-map}
 
 below_or_same : (j i : ℕ) → j < i + 1 → (j < i) ⊎ (j ≡ i)
@@ -24,12 +24,6 @@ pub within_of : {B : Type 0} (xs : List B) (j : ℕ) (b : B) → slice_get xs j 
 within_of [] j b here = absurd (cc)
 within_of (x ∷ xs) zero b here = omega arith
 within_of (x ∷ xs) (suc j) b here = let less = within_of xs j b here in omega (arith, less)
-
--- the element at an index
-pub found_at : {A : Type 0} (xs : List A) (i : ℕ) → i < length xs → (x : A) × (slice_get xs i ≡ Some x)
-found_at [] i within = absurd (omega arith)
-found_at (x ∷ xs) zero within = (x, refl)
-found_at (x ∷ xs) (suc i) within = found_at xs i (omega arith)
 
 -- what holds of the elements before an index, and of the element at the index, holds of those before the next one
 pub each_more : {A B : Type 0} (P : ℕ → B → Type 0) (view : A → B) (xs : List A) (i : ℕ) (x : A) → i < length xs
@@ -88,14 +82,14 @@ module _ {A : Type 0} (view : A → EntryReading) (keys : ℕ → Option (List �
       let before : List (List ℕ) = staying_names keys 0 (map view (take i xs)) in
       let own : List (List ℕ) = kept_names (is_some (keys i)) (view x) in
       ap (λ l. has_word l name)
-      (ap (staying_names keys 0) (seen_more view xs i x within is)
+      (ap (staying_names keys 0) (mapped_more view xs i x within is)
       ∙ staying_append keys 0 (map view (take i xs)) (view x)
       ∙ ap (λ n. before ++ kept_names (is_some (keys n)) (view x)) size)
       ∙ list_any-append (λ w. is_word w name) before own ∙ or_turned (has_word before name) (has_word own name)
 
   new_more : new_keys keys 0 (map view (take (i + 1) xs)) ≡ new_keys keys 0 (map view (take i xs)) ++ option_to_list (keys i)
   new_more =
-      ap (new_keys keys 0) (seen_more view xs i x within is)
+      ap (new_keys keys 0) (mapped_more view xs i x within is)
       ∙ new_append keys 0 (map view (take i xs)) (view x)
       ∙ ap (λ n. new_keys keys 0 (map view (take i xs)) ++ option_to_list (keys n)) size
 

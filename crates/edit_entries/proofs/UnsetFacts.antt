@@ -1,5 +1,5 @@
 -- An entry without one of its fields.
-use Rattle.std.proofs.Common.{◌≡◌, inr, ℕ, zero, suc, ◌+◌, ◌<◌, ◌≤◌, true, false, List, [], ◌∷◌, ◌++◌, length, map, refl, sym, ap, ◌∙◌, subst, arith, Some}
+use Rattle.std.proofs.Common.{◌≡◌, inr, ℕ, zero, suc, ◌<◌, ◌≤◌, true, false, List, [], ◌∷◌, ◌++◌, length, map, refl, sym, ap, ◌∙◌, subst, arith, Some}
 use Rattle.std.specs.Prelude.{◌==◌, slice_get}
 use Rattle.std.specs.Char.{is_whitespace}
 use Rattle.std.specs.List.{remove}
@@ -9,23 +9,21 @@ use Rattle.std.proofs.lemmas.Bool.{ne_eqb}
 use Rattle.std.proofs.lemmas.Str.{len_utf8_bounds}
 use Rattle.bib_text.specs.Places.{Place, place, CharAt, Stops}
 use Rattle.bib_text.specs.Places.Run.{stop}
-use Rattle.bib_text.proofs.PlaceFacts.{Ahead, ahead_char, ahead_run, ahead_then, stops_at, test_clash}
+use Rattle.bib_text.proofs.PlaceFacts.{Ahead, ahead_char, ahead_run, ahead_then, stops_at, test_clash, char_within}
 use Rattle.bib_syntax.specs.Characters.{is_id_start}
 use Rattle.bib_syntax.specs.Reading.{EntryReading, FieldReading}
-use Rattle.bib_syntax.specs.Grammar.{Field, Fields, Gap, longest}
+use Rattle.bib_syntax.specs.Grammar.{Fields, Gap, longest}
 use Rattle.bib_syntax.specs.Grammar.{Fields as fields}
 use Rattle.bib_syntax.proofs.FieldFacts.{ahead_elements, ahead_field, ahead_fields, ahead_gap}
-use Rattle.bib_syntax.proofs.FileFacts.{ahead_head}
 use Rattle.bib_syntax.proofs.LawFacts.{start_not_white, start_plain}
-use Rattle.edit_entries.specs.Edits.{Edit, edited, moved_place, moved_entry, moved_field, moved_part}
+use Rattle.edit_entries.specs.Edits.{Edit, edited, moved_place, moved_entry, moved_field}
 use Rattle.edit_entries.specs.Documents.{Document, IsDocument, entry_edited, field_edit, field_limit}
 use Rattle.edit_entries.specs.Placed.{AreFieldsPlaced}
 use Rattle.edit_entries.proofs.EditFacts.{Fits, before_frame, after_frame, moved_after, moved_before, zone_before, zone_after}
-use Rattle.edit_entries.proofs.ZoneFacts.{Frame, Inside, Zone, char_there, inside, inside_between, longest_there, part_there, there}
-use Rattle.edit_entries.proofs.GrammarFacts.{below_between, below_char, field_there, fields_there, gap_there, gap_until, head_there}
-use Rattle.edit_entries.proofs.SplitFacts.{EntryBlock, FieldsAfter, FieldsBefore, ahead_fields_before, ahead_file_before, block_of, split_fields, split_file}
-use Rattle.edit_entries.proofs.MovedFacts.{char_within}
-use Rattle.edit_entries.proofs.EntryFacts.{entry_edited_read, goes}
+use Rattle.edit_entries.proofs.ZoneFacts.{Frame, Inside, Zone, char_there, inside, inside_between, there}
+use Rattle.edit_entries.proofs.GrammarFacts.{below_between, below_char, field_there, fields_there, gap_there, gap_until}
+use Rattle.edit_entries.proofs.SplitFacts.{EntrySplit, FieldSplit, FieldsAfter, FieldsBefore, ahead_fields_after, ahead_fields_before, ahead_file_before, split_fields, split_file}
+use Rattle.edit_entries.proofs.EntryFacts.{ahead_to_comma, ahead_to_field, before_or_at, fields_edited_read, goes}
 use Rattle.edit_entries.proofs.RemovedFacts.{taken_out}
 use Rattle.bib_text.proofs.BoundaryFacts.{char_boundary}
 
@@ -134,25 +132,17 @@ gap_before : {f : Frame} {u v w x : Place} {c : ℕ} {fs : List FieldReading} �
     → Gap longest u v → FieldsBefore v fs w → Gap longest (there f u) (there f v)
 gap_before z iu iv iw char other white stops gap FieldsBefore.none = gap_until z iu iv char other white stops gap
 gap_before {f} z iu iv iw char other white stops gap (FieldsBefore.more field gap1 comma gap2 others) =
+    let over = ahead_then (ahead_field field) (ahead_gap gap1) in
     gap_there z iu iv
     (omega (
       arith,
-      field.name.here.next,
-      (len_utf8_bounds field.name.first).0,
-      (ahead_run field.name.rest.run).at,
-      (ahead_run field.white.run).at,
-      (ahead_char field.sign).at,
-      (ahead_run field.white'.run).at,
-      (ahead_value field).at,
-      (ahead_gap gap1).at,
-      (ahead_char comma).at,
+      over.at,
+      comma.next,
+      (len_utf8_bounds 44).0,
       (ahead_gap gap2).at,
       (ahead_fields_before others).at,
       iw.end,
     )) gap
-  where
-    ahead_value : {u v : Place} {r : FieldReading} → (field : Field longest u r v) → Ahead field.value_start v
-    ahead_value field = ahead_elements field.elements
 
 fields_before_until : {f : Frame} {u v x : Place} {c : ℕ} {fs : List FieldReading} → Zone f → Inside f u → Inside f v
     → CharAt v c x → (c == 10) ≡ false → Stops is_whitespace (there f v) → Stops (λ d. d == 37) (there f v)
@@ -170,6 +160,49 @@ fields_before_until {f} z iu iv char other white stops (FieldsBefore.more field 
     (char_there z b c comma) (gap_before z c d iv char other white stops gap' others)
     (fields_before_until z d iv char other white stops others)
 
+-- an entry with other fields from one of its fields on: the new text has a character there that is neither white space nor `%`
+pub from_field_read : (d : Document) (edit : Edit) (k : ℕ) (e : EntryReading) (j : ℕ) (f : FieldReading) (news : List FieldReading)
+    {c : ℕ} {next : Place} → (s : EntrySplit (place d.text 0) d.says e k)
+    → (g : FieldSplit s.block.fields_start e.fields f j s.block.brace) → edit.start ≡ g.start.at → edit.start < edit.end
+    → edit.end ≤ s.block.brace.at → CharAt (goes edit d.text g.start) c next → is_whitespace c ≡ false → (c == 37) ≡ false
+    → (FieldsBefore (goes edit d.text s.block.fields_start) (map (moved_field (moved_place edit)) g.before) (goes edit d.text g.start)
+    → Fields longest (goes edit d.text s.block.fields_start) news (goes edit d.text s.block.brace))
+    → IsDocument (entry_edited d edit k (record (moved_entry (moved_place edit) e) { fields = news }))
+from_field_read d edit k e j f news {c} {next} s g start_is some past char dark plain list =
+    let b = s.block in
+    let frame = before_frame edit d.text in
+    let to_comma = ahead_then (ahead_file_before s.first) (ahead_to_comma b) in
+    let from_fields = ahead_fields_before g.first in
+    let from_comma = ahead_then (ahead_gap b.gap) from_fields in
+    let at_field = ahead_to_field s g in
+    let to_brace = ahead_then (ahead_field g.field) (ahead_fields_after g.rest) in
+    let field_is : moved_place edit g.start.at ≡ edit.start =
+    moved_before edit g.start.at (omega (arith, start_is, some)) ∙ sym start_is in
+    let fits : Fits edit d.text = record {
+      ordered = omega (arith, some);
+      within =
+          omega (
+            arith,
+            past,
+            (ahead_char b.closes).at,
+            char_within b.closes,
+            ap length (b.closes.same ∙ to_brace.text ∙ at_field.text),
+          );
+      border = inr (c, next, subst (λ n. CharAt (place (edited edit d.text) n) c next) field_is char);
+    } in
+    let z1 = zone_before edit d.text fits in
+    let id : Inside frame b.after_comma =
+    before_or_at edit d.text to_comma.text (omega (arith, from_comma.at, start_is)) (omega (arith, from_comma.at, start_is, some)) in
+    let iv : Inside frame g.start = before_or_at edit d.text at_field.text (omega (arith, start_is)) (omega (arith, start_is, some)) in
+    let ie = inside_between z1 id iv (ahead_gap b.gap) from_fields in
+    let name = g.field.name in
+    let white = stops_at is_whitespace char dark in
+    let stops = stops_at (λ d. d == 37) char plain in
+    let other = start_line name.first name.starts in
+    fields_edited_read d edit k e news fits s (omega (arith, from_comma.at, start_is)) (omega (arith, from_comma.at, start_is, some)) past
+    (gap_before z1 id ie iv name.here other white stops b.gap g.first)
+    (list (fields_before_until z1 ie iv name.here other white stops g.first))
+
 pub field_removed_read : (d : Document) (k : ℕ) (e : EntryReading) (j : ℕ) (f : FieldReading) → IsDocument d
     → slice_get d.says.entries k ≡ Some e → slice_get e.fields j ≡ Some f → IsDocument (field_removed d k e j f)
 field_removed_read d k e j f read here there' =
@@ -181,22 +214,14 @@ field_removed_read d k e j f read here there' =
     let move = moved_place edit in
     let new : List ℕ = edited edit d.text in
     let name = g.field.name in
-    let to_start = ahead_file_before s.first in
-    let at_key = ahead_then to_start (ahead_head b.head) in
-    let at_end = ahead_then at_key (ahead_run b.key.run) in
-    let at_before = ahead_then at_end (ahead_run b.white.run) in
-    let at_comma = ahead_then at_before (ahead_char b.comma) in
-    let at_fields = ahead_then at_comma (ahead_gap b.gap) in
-    let at_field = ahead_then at_fields (ahead_fields_before g.first) in
+    let at_field = ahead_to_field s g in
     let over_name =
     ahead_then (ahead_run name.rest.run)
     (ahead_then (ahead_run g.field.white.run)
     (ahead_then (ahead_char g.field.sign)
     (ahead_then (ahead_run g.field.white'.run) (ahead_elements g.field.elements)))) in
-    let over_field = ahead_field g.field in
-    let at_rest = ahead_then at_field (ahead_then over_field r.before) in
-    let at_brace' = ahead_then at_rest (ahead_fields r.fields) in
-    let at_close = ahead_then at_brace' (ahead_char b.closes) in
+    let at_rest = ahead_then at_field (ahead_then (ahead_field g.field) r.before) in
+    let at_close = ahead_then at_rest (ahead_then (ahead_fields r.fields) (ahead_char b.closes)) in
     let start_is : edit.start ≡ g.start.at = ap (λ p. p.start) name.reading in
     let limit : field_limit e j ≡ limit_of g.following e.end =
     ap (λ fs. option_map_or (λ h. h.name.start) (slice_get fs (suc j)) e.end) g.whole
@@ -204,6 +229,7 @@ field_removed_read d k e j f read here there' =
     let end_is : edit.end ≡ r.start.at = limit ∙ ap (limit_of g.following) b.ends ∙ r.limit in
     let some : edit.start < edit.end =
     omega (arith, start_is, end_is, name.here.next, (len_utf8_bounds name.first).0, over_name.at, r.before.at) in
+    let past : edit.end ≤ b.brace.at = omega (arith, end_is, (ahead_fields r.fields).at) in
     let closing = char_within b.closes in
     let text_size : length s.end.text ≡ length d.text = ap length at_close.text in
     let to_close : r.start.at ≤ s.end.at = omega (arith, (ahead_fields r.fields).at, (ahead_char b.closes).at) in
@@ -220,84 +246,13 @@ field_removed_read d k e j f read here there' =
     let same : move r.start.at ≡ move g.start.at = rest_is ∙ sym field_is in
     let char : CharAt (goes edit d.text g.start) r.char (goes edit d.text r.next) =
     subst (λ n. CharAt (place new n) r.char (goes edit d.text r.next)) same (char_there z2 jr jn r.here) in
-    let fits : Fits edit d.text = record {
-      ordered = omega (arith, some);
-      within = within;
-      border = inr (r.char, goes edit d.text r.next, subst (λ n. CharAt (place new n) r.char (goes edit d.text r.next)) field_is char);
-    } in
-    let z1 = zone_before edit d.text fits in
-    let to_field =
-    ahead_then (ahead_head b.head)
-    (ahead_then (ahead_run b.key.run)
-    (ahead_then (ahead_run b.white.run)
-    (ahead_then (ahead_char b.comma) (ahead_then (ahead_gap b.gap) (ahead_fields_before g.first))))) in
-    let iv : Inside (before_frame edit d.text) g.start =
-    record {
-      text = at_field.text;
-      start = omega arith;
-      end = omega (arith, start_is);
-      moved = ap (λ n. n + 0) (moved_before edit g.start.at (omega (arith, start_is, some)));
-    } in
-    let iu : Inside (before_frame edit d.text) s.start =
-    record {
-      text = to_start.text;
-      start = omega arith;
-      end = omega (arith, to_field.at, start_is);
-      moved = ap (λ n. n + 0) (moved_before edit s.start.at (omega (arith, to_field.at, start_is, some)));
-    } in
-    let from_fields' = ahead_fields_before g.first in
-    let from_gap = ahead_then (ahead_gap b.gap) from_fields' in
-    let from_comma = ahead_then (ahead_char b.comma) from_gap in
-    let from_key = ahead_then (ahead_run b.key.run) (ahead_then (ahead_run b.white.run) from_comma) in
-    let ia = inside_between z1 iu iv (ahead_head b.head) from_key in
-    let ib = inside_between z1 ia iv (ahead_run b.key.run) (ahead_then (ahead_run b.white.run) from_comma) in
-    let ic = inside_between z1 ib iv (ahead_run b.white.run) from_comma in
-    let id = inside_between z1 ic iv (ahead_char b.comma) from_gap in
-    let ie = inside_between z1 id iv (ahead_gap b.gap) from_fields' in
-    let comma_below = below_char id b.comma in
-    let frame = before_frame edit d.text in
-    let white = stops_at is_whitespace char r.dark in
-    let stops = stops_at (λ c. c == 37) char r.plain in
-    let other = start_line name.first name.starts in
     let rest : Fields longest (goes edit d.text g.start) (map (moved_field move) g.following) (goes edit d.text b.brace) =
     subst (λ n. Fields longest (place new n) (map (moved_field move) g.following) (goes edit d.text b.brace)) same
     (fields_there z2 jr jz (below_char jd b.closes) r.fields) in
-    let all = joined_rest (fields_before_until z1 ie iv name.here other white stops g.first) rest in
     let listed : map (moved_field move) g.before ++ map (moved_field move) g.following ≡ remove (map (moved_field move) e.fields) j =
     sym (taken_out (moved_field move) g.before g.following f j g.index) ∙ ap (λ fs. remove (map (moved_field move) fs) j) (sym g.whole) in
-    let e' : EntryReading = record (moved_entry move e) { fields = remove (map (moved_field move) e.fields) j } in
-    let block : EntryBlock (goes edit d.text s.start) e' (goes edit d.text s.end) = record {
-      inside = goes edit d.text b.inside;
-      key_end = goes edit d.text b.key_end;
-      before_comma = goes edit d.text b.before_comma;
-      after_comma = goes edit d.text b.after_comma;
-      fields_start = goes edit d.text b.fields_start;
-      brace = goes edit d.text b.brace;
-      head = head_there z1 iu ia (below_between frame (ahead_then (ahead_run b.key.run) (ahead_run b.white.run)) comma_below) b.head;
-      is_entry = b.is_entry;
-      key = longest_there z1 ia ib (below_between frame (ahead_run b.white.run) comma_below) b.key;
-      white = longest_there z1 ib ic comma_below b.white;
-      comma = char_there z1 ic id b.comma;
-      gap = gap_before z1 id ie iv name.here other white stops b.gap g.first;
-      fields = subst (λ fs. Fields longest (goes edit d.text b.fields_start) fs (goes edit d.text b.brace)) listed all;
-      closes = char_there z2 jz jd b.closes;
-      key_is = ap (moved_part move) b.key_is ∙ sym (part_there z1 ia ib (ahead_run b.key.run));
-      starts = ap move b.starts;
-      ends = ap move b.ends;
-    } in
-    entry_edited_read d edit k e e' fits s
-    (omega (
-      arith,
-      start_is,
-      (ahead_head b.head).at,
-      (ahead_run b.key.run).at,
-      (ahead_run b.white.run).at,
-      b.comma.next,
-      (ahead_gap b.gap).at,
-      from_fields'.at,
-      (len_utf8_bounds 44).0,
-    )) (omega (arith, end_is))
-    (block_of block)
+    from_field_read d edit k e j f (remove (map (moved_field move) e.fields) j) s g start_is some past char r.dark r.plain (λ before.
+    subst (λ fs. Fields longest (goes edit d.text b.fields_start) fs (goes edit d.text b.brace)) listed (joined_rest before rest))
 
 -- where each field may be cut out
 pub fields_placed : (d : Document) (k : ℕ) (e : EntryReading) → IsDocument d → slice_get d.says.entries k ≡ Some e
@@ -307,12 +262,7 @@ fields_placed d k e read here j f there' =
     let b = s.block in
     let g = split_fields j f b.fields there' in
     let r = rest_fields g.rest b.closes in
-    let at_field =
-    ahead_then (ahead_file_before s.first)
-    (ahead_then (ahead_head b.head)
-    (ahead_then (ahead_run b.key.run)
-    (ahead_then (ahead_run b.white.run)
-    (ahead_then (ahead_char b.comma) (ahead_then (ahead_gap b.gap) (ahead_fields_before g.first)))))) in
+    let at_field = ahead_to_field s g in
     let over = ahead_then (ahead_field g.field) r.before in
     let start_is : f.name.start ≡ g.start.at = ap (λ p. p.start) g.field.name.reading in
     let limit : field_limit e j ≡ limit_of g.following e.end =

@@ -7,12 +7,12 @@ use Rattle.bib_text.specs.Characters as char
 abbrev pub byte_count : ℕ → List ℕ → ℕ
 byte_count c text = length (filter (λ b. b == c) text)
 
--- each closing brace of a text closes an earlier one, and each opening brace is closed
+-- each closing brace of a text closes an earlier opening brace, and each opening brace is closed
 pub record IsBalanced (text : List ℕ) : Type 0 where
   pub closes : (n : ℕ) → byte_count char.close_brace (take n text) ≤ byte_count char.open_brace (take n text)
   pub closed : byte_count char.open_brace text ≡ byte_count char.close_brace text
 
--- whether each of the first prefixes of a text, up to a length, closes only braces that it opens
+-- whether no prefix of a text, up to a length, has more closing braces than opening ones
 abbrev pub closes_opened : ℕ → List ℕ → Bool
 closes_opened zero text = true
 closes_opened (suc n) text =

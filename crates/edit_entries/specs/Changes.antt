@@ -18,7 +18,7 @@ pub record IsReadPlaceless (says : FileReading) (text : List ℕ) : Type 0 where
   pub read : IsRawReading text tells
   pub alike : placeless tells ≡ placeless says
 
--- ---- what changes
+-- ---- the changes
 
 -- a new value: its bytes, and the pieces that they are parsed as
 pub record NewValue : Type 0 where
@@ -38,8 +38,9 @@ braced_value text = record { bytes = in_braces text; pieces = literal (text_at 1
 abbrev pub braced_field : List ℕ → List ℕ → NewField
 braced_field name text = record { name = name; value = braced_value text }
 
--- the change of a field: it is kept, is preceded by a new field with this text between its name and its value, has a new name or a new
--- value, is replaced by one or more fields, or is removed. A comma and this white space follow each new field that another field follows.
+-- the change of a field: it is kept, preceded by a new field, renamed, given a new value, replaced by new fields, or removed.
+-- The first text of `preceded` is between the new name and its value. The last text of `preceded` and of `replaced` is white space: a
+-- comma and it follow each new field, except the last one of `replaced`.
 pub data FieldChange : Type 0 where
   kept : FieldChange
   preceded : NewField → List ℕ → List ℕ → FieldChange
@@ -48,7 +49,7 @@ pub data FieldChange : Type 0 where
   replaced : NewField → List NewField → List ℕ → FieldChange
   removed : FieldChange
 
--- the change of an entry: the new name of its type, if that changes, and the changes of its fields, in order; fields after the last
+-- the change of an entry: the new name of its type, if that changes, and the changes of its fields, in order. Fields after the last
 -- change are kept
 pub record EntryChange : Type 0 where
   pub kind : Option (List ℕ)
@@ -102,7 +103,7 @@ abbrev pub removal_edits : FieldReading → List FieldReading → List Edit
 removal_edits f [] = []
 removal_edits f (g ∷ gs) = record { start = f.name.start; end = g.name.start; bytes = [] } ∷ []
 
--- the edits of a field before others, by its change
+-- the edits of a field, by its change; `following` are the fields after it
 abbrev pub edits_of_field : List ℕ → FieldReading → List FieldReading → FieldChange → List Edit
 edits_of_field text f following FieldChange.kept = []
 edits_of_field text f following (FieldChange.preceded n sign white) = name_edit f (field_before n sign white) ∷ []

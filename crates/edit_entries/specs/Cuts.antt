@@ -1,5 +1,5 @@
 -- Machinery: words of private contracts.
--- Byte offsets at which a text may be cut: the ends of its entries and of their parts.
+-- Byte offsets at which a text may be cut: the bounds of its entries and of their parts.
 use Rattle.std.specs.Prelude.{ℕ, ◌+◌, ◌≤◌, List, [], ◌∷◌, ⊤}
 use Rattle.std.specs.List.{AllByRecursion}
 use Rattle.std.specs.Str.{IsCharBoundary}
@@ -26,7 +26,7 @@ abbrev pub AreGapsCut : List ℕ → ℕ → List FieldReading → ℕ → Type 
 AreGapsCut text start [] end = CanBeCut text start end
 AreGapsCut text start (f ∷ fs) end = CanBeCut text start f.name.start × AreGapsCut text f.value.end fs end
 
--- an entry and its parts may be cut out of a text
+-- an entry, and the gaps around its fields, may be cut out of a text, which may also be cut where their literals begin
 pub record IsEntryCut (text : List ℕ) (e : EntryReading) : Type 0 where
   pub whole : CanBeCut text e.start (e.end + 1)
   pub gaps : AreGapsCut text e.key.end e.fields e.end

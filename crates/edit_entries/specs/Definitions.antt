@@ -17,7 +17,7 @@ is_same_piece (abbreviation p) (abbreviation q) = bytes_eq p.text q.text
 abbrev pub ArePiecesSame : List Piece → List Piece → Type 0
 ArePiecesSame one other = placeless_pieces one ≡ placeless_pieces other
 
--- `found` gives the index of the last definition of each abbreviation, by its name in lowercase
+-- `found` gives the index of the last definition of each abbreviation, by its name in ASCII lowercase
 abbrev pub AreLast : List FieldReading → (List ℕ → Option ℕ) → Type 0
 AreLast definitions found = (name : List ℕ) → found (str_to_ascii_lowercase name) ≡ last_position (has_name name) definitions
 

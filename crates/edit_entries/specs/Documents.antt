@@ -157,11 +157,11 @@ field_limit e j = option_map_or (λ f. f.name.start) (slice_get e.fields (suc j)
 abbrev pub field_edit : EntryReading → ℕ → FieldReading → Edit
 field_edit e j f = record { start = f.name.start; end = field_limit e j; bytes = [] }
 
--- whether there are fields, and each of them has a name
+-- whether there are fields, and each of them has this name
 abbrev pub have_only : List ℕ → List FieldReading → Bool
 have_only name fields = list_any (has_name name) fields && list_all (has_name name) fields
 
--- the first entry with a key has only fields with a name
+-- the first entry with a key has at least one field, and all its fields have a name
 pub record HasOnlyFields (d : Document) (key name : List ℕ) : Type 0 where
   pub index : ℕ
   pub entry : EntryReading
@@ -198,7 +198,7 @@ joined_documents d more = record {
   says = (then) d.says (moved_file (λ at. at + (length d.text + length (line_end_of d.text))) more.says);
 }
 
--- no entry of the second document has a name, in any ASCII case, of an entry of the first, or of an earlier entry of the second
+-- no entry of the second document shares a name, in any ASCII case, with an entry of the first or an earlier entry of the second
 abbrev pub SharesNoName : Document → Document → Type 0
 SharesNoName d more =
     (k : ℕ) (e : EntryReading) → slice_get more.says.entries k ≡ Some e

@@ -61,7 +61,7 @@ HasFitValue definitions at (Set name value) = IsWritableAt definitions at (value
 HasFitValue definitions at (Add name value) = IsWritableAt definitions at (value_of value)
 HasFitValue definitions at (Rename old new) = ⊤
 
--- an error is the one of the value of an edit
+-- `error` is the error of an edit whose value can't be written
 abbrev pub IsValueError : FieldEdit → EditError → Type 0
 IsValueError (Set name value) error = error ≡ unfit_error (value_of value)
 IsValueError (Add name value) error = error ≡ unfit_error (value_of value)
@@ -72,7 +72,7 @@ abbrev pub first_start : (List ℕ → Bool) → ℕ → List EntryReading → �
 first_start selected other [] = other
 first_start selected other (e ∷ es) = if selected e.key.text then e.start else first_start selected other es
 
--- the value of an edit can't be written in the first entry with a selected key, or at the end of the text if there is none; this
+-- the value of an edit can't be written in the first entry with a selected key, or at the end of the text if there is none. `error`
 -- is the error for it
 pub record CantBeEdited (d : Document) (selected : List ℕ → Bool) (edit : FieldEdit) (error : EditError) : Type 0 where
   pub because : IsValueError edit error

@@ -17,7 +17,7 @@ pub record HaveFieldsPlaced (text : List ℕ) (e : EntryReading) : Type 0 where
   pub values : AllByRecursion (IsPlaced text) e.fields
   pub signs : AllByRecursion (IsSignPlaced text) e.fields
 
--- a text is the value of an edit as it is written, if it has one
+-- if an edit has a value, `written` is the value as it is written
 abbrev pub IsValueText : FieldEdit → List ℕ → Type 0
 IsValueText (Set name value) written = written ≡ (new_value (value_of value)).bytes
 IsValueText (Add name value) written = written ≡ (new_value (value_of value)).bytes

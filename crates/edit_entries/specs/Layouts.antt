@@ -41,14 +41,14 @@ abbrev pub padding_or : Option ℕ → List ℕ → List ℕ → List ℕ
 padding_or (Some column) name white = name_padding column name
 padding_or None name white = white
 
--- the white space before the equals sign of a new field before these: up to the column of the first of them that has more than one byte
--- there, or else as in the first field
+-- the white space before the equals sign of a new field before these. If one of them has more than one byte there, spaces end at the
+-- column of the first such field; there is at least one. Otherwise the white space is as in the first field
 abbrev pub new_before_sign : List ℕ → List ℕ → FieldReading → List FieldReading → List ℕ
 new_before_sign text name first fields = padding_or (wide_column text fields) name (before_equals text first)
 
 -- The text between the name and the value of a new field before these, of which this is the first. If the first one has only
--- spaces and tabs around its equals sign, the white space before the sign is `new_before_sign`, and that after it is as in the
--- first one. Otherwise one space is before and after the sign.
+-- spaces and tabs around its equals sign, `new_before_sign` is before the sign. After it is the white space of the first one.
+-- Otherwise one space is before and after the sign.
 abbrev pub new_sign : List ℕ → List ℕ → FieldReading → List FieldReading → List ℕ
 new_sign text name first fields =
     if list_all is_blank_byte (before_equals text first) && list_all is_blank_byte (after_equals text first)

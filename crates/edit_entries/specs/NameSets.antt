@@ -6,11 +6,11 @@ use Rattle.bib_syntax.specs.Reading.{EntryReading}
 use Rattle.bib_queries.specs.Known.{all_names}
 use Rattle.edit_entries.specs.NewNames.{has_word, shares_name}
 
--- whether a set has a name in lowercase, by the test of its elements
+-- whether a set contains a name in ASCII lowercase; `has` tests whether it contains a text
 abbrev pub holds_name : (List ℕ → Bool) → List ℕ → Bool
 holds_name has name = has (str_to_ascii_lowercase name)
 
--- a set has the names of these entries in lowercase, and no other
+-- a set contains the names of these entries in ASCII lowercase, and no other text in ASCII lowercase
 abbrev pub AreNamesOf : List EntryReading → (List ℕ → Bool) → Type 0
 AreNamesOf entries has = (name : List ℕ) → holds_name has name ≡ has_word (all_names entries) name
 

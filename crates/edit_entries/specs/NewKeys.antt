@@ -21,7 +21,7 @@ key_for (Each keys) = given_keys keys.now
 abbrev pub index_for : BTreeMap (Bor (List ℕ)) ℕ → List ℕ → Option ℕ
 index_for indices name = get_by (λ k. slice_cmp nat_cmp name k.now) indices
 
--- the index that a map has for a name in lowercase, if there is one
+-- the index that a map has for a name in ASCII lowercase, if there is one
 abbrev pub index_for_word : {A : Type 0} → BTreeMap (String A) ℕ → List ℕ → Option ℕ
 index_for_word indices name = get_by_text indices (str_to_ascii_lowercase name)
 

@@ -1,5 +1,5 @@
 -- Meaning: words of public contracts.
--- New keys of entries: what they may contain, and the names that entries have already.
+-- New keys of entries: the texts that can be one, and the names that entries have already.
 use Rattle.std.specs.Prelude.{◌≡◌, ℕ, suc, ◌<◌, Bool, true, false, not, ◌&&◌, ◌||◌, ◌==◌, if◌then◌else◌, List, [], ◌∷◌, ◌++◌, length, codes, take, Option, Some, bytes_eq, is_some, option_to_list, slice_get}
 use Rattle.std.specs.List.{list_any}
 use Rattle.std.specs.Str.Iter.{HasSubslice}
@@ -22,8 +22,8 @@ is_unsafe_in_key c =
 abbrev pub is_new_key : ℕ → Bool
 is_new_key c = is_key c && not (is_unsafe_in_key c)
 
--- a text can be a new key: BibTeX, Biber and bibtool read it as one, a reference to it is read as it is written, and a citation of it
--- isn't one of all entries, as `*` is
+-- a text can be a new key. BibTeX, Biber and bibtool read it as one, and a reference to it is read as it is written. A citation of `*`
+-- means all entries
 pub record CanBeNewKey (text : List ℕ) : Type 0 where
   pub some : 0 < length text
   pub no_star : bytes_eq text (codes "*") ≡ false
@@ -51,7 +51,7 @@ has_word names name = list_any (λ own. is_word own name) names
 abbrev pub kept_names : Bool → EntryReading → List (List ℕ)
 kept_names is_replaced e = if is_replaced then aliases_of e.fields else entry_names e
 
--- the names that stay if entries get new keys by their indices: those in `ids`, and the keys of the entries that get none; the first
+-- the names that stay if entries get new keys by their indices: those in `ids`, and the keys of the entries that get none. The first
 -- entry has the given index
 abbrev pub staying_names : (ℕ → Option (List ℕ)) → ℕ → List EntryReading → List (List ℕ)
 staying_names keys index [] = []

@@ -1,6 +1,6 @@
 -- Meaning: words of public contracts.
--- The entries that names in references mean, and the outcome of giving entries new keys: the entries and each reference to them have the
--- new keys.
+-- The entries that references name, and the document after entries get new keys. References to these entries get the new keys too, if
+-- their values are one literal.
 use Rattle.std.specs.Prelude.{◌≡◌, ℕ, suc, ◌-◌, ◌<◌, ◌==◌, Bool, true, false, if◌then◌else◌, List, [], ◌∷◌, ◌++◌, codes, length, map, take, drop, Option, Some, None, bytes_eq, is_some, option_and_then, option_map, slice_get, slice_index_or, ⊤}
 use Rattle.std.specs.Borrow.{Bor}
 use Rattle.std.specs.List.{AllByRecursion, find, flat_map, join_by, list_any, slice_split}
@@ -19,7 +19,7 @@ use Rattle.edit_entries.specs.NewNames.{CanBeNewKey, IsNewKeyTaken}
 use Rattle.edit_entries.specs.declared.errors.EditError.{EditError}
 use Rattle.edit_entries.specs.declared.errors.EditError.TheVariants.{UnknownKey, KeyIsThere, NotAKey, NotAName, NotInBraces, NotBare, DefinitionIsThere, NoFieldLeft, OutOfMemory}
 
--- ---- which entry a name means
+-- ---- the entry that a name means
 
 -- the first of two indices that is found, if there is one
 abbrev pub first_found : Option ℕ → Option ℕ → Option ℕ
@@ -129,14 +129,14 @@ abbrev pub key_change : Option (List ℕ) → EntryReading → List Change
 key_change None e = []
 key_change (Some new) e = Change.key e.key new ∷ []
 
--- the changes of entries that give them new keys by their indices, and new names to the elements of their references; the first entry has
+-- the changes of entries that give them new keys by their indices, and new names to the elements of their references. The first entry has
 -- the given index
 abbrev pub renaming : (List ℕ → List ℕ → Option (List ℕ)) → (ℕ → Option (List ℕ)) → ℕ → List EntryReading → List Change
 renaming names keys index [] = []
 renaming names keys index (e ∷ rest) =
     (key_change (keys index) e ++ reference_changes names e.fields) ++ renaming names keys (suc index) rest
 
--- the changes that give entries new keys, also in each reference to them
+-- the changes that give entries new keys, also in the references to them in values that are one literal
 abbrev pub key_renaming : (ℕ → Option (List ℕ)) → List EntryReading → List Change
 key_renaming keys entries = renaming (new_reference entries keys) keys 0 entries
 
@@ -208,7 +208,8 @@ given_keys keys index = option_and_then (option_map (λ k. k.now)) (slice_get ke
 abbrev pub only : ℕ → List ℕ → ℕ → Option (List ℕ)
 only one new index = if index == one then Some new else None
 
--- the outcome of renaming a key: nothing changes if the new key is the old one; otherwise the first entry with the key gets the new one
+-- the document after a key is renamed. If the new key is the old one, nothing changes. Otherwise the first entry with the old key gets
+-- the new one.
 pub data KeyRenamed (d : Document) (old new : List ℕ) : Document → Type 0 where
   same : {k : ℕ} {e : EntryReading} → HasEntry d old k e → bytes_eq old new ≡ true → KeyRenamed d old new d
   renamed : {k : ℕ} {e : EntryReading} {after : Document} → HasEntry d old k e → bytes_eq old new ≡ false

@@ -25,8 +25,8 @@ without_if_selected selected name e = if selected e.key.text then without_named 
 abbrev pub would_be_empty : (List ℕ → Bool) → List ℕ → EntryReading → Bool
 would_be_empty selected name e = selected e.key.text && have_only name e.fields
 
--- the outcome of unsetting a field of entries: each field with the name of each entry whose key is selected is removed, as if by itself,
--- and no such entry has only such fields. The reading is as it was except for these fields and byte offsets.
+-- the document after a field is unset in entries. The edits of `unset_edits` are made in each entry whose key is selected. None of these
+-- entries loses all its fields. The reading is as it was except for their fields with the name and byte offsets.
 pub record FieldsUnset (d : Document) (selected : List ℕ → Bool) (name : List ℕ) (after : Document) : Type 0 where
   pub left : list_any (would_be_empty selected name) d.says.entries ≡ false
   pub text : after.text ≡ edited_all (flat_map (unset_if_selected selected d.text name) d.says.entries) d.text

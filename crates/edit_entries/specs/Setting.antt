@@ -21,8 +21,8 @@ use Rattle.edit_entries.specs.declared.errors.EditError.TheVariants.{UnknownKey,
 
 -- ---- values
 
--- a text can be a value in braces for the file grammar, in which a backslash escapes the next character, and for BibTeX, Biber and
--- bibtool, in which a backslash escapes nothing
+-- a text can be a value in braces. For the file grammar, a backslash escapes the next character. For BibTeX, Biber and bibtool, it
+-- escapes nothing
 pub record CanBeValue (text : List ℕ) : Type 0 where
   pub braced : CanStandInBraces text
   pub balanced : IsBalanced text
@@ -32,17 +32,17 @@ abbrev pub begins_with_digit : List ℕ → Bool
 begins_with_digit [] = false
 begins_with_digit (b ∷ bs) = is_ascii_digit b
 
--- a text can be the name of a new field: for the file grammar, and for BibTeX and Biber, which read no name that begins with a digit
+-- a text can be the name of a new field, also for BibTeX and Biber, which read no name that begins with a digit
 pub record CanBeNewName (text : List ℕ) : Type 0 where
   pub name : CanBeName text
   pub no_digit : begins_with_digit text ≡ false
 
--- a value that a field gets: a text, which is written in braces, or a number or the name of an abbreviation, written as it is
+-- a value that a field gets: a text, written in braces, or a number or the name of an abbreviation, written as it is
 pub data SetValue : Type 0 where
   plain_text : List ℕ → SetValue
   bare_text : List ℕ → SetValue
 
--- the value of a call
+-- the value that a call passes
 abbrev pub value_of : FieldValue → SetValue
 value_of (Text text) = SetValue.plain_text text.now
 value_of (Bare text) = SetValue.bare_text text.now
@@ -60,7 +60,7 @@ new_value (SetValue.bare_text text) = record {
   pieces = (if is_bare_number text then literal (text_at 0 text) else abbreviation (text_at 0 text)) ∷ [];
 }
 
--- whether a piece is this number, or this abbreviation in any ASCII case
+-- whether a piece is a literal with this number, or this abbreviation in any ASCII case
 abbrev pub is_bare_piece : List ℕ → Piece → Bool
 is_bare_piece text (literal p) = is_bare_number text && bytes_eq p.text text
 is_bare_piece text (abbreviation p) = is_word p.text text
@@ -76,14 +76,14 @@ is_same_value (SetValue.bare_text text) (p ∷ other ∷ rest) = false
 abbrev pub is_defined_before : ℕ → List ℕ → FieldReading → Bool
 is_defined_before at name f = has_name name f && nat_lt f.name.start at
 
--- whether a name is a month's abbreviation, or is defined before a byte offset, in any ASCII case; BibTeX reads definitions and uses in
--- order, and knows the months by its styles
+-- whether a name is a month's abbreviation, or is defined before a byte offset, in any ASCII case. BibTeX reads definitions and uses in
+-- order; its styles define the months
 abbrev pub is_defined : List FieldReading → ℕ → List ℕ → Bool
 is_defined definitions at name =
     is_some (month_of_abbreviation name) || list_any (is_defined_before at name) definitions
 
--- a text can be a value without braces at a byte offset: a number, or the name of an abbreviation that is a month or is defined
--- before it
+-- a text can be a value without braces at a byte offset. It is a number, or an abbreviation that doesn't begin with a digit, and is a
+-- month or defined before the offset
 pub data IsBare (definitions : List FieldReading) (at : ℕ) (text : List ℕ) : Type 0 where
   number : is_bare_number text ≡ true → IsBare definitions at text
   named : CanBeNewName text → is_defined definitions at text ≡ true → IsBare definitions at text
@@ -108,7 +108,7 @@ has_other_value name value f = has_name name f && not (is_same_value value f.val
 abbrev pub set_change : List ℕ → SetValue → FieldReading → FieldChange
 set_change name value f = if has_other_value name value f then FieldChange.valued (new_value value) else FieldChange.kept
 
--- the change of an entry in which each field with a name gets a value: BibTeX reads the first of these fields, Biber and this library
+-- the change of an entry in which each field with a name gets a value. BibTeX reads the first of these fields, Biber and this library
 -- the last
 abbrev pub values_set : List ℕ → SetValue → EntryReading → EntryChange
 values_set name value e = record { kind = None; fields = map (set_change name value) e.fields }
@@ -121,7 +121,7 @@ white_before text at = drop (at - suffix_len is_ascii_whitespace (take at text))
 abbrev pub field_with_value : List ℕ → SetValue → NewField
 field_with_value name value = record { name = name; value = new_value value }
 
--- the change of an entry with a new field before these, which gets the white space before the first one, and the layout of their equals
+-- the change of an entry with a new field before these. It gets the white space before the first one, and the layout of their equals
 -- signs
 abbrev pub field_put : List ℕ → List ℕ → SetValue → FieldReading → List FieldReading → EntryChange
 field_put text name value first others = record {
@@ -148,7 +148,7 @@ pub record IsAfterComma (text : List ℕ) (e : EntryReading) (at : ℕ) : Type 0
 abbrev pub only_field_text : List ℕ → SetValue → List ℕ
 only_field_text name value = codes " " ++ (new_field_text (field_with_value name value) ++ codes ",")
 
--- an entry of a document gets its first field, after the comma that follows its key, and all else is as it was, except for byte offsets
+-- an entry of a document gets its only field, after the comma after its key. All else is as it was, except for byte offsets
 pub record IsFirstAdded (d : Document) (k : ℕ) (e : EntryReading) (name : List ℕ) (value : SetValue) (after : Document) : Type 0 where
   pub at : ℕ
   pub comma : IsAfterComma d.text e at
@@ -194,7 +194,8 @@ pub record IsSet (d : Document) (key name : List ℕ) (value : SetValue) : Type 
   pub named : list_any (has_name name) entry.fields ≡ true
   pub same : list_any (has_other_value name value) entry.fields ≡ false
 
--- the value can't be written in the first entry with a key, which doesn't have it yet; this is the error for it
+-- the value can't be written in the first entry with a key, in which no field has the name, or one of them has another value. `error`
+-- is the error for it
 pub record CantBeSet (d : Document) (key name : List ℕ) (value : SetValue) (error : EditError) : Type 0 where
   pub index : ℕ
   pub entry : EntryReading

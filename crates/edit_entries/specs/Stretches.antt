@@ -33,7 +33,7 @@ AreChangesInOrder text at (change ∷ rest) =
     (at ≤ change_start change) × (change_start change ≤ change_end change) × IsCharBoundary text (change_start change)
     × IsCharBoundary text (change_end change) × AreChangesInOrder text (change_end change) rest
 
--- from the end of a change's stretch to the end of the changed part there is only white space, and the text may be cut there
+-- only white space is between the end of a change's stretch and the end of the changed part. The text may be cut at the first of these
 abbrev pub EndsInWhite : List ℕ → Change → Type 0
 EndsInWhite text (Change.key p new) = ⊤
 EndsInWhite text (Change.value f new) =

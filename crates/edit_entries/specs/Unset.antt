@@ -1,5 +1,6 @@
 -- Meaning: words of public contracts.
--- Unsetting a field of an entry: the bytes of the text that go, and the outcome.
+-- Unsetting a field of an entry: the edits of the text, and the outcome. ASCII white space is a space, tab, line feed, form feed or
+-- carriage return.
 use Rattle.std.specs.Prelude.{◌≡◌, ℕ, zero, suc, ◌+◌, ◌-◌, ◌==◌, ◌&&◌, ◌||◌, not, Bool, true, false, if◌then◌else◌, List, [], ◌∷◌, ◌++◌, codes, filter, Option, Some, None, slice_get, slice_set}
 use Rattle.std.specs.Char.{is_ascii_whitespace}
 use Rattle.std.specs.List.{list_any, prefix_len}
@@ -37,13 +38,13 @@ is_line_space b = is_ascii_whitespace b && is_no_line_feed b
 abbrev pub line_end_at : List ℕ → ℕ → ℕ
 line_end_at text feed = if has_byte_at text (feed - 1) char.carriage_return then feed - 1 else feed
 
--- the byte offset after a line comment and the ASCII white space after it, if a line comment is at a byte offset, or else that one
+-- the byte offset after the line comment at a byte offset and the ASCII white space after it, or that byte offset if none is there
 abbrev pub after_comment : List ℕ → ℕ → ℕ → ℕ
 after_comment text sign end =
     if has_byte_at text sign char.percent then after_bytes is_ascii_whitespace text (after_bytes is_no_line_feed text sign end) end
     else sign
 
--- the byte offset after the ASCII white space between two byte offsets, in which one line comment may occur
+-- the byte offset after the ASCII white space at a byte offset, in which one line comment may occur; `end` bounds both
 abbrev pub gap_end : List ℕ → ℕ → ℕ → ℕ
 gap_end text start end = after_comment text (after_bytes is_ascii_whitespace text start end) end
 
@@ -54,11 +55,11 @@ abbrev pub end_before : EntryReading → ℕ → ℕ
 end_before e zero = e.key.end
 end_before e (suc j) = option_map_or (λ f. f.value.end) (slice_get e.fields j) e.key.end
 
--- the byte offset of the comma before a field; a comment of the field before may be before that comma
+-- the byte offset at which the comma before a field is expected: after ASCII white space and at most one comment
 abbrev pub comma_before : List ℕ → EntryReading → ℕ → FieldReading → ℕ
 comma_before text e j f = gap_end text (end_before e j) f.name.start
 
--- the byte offset of the comma of a field, or of the closing brace if it has no comma; a comment of the field may be before it
+-- the byte offset at which the comma of a field or else the closing brace is expected, after ASCII white space and at most one comment
 abbrev pub comma_after : List ℕ → EntryReading → ℕ → FieldReading → ℕ
 comma_after text e j f = gap_end text f.value.end (field_limit e j)
 
@@ -67,11 +68,17 @@ abbrev pub is_closed : List ℕ → EntryReading → ℕ → FieldReading → Bo
 is_closed text e j f =
     has_byte_at text (comma_after text e j f) char.comma || has_byte_at text (comma_after text e j f) char.close_brace
 
--- the byte offset at which a field without a comma ends: at the end of the line of the comment directly after its value, or else after its
--- value
+-- whether a line comment follows a field's value on the line on which the value ends. A value's span ends after the white space after it.
+abbrev pub has_comment_beside : List ℕ → FieldReading → Bool
+has_comment_beside text f =
+    has_byte_at text f.value.end char.percent
+    && (after_bytes is_no_line_feed text (value_end text f) f.value.end == f.value.end)
+
+-- the byte offset at which a field without a comma ends: after the comment on the line of its value's end, or else after its value.
+-- So a comment on a line of its own after the last value stays.
 abbrev pub own_end : List ℕ → EntryReading → ℕ → FieldReading → ℕ
 own_end text e j f =
-    if has_byte_at text f.value.end char.percent
+    if has_comment_beside text f
     then line_end_at text (after_bytes is_no_line_feed text f.value.end (field_limit e j))
     else value_end text f
 
@@ -82,8 +89,8 @@ comma_end text e j f =
 
 -- ---- a field without a comment before it
 
--- the edit that removes a field without a comment before it, with the white space before it, the comment directly after its value and its
--- comma; the text after its comma stays
+-- the edit that removes a field without a comment before it, from the comma before it up to and including its own comma. If it has no
+-- comma, the edit ends at `own_end`
 abbrev pub line_edit : List ℕ → EntryReading → ℕ → FieldReading → Edit
 line_edit text e j f = record { start = comma_before text e j f + 1; end = comma_end text e j f; bytes = [] }
 
@@ -97,11 +104,11 @@ sign_before text e j f = after_bytes is_ascii_whitespace text (comma_before text
 abbrev pub feed_before : List ℕ → EntryReading → ℕ → FieldReading → ℕ
 feed_before text e j f = after_bytes is_no_line_feed text (sign_before text e j f) f.name.start
 
--- the byte offset after the comma of a field and the ASCII white space after that comma
+-- the byte offset after `comma_end` and the ASCII white space there
 abbrev pub sign_after : List ℕ → EntryReading → ℕ → FieldReading → ℕ
 sign_after text e j f = after_bytes is_ascii_whitespace text (comma_end text e j f) (field_limit e j)
 
--- the byte offset of the line feed that ends the line of a field's comma, if only white space follows the comma there
+-- the byte offset of the first line feed after `comma_end`, if only ASCII white space is between them
 abbrev pub feed_after : List ℕ → EntryReading → ℕ → FieldReading → ℕ
 feed_after text e j f = after_bytes is_line_space text (comma_end text e j f) (field_limit e j)
 
@@ -110,12 +117,12 @@ abbrev pub joining_edit : List ℕ → EntryReading → ℕ → FieldReading →
 joining_edit text e j f =
     record { start = line_end_at text (feed_before text e j f); end = sign_after text e j f; bytes = codes " " }
 
--- the edit that removes the lines of a field after a comment, up to the line feed after its comma
+-- the edit that removes the lines of a field after a comment, up to and including the line feed at `feed_after`
 abbrev pub lines_edit : List ℕ → EntryReading → ℕ → FieldReading → Edit
 lines_edit text e j f = record { start = feed_before text e j f + 1; end = feed_after text e j f + 1; bytes = [] }
 
--- the edit that removes a field after a comment. If another comment is after its comma, the two are joined. If only ASCII white space with
--- a line feed is between its comma and the next field or the closing brace, its lines are removed.
+-- the edit that removes a field after a comment. If another comment is after `comma_end`, the two are joined. If only ASCII white space
+-- with a line feed is between `comma_end` and the next field or the closing brace, its lines are removed. Otherwise there is no edit.
 abbrev pub following_edit : List ℕ → EntryReading → ℕ → FieldReading → Option Edit
 following_edit text e j f =
     if has_byte_at text (sign_after text e j f) char.percent then Some (joining_edit text e j f)
@@ -123,14 +130,15 @@ following_edit text e j f =
     then Some (lines_edit text e j f)
     else None
 
--- the same, if a comment is before the field
+-- the same, if the text after the comma before the field is ASCII white space and then a comment that ends with a line feed
 abbrev pub commented_edit : List ℕ → EntryReading → ℕ → FieldReading → Option Edit
 commented_edit text e j f =
     if has_byte_at text (sign_before text e j f) char.percent && has_byte_at text (feed_before text e j f) char.line_feed
     then following_edit text e j f
     else None
 
--- the edit that removes a field and no comment of another one, if the commas around it are found
+-- the edit that removes a field and no comment of another field, if there is one. The comma before the field, and the comma or the closing
+-- brace after it, must be found
 abbrev pub own_edit : List ℕ → EntryReading → ℕ → FieldReading → Option Edit
 own_edit text e j f =
     if has_byte_at text (comma_before text e j f) char.comma && is_closed text e j f
@@ -145,13 +153,14 @@ own_edit text e j f =
 abbrev pub removal : List ℕ → EntryReading → ℕ → FieldReading → List Edit
 removal name e index f = if has_name name f then field_edit e index f ∷ [] else []
 
--- the edits that remove the fields with a name so; the first field has the given index
+-- the edits that remove each of these fields with a name, up to the next field or the closing brace. The first of these fields has the
+-- given index
 abbrev pub removals : List ℕ → EntryReading → ℕ → List FieldReading → List Edit
 removals name e index [] = []
 removals name e index (f ∷ rest) = removal name e index f ++ removals name e (suc index) rest
 
--- the edit that removes a field up to the comma after its value and no comment of another one, if the commas around it are found and no
--- comment is before it
+-- the edit that removes a field with the comma after it and no comment of another field. There is one if the commas around it are found
+-- and no comment is before it
 abbrev pub plain_edit : List ℕ → EntryReading → ℕ → FieldReading → Option Edit
 plain_edit text e j f =
     if has_byte_at text (comma_before text e j f) char.comma && has_byte_at text (comma_after text e j f) char.comma
@@ -159,18 +168,20 @@ plain_edit text e j f =
     then Some (record { start = comma_before text e j f + 1; end = comma_after text e j f + 1; bytes = [] })
     else None
 
--- the edit that removes a field by itself, by whether a later field has the same name
+-- the edit that removes a field and no comment of another field, if there is one. The first argument is whether a later field has the same
+-- name
 abbrev pub edit_before : Bool → List ℕ → EntryReading → ℕ → FieldReading → Option Edit
 edit_before true text e j f = plain_edit text e j f
 edit_before false text e j f = own_edit text e j f
 
--- an edit and those after it, if there are all
+-- the first edit and the later ones, unless the first or the later ones are missing
 abbrev pub with_edit : Option Edit → Option (List Edit) → Option (List Edit)
 with_edit None more = None
 with_edit (Some edit) None = None
 with_edit (Some edit) (Some edits) = Some (edit ∷ edits)
 
--- the edits that remove each of these fields with a name by itself, if there are such edits; the first field has the given index
+-- the edits that remove each of these fields with a name and no comment of another field, if there is one for each of them. The first of
+-- these fields has the given index
 abbrev pub own_edits : List ℕ → List ℕ → EntryReading → ℕ → List FieldReading → Option (List Edit)
 own_edits text name e index [] = Some []
 own_edits text name e index (f ∷ rest) =
@@ -194,8 +205,8 @@ unset_edits text name e = or_removals name e (own_edits text name e 0 e.fields)
 abbrev pub without_named : List ℕ → EntryReading → EntryReading
 without_named name e = record e { fields = filter (λ f. not (has_name name f)) e.fields }
 
--- the outcome of unsetting a field of an entry: each field with the name is removed, unless the entry has only such fields. The reading
--- is as it was except for these fields and byte offsets.
+-- the document after a field is unset in an entry, which also has a field with another name. Each field with the name is removed. The
+-- reading is as it was except for these fields and byte offsets.
 pub data FieldUnset (d : Document) (key name : List ℕ) : Document → Type 0 where
   unset : {k : ℕ} {e : EntryReading} {after : Document} → HasEntry d key k e → have_only name e.fields ≡ false
       → after.text ≡ edited_all (unset_edits d.text name e) d.text

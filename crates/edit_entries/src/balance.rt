@@ -3,8 +3,8 @@
 ghost use Rattle.std.specs.Prelude.{MatchBool};
 ghost use Rattle.edit_entries.specs.Balance.{IsBalanced};
 
-/// Returns whether each closing brace of a text closes an earlier one, and each opening brace is closed. A brace after a backslash counts,
-/// too.
+/// Returns whether each closing brace of a text closes an earlier opening brace, and each opening brace is closed. A brace after a
+/// backslash counts, too.
 pub fn is_balanced(text: &str) -> bool
     ensures { MatchBool result (IsBalanced text.now) (IsBalanced text.now → ⊥) }
 {

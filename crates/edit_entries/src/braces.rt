@@ -23,7 +23,7 @@ fn is_plain(c: char) -> bool
 }
 
 // Returns the text up to the first closing brace that closes no brace in it, and stops at that brace. Returns `None` if there is no such
-// brace. A brace after a backslash isn't counted.
+// brace. A backslash escapes the next character, and an escaped brace isn't counted.
 fn parts<'s>(s: &mut Scanner<'s>) -> Option<&'s str>
     ensures { MatchOption result
         ((v w : Place) → Parts s.old v → CharAt v char.close_brace w → ⊥)
@@ -84,6 +84,15 @@ fn between_braces(alloc: Global, text: &str) -> Result<String, AllocError>
     braced.push_str(text)?;
     braced.push('}')?;
     Ok(braced)
+}
+
+/// Returns whether a text can be written between two braces. A backslash escapes the next character: an escaped brace isn't counted, and
+/// an unescaped backslash at the end would escape the closing brace. Returns an error only if out of memory.
+pub fn can_stand_in_braces(alloc: Global, text: &str) -> Result<bool, AllocError>
+    ensures { IfOk result (λ can. MatchBool can (CanStandInBraces text.now) (CanStandInBraces text.now → ⊥)) }
+{
+    let braced = between_braces(alloc, text)?;
+    Ok(is_braced(&braced))
 }
 
 // Returns a text between two braces, if it can be written so.

@@ -45,7 +45,7 @@ fn is_same_value(one: &[Spanned<RawChunk<'_>>], other: &[Spanned<RawChunk<'_>>])
     true
 }
 
-// Returns the index of the last definition of each abbreviation, by its name in lowercase.
+// Returns the index of the last definition of each abbreviation, by its name in ASCII lowercase.
 fn last_definitions(
     alloc: Global,
     definitions: &[Pair<'_>],

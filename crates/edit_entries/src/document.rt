@@ -88,8 +88,8 @@ impl<'s> RawDocument<'s> {
     }
 
     /// Returns whether a field of an entry or the definition of an abbreviation contains a text in quotes whose braces aren't balanced, as
-    /// in `"The {"}Big{"} one"`. BibTeX and Biber end such a text at the first quote outside of braces; this library and bibtool end it
-    /// at the first quote that no backslash escapes. So the text, and what follows it, depend on the program, and an edit can break it.
+    /// in `"The {"}Big{"} one"`. BibTeX and Biber end such a text at the first quote outside of braces. This library and bibtool end it
+    /// at the first quote that no backslash escapes. So the end of the text depends on the program, and an edit can break it.
     pub fn has_unbalanced_quotes(&self) -> bool
         ensures { result ≡ quotes.has_unbalanced_quotes self.now }
     {
@@ -105,9 +105,11 @@ impl<'s> RawDocument<'s> {
     /// # Errors
     ///
     /// `UnknownKey` if no entry has the key; `NotAName` if the entry has no field with `name`, and `name` can't be that of a new field.
-    /// If a field with `name` is missing or has another value: `NotInBraces` if a text can't be written in braces, for this library or for
-    /// BibTeX, which also counts a brace after a backslash; `NotBare` if a value without braces is neither a number nor an abbreviation
-    /// that is a month or is defined before the entry, in any ASCII case.
+    ///
+    /// The other errors occur only if a field with `name` is missing or has another value. `NotInBraces` if a text can't be written in
+    /// braces, for this library or for BibTeX, which also counts a brace after a backslash. `NotBare` if a value without braces is neither
+    /// a number nor an abbreviation that is a month or is defined before the entry. Abbreviations are compared in any ASCII case, and one
+    /// that begins with a digit is `NotBare`, too.
     pub fn set_field(
         &self,
         alloc: Global,
@@ -128,21 +130,24 @@ impl<'s> RawDocument<'s> {
     /// Returns the text without a field of an entry: each field with `name`, in any ASCII case, of the first entry with `key` is removed.
     /// Returns the same text if the entry lacks the field.
     ///
-    /// A field is removed with its comma, the white space before it, and the comment between its value and its comma.
-    /// Comments before the field and after its comma stay. If both are there, they become one line. If only the comment before the field is
-    /// there, the field is removed with its lines, so the closing brace keeps its column.
+    /// A field is removed with its comma, the white space before it, and the comment between its value and its comma. Without a comma, the
+    /// comment on the line on which its value ends is removed. Comments before the field and after its comma stay. If both are there, they
+    /// become one line. If only the comment before the field is there, the field is removed with its lines, so the closing brace keeps its
+    /// column.
     ///
-    /// In these cases the text from the name up to the next field or the closing brace is removed, with a comment in it. If this is the
+    /// In these cases the text from the name up to the next field or the closing brace is removed, with the comments in it. If this is the
     /// case for one of several fields with the name, it is done for each of them.
     ///
     /// - A comment is after the comma before the field, and a later field has the same name.
-    /// - A comment is after the comma before the field, and the next field or the closing brace is on the line of the field's comma.
-    /// - White space that isn't ASCII is directly before one of the two commas, or next to a comment.
+    /// - A comment is after the comma before the field, and the next field or the closing brace is on the line on which the field ends.
+    /// - White space other than a space, tab, line feed, form feed or carriage return, such as a no-break space, is between the key and its
+    ///   comma, or between a comment and the comma or closing brace after it. Or such white space is between one of the two commas and the
+    ///   next comment, field or closing brace, and a comment is before the field.
     ///
     /// # Errors
     ///
-    /// `UnknownKey` if no entry has the key; `NoFieldLeft` if all fields of the entry have the name: bibtool doesn't read an entry
-    /// without fields.
+    /// `UnknownKey` if no entry has the key; `NoFieldLeft` if the entry has fields, and all of them have the name. bibtool doesn't read an
+    /// entry without fields.
     pub fn unset_field(&self, alloc: Global, key: &str, name: &str) -> Result<String, EditError>
         ensures unset { IfOk result (λ new. IsEdited (FieldUnset self.now key.now name.now) (string_bytes new)) }
         ensures refused { IfErr result (UnsetIsRefused self.now key.now name.now) }
@@ -177,7 +182,7 @@ impl<'s> RawDocument<'s> {
     ///
     /// # Errors
     ///
-    /// `NoFieldLeft` if all fields of an entry with one of these keys have the name.
+    /// `NoFieldLeft` if an entry with one of these keys has fields, and all of them have the name.
     pub fn unset_fields(
         &self,
         alloc: Global,
@@ -205,7 +210,7 @@ impl<'s> RawDocument<'s> {
         edited_all(alloc, text, &edits)
     }
 
-    // Returns the text with new keys of entries, also in each reference to them.
+    // Returns the text with new keys of entries, also in the references to them (see `rename_key`).
     fn with_keys(&self, alloc: Global, keys: NewKeys<'_>) -> Result<String, EditError>
         ensures renamed { IfOk result (λ text. IsEdited (KeysRenamed self.now (key_for keys.entry)) (string_bytes text)) }
         ensures refused { IfErr result (KeysAreRefused self.now (key_for keys.entry)) }
@@ -220,17 +225,17 @@ impl<'s> RawDocument<'s> {
         with_new_keys(alloc, self.text, entries, keys)
     }
 
-    /// Returns the text with the key `new` for the first entry with the key `old`, also in each reference to it. The references are in the
-    /// fields `crossref`, `xref`, `xdata`, `entryset`, `related` and `set` of all entries: if the value is one text, each element of this
-    /// comma list is one. An element refers to the first entry that has exactly this key. An element of `crossref`, the only one of these
-    /// fields that BibTeX reads, can also refer to an entry by its key in another ASCII case: if BibTeX finds the entry by it, and Biber
-    /// finds no other entry by its field `ids`. A value that changes is written in braces. Joined values, abbreviations, and keys that are
-    /// written with TeX stay. The text stays if `new` is `old`.
+    /// Returns the text with the key `new` for the first entry with the key `old`, also in the references to it. The references are in the
+    /// fields `crossref`, `xref`, `xdata`, `entryset`, `related` and `set` of all entries. If the value is one text, each element of this
+    /// comma list is one. An element refers to the first entry that has exactly this key. BibTeX reads only `crossref` of these fields, and
+    /// finds the first entry with this key in any ASCII case. If no entry has exactly this key, an element of `crossref` refers to that
+    /// entry, unless Biber finds an entry with another key by its field `ids`. A value that changes is written in braces. Joined values,
+    /// abbreviations, and keys that are written with TeX stay. The text stays if `new` is `old`.
     ///
     /// # Errors
     ///
-    /// `UnknownKey` if no entry has the key `old`; `NotAKey` if `old` is empty, or `new` can't be a new key; `KeyIsThere` if `new` is, in
-    /// any ASCII case, the key of another entry or a name in the field `ids` of an entry; `NotInBraces` if a value that changes can't be
+    /// `UnknownKey` if no entry has the key `old`. `NotAKey` if `old` is empty, or `new` can't be a new key. `KeyIsThere` if `new` is, in
+    /// any ASCII case, the key of another entry or a name in the field `ids` of an entry. `NotInBraces` if a value that changes can't be
     /// written in braces.
     pub fn rename_key(&self, alloc: Global, old: &str, new: &str) -> Result<String, EditError>
         ensures renamed { IfOk result (λ text. IsEdited (KeyRenamed self.now old.now new.now) (string_bytes text)) }
@@ -250,8 +255,9 @@ impl<'s> RawDocument<'s> {
     ///
     /// # Errors
     ///
-    /// `NotAName` if the name that fields get can't be the name of a new field; `NotInBraces` if the value of the edit can't be written in
-    /// braces, and `NotBare` if it can't be written without them in the first of these entries (see `set_field`).
+    /// `NotAName` if the name that fields get can't be the name of a new field. `NotInBraces` if the value of the edit can't be written in
+    /// braces. `NotBare` if it can't be written without them in the first of these entries, or at the end of the text if there is none
+    /// (see `set_field`).
     pub fn edit_fields(
         &self,
         alloc: Global,
@@ -271,13 +277,13 @@ impl<'s> RawDocument<'s> {
         Ok(edited_all(alloc, text, &edits)?)
     }
 
-    /// Returns the text with new keys of entries: each entry gets the key at its index in `keys`, if there is one, and so does each
-    /// reference to the entry (see `rename_key`). All keys change at once, so entries can also exchange their keys.
+    /// Returns the text with new keys of entries. Each entry gets the key at its index in `keys`, if there is one, and so do the
+    /// references to it (see `rename_key`). All keys change at once, so entries can also exchange their keys.
     ///
     /// # Errors
     ///
-    /// `NotAKey` if an entry that gets a key has an empty one, or the new one can't be a new key; `KeyIsThere` if a new key is, in any
-    /// ASCII case, the key of an entry that gets none, a name in the field `ids` of an entry, or another new key; `NotInBraces` if a value
+    /// `NotAKey` if an entry that gets a key has an empty one, or the new one can't be a new key. `KeyIsThere` if a new key is, in any
+    /// ASCII case, the key of an entry that gets none, a name in the field `ids` of an entry, or another new key. `NotInBraces` if a value
     /// that changes can't be written in braces.
     pub fn rename_keys(&self, alloc: Global, keys: &[Option<&str>]) -> Result<String, EditError>
         ensures renamed { IfOk result (λ text. IsEdited (KeysRenamed self.now (given_keys keys.now)) (string_bytes text)) }
@@ -299,7 +305,7 @@ impl<'s> RawDocument<'s> {
     ///
     /// # Errors
     ///
-    /// `KeyIsThere` if an entry of `more` has a name, in any ASCII case, of an entry of this document or of an earlier entry of `more`; the
+    /// `KeyIsThere` if an entry of `more` has a name, in any ASCII case, of an entry of this document or of an earlier entry of `more`. The
     /// names of an entry are its key and the names in its field `ids`. `NotAKey` if the key of an entry of `more` can't be a new key (see
     /// `EditError::NotAKey`). `DefinitionIsThere` if both documents define an abbreviation, in any ASCII case, with different values.
     pub fn add_entries(&self, alloc: Global, more: &RawDocument<'_>) -> Result<String, EditError>

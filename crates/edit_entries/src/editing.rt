@@ -1,11 +1,14 @@
-//! Texts with one stretch or several replaced.
+//! Edits of a text: each replaces a stretch of it.
 
-ghost use Rattle.std.specs.Prelude.{◌≡◌, ◌≤◌, IfOk, map};
+ghost use Rattle.std.specs.Prelude.{◌≡◌, ◌++◌, ◌≤◌, IfOk, OnOk, map};
 ghost use Rattle.std.specs.Str.{IsCharBoundary};
 ghost use Rattle.std.specs.String.{string_bytes};
+ghost use Rattle.bib_syntax.specs.Views.{field_of};
+ghost use Rattle.edit_entries.specs.Changes.{removal_edits};
 ghost use Rattle.edit_entries.specs.Edits as spec;
 ghost use Rattle.edit_entries.specs.EditList.{AreEditsInOrder, edit_of};
 
+use bib_syntax::raw::Pair;
 use std::alloc::{AllocError, Global};
 
 /// The replacement of a stretch of a text.
@@ -53,4 +56,26 @@ pub fn edited_all(alloc: Global, text: &str, edits: &[Edit]) -> Result<String, A
     }
     new.push_str(&text[at..])?;
     Ok(new)
+}
+
+/// Adds the edit that removes `field`, up to the first field of `following`. Does nothing if no field follows. The only error is out of
+/// memory.
+pub fn push_removal(
+    edits: &mut Vec<Edit>,
+    alloc: Global,
+    field: &Pair<'_>,
+    following: &[Pair<'_>],
+) -> Result<(), AllocError>
+    ensures { OnOk result (map edit_of edits.new.items ≡ map edit_of edits.old.items
+        ++ removal_edits (field_of field.now) (map field_of following.now)) }
+{
+    let [next, ..] = following else {
+        return Ok(());
+    };
+    edits.push(Edit {
+        start: field.key.span.start,
+        end: next.key.span.start,
+        text: String::new(alloc),
+    })?;
+    Ok(())
 }

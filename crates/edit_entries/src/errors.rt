@@ -12,23 +12,23 @@ pub enum EditError {
     /// No entry has the key.
     #[error("no entry has the key")]
     UnknownKey,
-    /// A new key, or a name of an added entry, is a key that another entry keeps, a name in the field `ids` of an entry, or another new
-    /// key, in any ASCII case.
+    /// A new key, or a name of an added entry, is used already, in any ASCII case. It is a key that another entry keeps, a name in the
+    /// field `ids` of an entry, or another new key.
     #[error("an entry has the name already, as its key or in its field `ids`")]
     KeyIsThere,
-    /// The text, a new key or the key of an added entry, can't be a new key: BibTeX, Biber or bibtool misreads it, a reference to it is
-    /// parsed as another text, or its citation means all entries. Or the key to replace is empty.
+    /// A new key, or the key of an added entry, can't be a new key. BibTeX, Biber or bibtool misreads it, a reference to it is parsed as
+    /// another text, or its citation means all entries. Or the key to replace is empty.
     #[error("a new key isn't empty or `*`, and has no white space, control character, comma, quote, brace, parenthesis, `--` or any of # $ % = \\ ~")]
     NotAKey,
     /// The text can't be the name of a new field. BibTeX and Biber read no name that begins with a digit.
     #[error("the text can't be the name of a field")]
     NotAName,
-    /// The value can't be written in braces: a brace isn't closed or closes nothing, for this library or for BibTeX, which also counts a
-    /// brace after a backslash; or a backslash at its end escapes the closing brace.
+    /// The value can't be written in braces. A brace isn't closed or closes nothing, for this library or for BibTeX, which also counts a
+    /// brace after a backslash. Or a backslash at its end escapes the closing brace.
     #[error("the value can't be written in braces")]
     NotInBraces,
-    /// The value can't be written without braces: it is neither a number nor the name of an abbreviation that is a month or is defined
-    /// before the entry, as BibTeX requires.
+    /// The value can't be written without braces: it is neither a number nor an abbreviation that is a month or is defined before the
+    /// entry. BibTeX requires this order.
     #[error("the value is neither a number nor an abbreviation that is defined before the entry")]
     NotBare,
     /// An abbreviation is defined already, in any ASCII case, with another value: uses of it would change their value.

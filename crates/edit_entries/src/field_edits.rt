@@ -97,7 +97,7 @@ pub(crate) fn first_start(
     text.len()
 }
 
-// Adds the edit that puts a new field before the first of these fields. `written` is its value as it is written.
+// Adds the edit that puts a new field before the first of these fields, if there is one. `written` is its value as it is written.
 fn push_field_first(
     edits: &mut Vec<Edit>,
     alloc: Global,

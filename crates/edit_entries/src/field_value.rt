@@ -77,7 +77,7 @@ fn is_bare(definitions: &[Pair<'_>], at: usize, text: &str) -> bool
     is_defined(definitions, at, text)
 }
 
-// Returns whether a value is only this text.
+// Returns whether a value is one literal with this text.
 fn is_value(pieces: &[Spanned<RawChunk<'_>>], value: &str) -> bool
     ensures { result ≡ documents.is_value value.now (map piece_of pieces.now) }
 {

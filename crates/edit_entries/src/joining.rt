@@ -16,7 +16,7 @@ use bib_text::spanned::Spanned;
 use std::alloc::{AllocError, Global};
 use std::collections::BTreeSet;
 
-// Inserts names into a set, in lowercase.
+// Inserts names into a set, in ASCII lowercase.
 pub(crate) fn insert_names(
     alloc: Global,
     set: &mut BTreeSet<String>,
@@ -31,7 +31,7 @@ pub(crate) fn insert_names(
     Ok(())
 }
 
-// Returns whether a set contains one of these names, in lowercase.
+// Returns whether a set contains one of these names, in ASCII lowercase.
 fn has_one(alloc: Global, set: &BTreeSet<String>, names: &[&str]) -> Result<bool, AllocError>
     ensures { IfOk result (λ has. has ≡ list_any (holds_name (contains_text set.now)) (map (λ n. n.now) names.now)) }
 {
@@ -44,7 +44,7 @@ fn has_one(alloc: Global, set: &BTreeSet<String>, names: &[&str]) -> Result<bool
     Ok(false)
 }
 
-// Returns the set of the names of entries, in lowercase.
+// Returns the set of the names of entries, in ASCII lowercase.
 fn name_set(
     alloc: Global,
     entries: &[Spanned<RawEntry<'_>>],

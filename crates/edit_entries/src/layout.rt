@@ -44,8 +44,8 @@ fn is_blank(text: &str) -> bool
     true
 }
 
-// Returns the number of bytes from the start of the name to the equals sign, in the first of these fields with more than one
-// byte between the name and the sign.
+// Returns the number of bytes from the start of a name to its equals sign. The field is the first of these with more than one byte
+// between them.
 fn wide_column(text: &str, fields: &[Pair<'_>]) -> Option<usize>
     requires { AllByRecursion (IsSignPlaced text.now) (map field_of fields.now) }
     ensures { result ≡ spec.wide_column text.now (map field_of fields.now) }

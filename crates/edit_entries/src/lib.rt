@@ -8,13 +8,13 @@
 //! (`EntryFacts`).
 //!
 //! Several stretches are replaced in one pass over the text (`StretchFacts`). The reading is proved change by change, from the last to the
-//! first: the document agrees with the old one up to its last change (`AgreementFacts`), so the part before it keeps its byte offset
+//! first. The document agrees with the old one before its first change (`AgreementFacts`), so the parts before it keep their byte offsets
 //! (`ChangedFacts`).
 #![tactic(auto)]
 
 mod adding;
 pub mod balance;
-mod braces;
+pub mod braces;
 mod definitions;
 pub mod document;
 pub mod editing;

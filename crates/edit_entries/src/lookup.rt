@@ -1,4 +1,4 @@
-//! Finds the entry with a key.
+//! Finds the first entry with a key.
 
 ghost use Rattle.std.specs.Prelude.{◌≡◌, ◌<◌, length, map, ℕ, IfSome, None, MatchOption, slice_get, Some};
 ghost use Rattle.bib_syntax.specs.Views.{entry_reading_of};

@@ -46,7 +46,7 @@ pub struct Names<'k, 's> {
     pub(crate) keys: NewKeys<'k>,
     // The first entry with each key.
     exact: BTreeMap<&'s str, usize>,
-    // The first entry with each key in lowercase.
+    // The first entry with each key in ASCII lowercase.
     in_lowercase: BTreeMap<String, usize>,
     // The first entry with each name in its field `ids`.
     aliases: BTreeMap<&'s str, usize>,
@@ -70,7 +70,7 @@ fn give_index<'s>(
     Ok(())
 }
 
-// Gives a name in lowercase an index, unless it has one.
+// Gives a name in ASCII lowercase an index, unless it has one.
 fn give_lowercase_index(
     indices: &mut BTreeMap<String, usize>,
     alloc: Global,
@@ -132,7 +132,7 @@ fn key_indices<'s>(
     Ok(indices)
 }
 
-// Returns the index of the first entry with each key in lowercase.
+// Returns the index of the first entry with each key in ASCII lowercase.
 fn lowercase_indices(
     alloc: Global,
     entries: &[Spanned<RawEntry<'_>>],
@@ -176,7 +176,7 @@ fn key_texts<'s>(
     Ok(keys)
 }
 
-// Returns the key at an index, or an empty text without one.
+// Returns the key at an index, or an empty text if there is none.
 fn key_at<'s>(keys: &[&'s str], index: usize) -> &'s str
     ensures { result.now ≡ slice_index_or (map (λ k. k.now) keys.now) index [] }
 {

@@ -200,7 +200,7 @@ fn line_len(bytes: &[u8]) -> usize
     bytes.iter().take_while(|b| **b != b'\n').count()
 }
 
-// Returns the number of bytes of ASCII white space at the start, up to the first line feed.
+// Returns the number of bytes of ASCII white space at the start, before the first line feed.
 fn blank_len(bytes: &[u8]) -> usize
     ensures { result ≡ prefix_len unset.is_line_space bytes.now }
 {
@@ -224,7 +224,7 @@ fn line_feed(text: &str, start: usize, end: usize) -> usize
     start + line_len(stretch(text, start, end))
 }
 
-// Returns the byte offset after the ASCII white space at the start of the text between two byte offsets, up to its first line
+// Returns the byte offset after the ASCII white space at the start of the text between two byte offsets, before its first line
 // feed.
 fn blank_end(text: &str, start: usize, end: usize) -> usize
     ensures { result ≡ unset.after_bytes unset.is_line_space text.now start end }
@@ -244,7 +244,7 @@ fn line_end_at(text: &str, feed: usize) -> usize
     }
 }
 
-// Returns the byte offset after the ASCII white space between two byte offsets, in which one line comment may occur.
+// Returns the byte offset after the ASCII white space at `start`, in which one line comment may occur. `end` bounds both.
 fn gap_end(text: &str, start: usize, end: usize) -> usize
     ensures { result ≡ unset.gap_end text.now start end }
 {
@@ -255,7 +255,7 @@ fn gap_end(text: &str, start: usize, end: usize) -> usize
     white_end(text, line_feed(text, sign, end), end)
 }
 
-// Returns the byte offset of the comma before the field with an index.
+// Returns the byte offset at which the comma before the field with an index is expected.
 pub(crate) fn comma_before(
     text: &str,
     entry: &Spanned<RawEntry<'_>>,
@@ -268,7 +268,7 @@ pub(crate) fn comma_before(
     gap_end(text, end_before(entry, index), field.key.span.start)
 }
 
-// Returns the byte offset of the comma of a field, or of the closing brace if it has no comma. `index` is that of the field.
+// Returns the byte offset at which the comma of a field, or else the closing brace, is expected. `index` is that of the field.
 pub(crate) fn comma_after(
     text: &str,
     entry: &Spanned<RawEntry<'_>>,
@@ -281,7 +281,7 @@ pub(crate) fn comma_after(
     gap_end(text, field.value.span.end, field_limit(entry, index))
 }
 
-// Returns whether a comma or a closing brace is where the comma of a field is looked for.
+// Returns whether a comma or a closing brace is at the place where the comma of a field is expected.
 fn is_closed(text: &str, entry: &Spanned<RawEntry<'_>>, index: usize, field: &Pair<'_>) -> bool
     requires { index < length (entry_reading_of entry.now).fields }
     ensures { result ≡ unset.is_closed text.now (entry_reading_of entry.now) index (field_of field.now) }
@@ -290,15 +290,23 @@ fn is_closed(text: &str, entry: &Spanned<RawEntry<'_>>, index: usize, field: &Pa
     has_byte(text, at, b',') || has_byte(text, at, b'}')
 }
 
-// Returns the byte offset at which a field without a comma ends: at the end of the line of the comment directly after its value, or else
-// after its value.
+// Returns whether a line comment follows a field's value on the line on which the value ends.
+fn has_comment_beside(text: &str, field: &Pair<'_>) -> bool
+    requires { IsPlaced text.now (field_of field.now) }
+    ensures { result ≡ unset.has_comment_beside text.now (field_of field.now) }
+{
+    let end = field.value.span.end;
+    has_byte(text, end, b'%') && line_feed(text, value_end(text, field), end) == end
+}
+
+// Returns the byte offset at which a field without a comma ends: after the comment on the line of its value's end, or else after its value.
 fn own_end(text: &str, entry: &Spanned<RawEntry<'_>>, index: usize, field: &Pair<'_>) -> usize
     requires index { index < length (entry_reading_of entry.now).fields }
     requires placed { IsPlaced text.now (field_of field.now) }
     ensures { result ≡ unset.own_end text.now (entry_reading_of entry.now) index (field_of field.now) }
 {
-    let end = field.value.span.end;
-    if has_byte(text, end, b'%') {
+    if has_comment_beside(text, field) {
+        let end = field.value.span.end;
         return line_end_at(text, line_feed(text, end, field_limit(entry, index)));
     }
     value_end(text, field)
@@ -317,8 +325,8 @@ fn comma_end(text: &str, entry: &Spanned<RawEntry<'_>>, index: usize, field: &Pa
     own_end(text, entry, index, field)
 }
 
-// Returns the edit that removes a field after a comment whose line feed is at a byte offset: it joins the comment and the next one, or
-// removes the lines of the field.
+// Returns the edit that removes a field after a comment, if there is one. It joins the comment and the next one, or removes the lines of
+// the field. `feed` is the byte offset of the comment's line feed.
 fn following_edit(
     alloc: Global,
     text: &str,

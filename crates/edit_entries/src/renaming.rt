@@ -1,4 +1,4 @@
-//! Gives entries new keys: one edit replaces each key, and one each field that refers to such an entry.
+//! Gives entries new keys: one edit replaces each key, and one the value of each field with a reference that changes.
 
 ghost use Rattle.std.specs.Prelude.{◌≡◌, ◌⊎◌, ◌<◌, ◌++◌, ◌∷◌, ℕ, List, [], IfErr, IfOk, OnOk, Some, length, map, option_map};
 ghost use Rattle.std.specs.List.{AllByRecursion};
@@ -118,7 +118,7 @@ fn push_key_edit(
     Ok(())
 }
 
-// Returns the edits that give entries new keys, also in each reference to them.
+// Returns the edits that give entries new keys, also in the references to them in values that are one literal.
 fn renaming_edits(
     alloc: Global,
     text: &str,
@@ -144,7 +144,7 @@ fn renaming_edits(
     Ok(edits)
 }
 
-// Returns the text with new keys of entries, also in each reference to them.
+// Returns the text with new keys of entries, also in the references to them in values that are one literal.
 pub(crate) fn with_new_keys(
     alloc: Global,
     text: &str,

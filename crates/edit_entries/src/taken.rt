@@ -16,7 +16,8 @@ use bib_text::spanned::Spanned;
 use std::alloc::{AllocError, Global};
 use std::collections::BTreeSet;
 
-// Inserts the names of an entry that stay into a set, in lowercase: those in its fields `ids`, and its key if it gets no new one.
+// Inserts the names that an entry keeps into a set, in ASCII lowercase. These are those in its fields `ids`, and its key if it gets no new
+// one.
 fn insert_staying(
     alloc: Global,
     set: &mut BTreeSet<String>,
@@ -33,7 +34,7 @@ fn insert_staying(
     insert_names(alloc, set, &names)
 }
 
-// Returns the set of the names that stay if entries get new keys, in lowercase.
+// Returns the set of the names that stay if entries get new keys, in ASCII lowercase.
 fn staying_set(
     alloc: Global,
     entries: &[Spanned<RawEntry<'_>>],
@@ -49,7 +50,7 @@ fn staying_set(
     Ok(set)
 }
 
-// Inserts a key into a set, in lowercase. Returns whether the set contained it already.
+// Inserts a key into a set, in ASCII lowercase. Returns whether the set contained it already.
 fn insert_key(alloc: Global, set: &mut BTreeSet<String>, key: &str) -> Result<bool, AllocError>
     ensures taken { IfOk result (λ taken. taken ≡ holds_name (contains_text set.old) key.now) }
     ensures inserted { OnOk result ((name : List ℕ) → holds_name (contains_text set.new) name ≡

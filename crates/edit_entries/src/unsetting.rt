@@ -16,8 +16,8 @@ use bib_syntax::raw::{Pair, RawEntry, is_word};
 use bib_text::spanned::Spanned;
 use std::alloc::{AllocError, Global};
 
-// Returns the edit that removes a field up to the comma after its value and no comment of another one, if the commas around it are found
-// and no comment is before it.
+// Returns the edit that removes a field with the comma after it and no comment of another field. There is one if the commas around it are
+// found and no comment is before it.
 fn plain_edit(
     alloc: Global,
     text: &str,
@@ -43,7 +43,7 @@ fn plain_edit(
     })
 }
 
-// Returns the edit that removes a field by itself, if there is one. `more` tells whether a later field has its name.
+// Returns the edit that removes a field and no comment of another field, if there is one. `more` is whether a later field has its name.
 fn edit_before(
     alloc: Global,
     text: &str,
@@ -63,7 +63,7 @@ fn edit_before(
     own_edit(alloc, text, entry, index, field)
 }
 
-// Returns the edits that remove each field with a name by itself, if there are such edits.
+// Returns the edits that remove each field with a name and no comment of another field, if there is one for each of them.
 fn own_edits(
     alloc: Global,
     text: &str,
@@ -104,7 +104,7 @@ pub(crate) fn unset_edits(
     }
 }
 
-// Returns the text without the fields of an entry with a name.
+// Returns the text without the fields of `entry` that have the name `name`.
 pub(crate) fn without_fields(
     alloc: Global,
     text: &str,

@@ -6,17 +6,10 @@ use Rattle.memchr.specs.Find.{IsFirstByte, is_byte2}
 use Rattle.edit_entries.specs.Balance.{IsBalanced, byte_count, is_balanced}
 use Rattle.edit_entries.proofs.BalanceFacts.{balanced_test}
 use Rattle.std.proofs.lemmas.List.{take_all}
+use Rattle.std.proofs.lemmas.Bool.{or_parts}
+use Rattle.std.proofs.Math.Bool.{or-true}
 
 -- ---- the search for a byte
-
-or_true : (c : Bool) → (c || true) ≡ true
-or_true true = refl
-or_true false = refl
-
--- both parts of a disjunction that is false
-pub neither : (a b : Bool) → (a || b) ≡ false → (a ≡ false) × (b ≡ false)
-neither true b is = cc
-neither false b is = (refl, is)
 
 -- no byte of a text passes a test if none at any place does
 none_passes : (test : ℕ → Bool) (text : List ℕ) → ((k : ℕ) → k < length text → test (slice_index text k) ≡ true → ⊥)
@@ -34,7 +27,7 @@ one_passes : (test : ℕ → Bool) (text : List ℕ) (k : ℕ) → k < length te
 one_passes test [] k within is = absurd (omega (arith, within))
 one_passes test (b ∷ text) zero within is = ap (λ c. c || list_any test text) is
 one_passes test (b ∷ text) (suc k) within is =
-    ap (λ c. test b || c) (one_passes test text k (omega (arith, within)) is) ∙ or_true (test b)
+    ap (λ c. test b || c) (one_passes test text k (omega (arith, within)) is) ∙ or-true (test b)
 
 -- a search finds a byte exactly if one passes the test
 pub found_is : (test : ℕ → Bool) (text : List ℕ) (found : Option ℕ) → IsFirstByte test text found → is_some found ≡ list_any test text
@@ -52,15 +45,15 @@ no_opening : (n : ℕ) (text : List ℕ) → list_any (is_byte2 123 125) text �
 no_opening zero text none = refl
 no_opening (suc n) [] none = refl
 no_opening (suc n) (b ∷ text) none =
-    let first = neither (is_byte2 123 125 b) (list_any (is_byte2 123 125) text) none in
-    skipped 123 b (take n text) (neither (b == 123) (b == 125) first.0).0 ∙ no_opening n text first.1
+    let first = or_parts (is_byte2 123 125 b) (list_any (is_byte2 123 125) text) none in
+    skipped 123 b (take n text) (or_parts (b == 123) (b == 125) first.0).0 ∙ no_opening n text first.1
 
 no_closing : (n : ℕ) (text : List ℕ) → list_any (is_byte2 123 125) text ≡ false → byte_count 125 (take n text) ≡ 0
 no_closing zero text none = refl
 no_closing (suc n) [] none = refl
 no_closing (suc n) (b ∷ text) none =
-    let first = neither (is_byte2 123 125 b) (list_any (is_byte2 123 125) text) none in
-    skipped 125 b (take n text) (neither (b == 123) (b == 125) first.0).1 ∙ no_closing n text first.1
+    let first = or_parts (is_byte2 123 125 b) (list_any (is_byte2 123 125) text) none in
+    skipped 125 b (take n text) (or_parts (b == 123) (b == 125) first.0).1 ∙ no_closing n text first.1
 
 -- a text without braces is balanced
 balanced_without : (text : List ℕ) → list_any (is_byte2 123 125) text ≡ false → IsBalanced text

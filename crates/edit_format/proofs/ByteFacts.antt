@@ -1,10 +1,10 @@
 -- Bytes that don't occur in a part of a text.
 use Rattle.std.proofs.Common.{◌≡◌, inl, inr, ℕ, ◌+◌, ◌/◌, ◌<◌, ◌≤◌, Bool, true, false, cond, List, [], ◌∷◌, ◌++◌, length, refl, ap, ◌∙◌, subst, ltb, arith}
-use Rattle.std.specs.Prelude.{◌==◌, ◌||◌, encode_utf8}
+use Rattle.std.specs.Prelude.{◌==◌, encode_utf8}
 use Rattle.std.specs.Char.{is_whitespace}
 use Rattle.std.specs.List.{list_any}
 use lib.Utf8.{encode, next}
-use Rattle.std.proofs.lemmas.Bool.{cases_lt, ltb-true, ne_eqb}
+use Rattle.std.proofs.lemmas.Bool.{cases_lt, ltb-true, ne_eqb, or_from}
 use Rattle.std.proofs.lemmas.List.Folds.{list_any-append}
 use Rattle.std.proofs.lemmas.Str.{encode_ascii}
 use Rattle.bib_text.specs.Places.{Place, Run, between}
@@ -18,19 +18,14 @@ use Rattle.edit_entries.proofs.StandsFacts.{AreWhite, between_stands, stands_cha
 abbrev pub has : ℕ → List ℕ → Bool
 has b bytes = list_any (λ x. x == b) bytes
 
-pub either_false : (x y : Bool) → x ≡ false → y ≡ false → (x || y) ≡ false
-either_false false false first second = refl
-either_false true y first second = absurd (cc)
-either_false false true first second = absurd (cc)
-
 pub none_append : (b : ℕ) (xs ys : List ℕ) → has b xs ≡ false → has b ys ≡ false → has b (xs ++ ys) ≡ false
-none_append b xs ys first second = list_any-append (λ x. x == b) xs ys ∙ either_false (has b xs) (has b ys) first second
+none_append b xs ys first second = list_any-append (λ x. x == b) xs ys ∙ or_from (has b xs) (has b ys) first second
 
 high : (b d : ℕ) → b < 128 → 128 ≤ d → (d == b) ≡ false
 high b d small large = ne_eqb d b (λ same. omega (arith, same))
 
 cons_false : (b d : ℕ) (ds : List ℕ) → (d == b) ≡ false → has b ds ≡ false → has b (d ∷ ds) ≡ false
-cons_false b d ds first second = either_false (d == b) (has b ds) first second
+cons_false b d ds first second = or_from (d == b) (has b ds) first second
 
 bytes_without : (x y z : Bool) (b c i j k n m l : ℕ) → b < 128 → (x ≡ true → ⊥)
     → has b

@@ -1,33 +1,10 @@
 -- The content of a reading doesn't depend on its spans.
 use Rattle.std.proofs.Common.{◌≡◌, ℕ, List, [], ◌∷◌, ◌++◌, map, refl, ap, ◌∙◌}
 use Rattle.std.proofs.lemmas.List.{map-append}
-use Rattle.bib_syntax.specs.Reading.{Piece, FieldReading, EntryReading, FileReading, then}
-use Rattle.bib_syntax.specs.Reading.Piece.{literal, abbreviation}
-use Rattle.edit_entries.specs.Edits.{moved_piece, moved_field, moved_entry, moved_file}
+use Rattle.bib_syntax.specs.Reading.{FieldReading, EntryReading, FileReading, then}
+use Rattle.edit_entries.specs.Edits.{moved_field, moved_entry, moved_file}
+use Rattle.edit_entries.proofs.PlacelessFacts.{field_placeless, fields_placeless}
 use Rattle.edit_format.specs.Formatted.{content, entry_content, field_in_lowercase}
-
-pieces_placeless : (move : ℕ → ℕ) (ps : List Piece) → map (moved_piece (λ n. 0)) (map (moved_piece move) ps) ≡ map (moved_piece (λ n. 0)) ps
-pieces_placeless move [] = refl
-pieces_placeless move (literal p ∷ ps) = ap (λ xs. moved_piece (λ n. 0) (literal p) ∷ xs) (pieces_placeless move ps)
-pieces_placeless move (abbreviation p ∷ ps) = ap (λ xs. moved_piece (λ n. 0) (abbreviation p) ∷ xs) (pieces_placeless move ps)
-
-field_placeless : (move : ℕ → ℕ) (f : FieldReading) → moved_field (λ n. 0) (moved_field move f) ≡ moved_field (λ n. 0) f
-field_placeless move f =
-    ap
-    (λ ps.
-    let g : FieldReading =
-    record {
-      name = record { text = f.name.text; start = 0; end = 0 };
-      value = record { pieces = ps; start = 0; end = 0 };
-    } in
-    g) (pieces_placeless move f.value.pieces)
-
-fields_placeless : (move : ℕ → ℕ) (fs : List FieldReading)
-    → map (moved_field (λ n. 0)) (map (moved_field move) fs) ≡ map (moved_field (λ n. 0)) fs
-fields_placeless move [] = refl
-fields_placeless move (f ∷ fs) =
-    ap (λ g. g ∷ map (moved_field (λ n. 0)) (map (moved_field move) fs)) (field_placeless move f)
-    ∙ ap (λ gs. moved_field (λ n. 0) f ∷ gs) (fields_placeless move fs)
 
 lower_placeless : (move : ℕ → ℕ) (fs : List FieldReading)
     → map (moved_field (λ n. 0)) (map field_in_lowercase (map (moved_field move) fs))

@@ -1,5 +1,5 @@
 -- The contents that can be written in braces and in quotes: the tests of bytes agree with the file grammar.
-use Rattle.std.proofs.Common.{◌≡◌, inl, inr, ℕ, zero, suc, ◌+◌, ◌-◌, ◌/◌, ◌<◌, ◌≤◌, Bool, true, false, cond, List, [], ◌∷◌, ◌++◌, length, drop, MatchBool, refl, sym, ap, ◌∙◌, subst, ltb, arith, append_assoc}
+use Rattle.std.proofs.Common.{◌≡◌, inl, inr, ℕ, zero, suc, ◌+◌, ◌-◌, ◌/◌, ◌<◌, ◌≤◌, Bool, true, false, cond, List, [], ◌∷◌, ◌++◌, length, MatchBool, refl, sym, ap, ◌∙◌, subst, ltb, arith, append_assoc, drop}
 use Rattle.std.specs.Prelude.{◌==◌, ◌&&◌, encode_utf8, nat_lt, not}
 use Rattle.std.specs.List.{AllByRecursion}
 use lib.Utf8.{encode, next}
@@ -10,15 +10,18 @@ use Rattle.bib_text.specs.Places.{Place, place, CharAt, between}
 use Rattle.bib_text.specs.Braces.{IsParts, Parts, is_plain}
 use Rattle.bib_text.specs.Braces.{Parts as parts}
 use Rattle.bib_text.proofs.PlaceFacts.{ahead_then, ahead_char, test_clash}
+use Rattle.bib_text.proofs.BraceFacts.{is_plain_from, plain_is}
 use Rattle.bib_syntax.specs.Grammar.{QuotedParts}
 use Rattle.bib_syntax.specs.Grammar.{QuotedParts as quotes}
 use Rattle.bib_syntax.specs.OpenBraces.{ClosesOpen}
 use Rattle.bib_syntax.specs.OpenBraces.ClosesOpen.{last, level}
 use Rattle.bib_syntax.proofs.FieldFacts.{ahead_parts, ahead_quoted_parts}
+use Rattle.bib_syntax.proofs.BraceFacts.{closes_suc}
+use Rattle.bib_syntax.proofs.WordFacts.{unquoted_is, is_unquoted}
 use Rattle.edit_format.specs.Delimited.{close_braces, hide_quotes}
 use Rattle.edit_entries.proofs.ElementFacts.{char_parted, parted}
-use Rattle.edit_format.proofs.NameFacts.{none_between}
 use Rattle.edit_entries.proofs.StandsFacts.{between_stands}
+use Rattle.edit_format.proofs.NameFacts.{none_between}
 
 -- ---- the bytes of a character
 
@@ -136,38 +139,20 @@ stops_at_quote rest = ap (λ t. hide_quotes false (t ++ rest)) (encode_ascii 34 
 
 -- ---- the cases of a character
 
--- a plain character is neither a brace nor a backslash
-plain_is : {c : ℕ} (d : ℕ) → is_plain c ≡ true → is_plain d ≡ false → c ≡ d → ⊥
-plain_is d passes fails same = test_clash (is_plain d) (subst (λ x. is_plain x ≡ true) same passes) fails
-
-is_plain_from : (c : ℕ) → (c ≡ 123 → ⊥) → (c ≡ 125 → ⊥) → (c ≡ 92 → ⊥) → is_plain c ≡ true
-is_plain_from c no_open no_close no_slash =
-    ap (λ x. not x && not (c == 125) && not (c == 92)) (ne_eqb c 123 no_open)
-    ∙ ap (λ x. not x && not (c == 92)) (ne_eqb c 125 no_close) ∙ ap not (ne_eqb c 92 no_slash)
-
--- whether a character is neither a quote nor a backslash
-abbrev is_unquoted : ℕ → Bool
-is_unquoted c = not (c == 34) && not (c == 92)
-
-unquoted_is : {c : ℕ} (d : ℕ) → is_unquoted c ≡ true → is_unquoted d ≡ false → c ≡ d → ⊥
-unquoted_is d passes fails same = test_clash (is_unquoted d) (subst (λ x. is_unquoted x ≡ true) same passes) fails
-
 is_unquoted_from : (c : ℕ) → (c ≡ 34 → ⊥) → (c ≡ 92 → ⊥) → is_unquoted c ≡ true
 is_unquoted_from c no_quote no_slash = ap (λ x. not x && not (c == 92)) (ne_eqb c 34 no_quote) ∙ ap not (ne_eqb c 92 no_slash)
 
 -- ---- contents of quoted literals, in braces
 
-plain_before : {n : ℕ} {u v w : Place} {c : ℕ} → CharAt u c v → is_plain c ≡ true → ClosesOpen n v w → ClosesOpen n u w
+-- a plain character before a text that closes open braces
+pub plain_before : {n : ℕ} {u v w : Place} {c : ℕ} → CharAt u c v → is_plain c ≡ true → ClosesOpen n v w → ClosesOpen n u w
 plain_before char passes (last inner) = last (parts.plain char passes inner)
 plain_before char passes (level inner close more) = level (parts.plain char passes inner) close more
 
-hidden_before : {n : ℕ} {u v w x : Place} {c : ℕ} → CharAt u 92 v → CharAt v c w → ClosesOpen n w x → ClosesOpen n u x
+-- an escaped character before a text that closes open braces
+pub hidden_before : {n : ℕ} {u v w x : Place} {c : ℕ} → CharAt u 92 v → CharAt v c w → ClosesOpen n w x → ClosesOpen n u x
 hidden_before slash char (last inner) = last (parts.hidden slash char inner)
 hidden_before slash char (level inner close more) = level (parts.hidden slash char inner) close more
-
-open_before : {n : ℕ} {u v w : Place} → CharAt u 123 v → ClosesOpen (suc n) v w → ClosesOpen n u w
-open_before opens (level inner close (last rest)) = last (parts.nested opens inner close rest)
-open_before opens (level inner close (level rest close' more)) = level (parts.nested opens inner close rest) close' more
 
 nothing_open : (depth : ℕ) (u : Place) → close_braces false depth [] ≡ true → ClosesOpen depth u u
 nothing_open zero u is = last parts.none
@@ -189,7 +174,7 @@ closes_quoted {u} {v} depth (quotes.plain {v = w} {c = c} char passes rest) with
     ap (close_braces false depth) (sym (char_parted char (ahead_quoted_parts rest) within)) ∙ is in
     let no_slash = unquoted_is 92 passes refl in
     elim (cases_eq c 123) [
-      | inl opens ↦ open_before (subst (λ d. CharAt u d w) opens char)
+      | inl opens ↦ closes_suc (subst (λ d. CharAt u d w) opens char)
           (closes_quoted (suc depth) rest up
           (sym (over_open depth (between w v))
           ∙ ap (λ d. close_braces false depth (encode_utf8 d ++ between w v)) (sym opens) ∙ here))
@@ -368,7 +353,9 @@ pub braces_decided : (text : List ℕ) → QuotedParts (place text 0) (place tex
     → MatchBool (close_braces false 0 text) (IsParts text) (IsParts text → ⊥)
 braces_decided text x =
     decided (close_braces false 0 text) (λ is. parts_of_quoted x (omega arith) (ap (close_braces false 0) (whole_text text) ∙ is))
-    (λ p. ap (close_braces false 0) (sym (append-nil text) ∙ ap (λ t. t ++ []) (sym (whole_text text))) ∙ closes_parts 0 [] p (omega arith))
+    (λ p.
+    ap (close_braces false 0) (sym (append-nil text) ∙ ap (λ t. t ++ []) (sym (whole_text text)))
+    ∙ closes_parts 0 [] p (omega arith))
 
 pub quotes_decided : (text : List ℕ) → IsParts text
     → MatchBool (hide_quotes false text) (QuotedParts (place text 0) (place text (length text)))

@@ -1,14 +1,15 @@
 -- An entry in one style parses to the same entry.
-use Rattle.std.proofs.Common.{◌≡◌, inl, inr, ℕ, ◌+◌, ◌-◌, ◌<◌, ◌≤◌, Bool, true, false, cond, List, [], ◌∷◌, ◌++◌, length, drop, take, map, refl, sym, ap, ◌∙◌, subst, arith}
+use Rattle.std.proofs.Common.{◌≡◌, ℕ, ◌+◌, ◌-◌, ◌≤◌, Bool, true, false, cond, List, [], ◌∷◌, ◌++◌, length, drop, take, map, refl, sym, ap, ◌∙◌, subst, arith}
 use Rattle.std.specs.Prelude.{◌||◌}
 use Rattle.std.specs.Char.{is_whitespace}
 use Rattle.std.specs.List.{AllByRecursion, flat_map, list_any}
 use Rattle.std.specs.Str.{str_to_ascii_lowercase}
-use Rattle.std.proofs.lemmas.Bool.{cases_lt}
 use Rattle.std.proofs.lemmas.Simd.{map-map}
-use Rattle.bib_text.specs.Places.{Place, place, CharAt, Run, Stops, between}
+use Rattle.std.proofs.lemmas.Bool.{or_from}
+use Rattle.bib_text.specs.Places.{Place, place, Run, Stops, between}
 use Rattle.bib_text.specs.Places.Run.{stop, step}
-use Rattle.bib_text.proofs.PlaceFacts.{Ahead, ahead_then, ahead_char, ahead_run, same_char, same_place, stops_at}
+use Rattle.bib_text.proofs.PlaceFacts.{Ahead, ahead_then, ahead_char, ahead_run, stops_at, char_within}
+use Rattle.bib_text.proofs.BoolFacts.{or_false_left, or_false_right}
 use Rattle.bib_syntax.specs.Characters.{is_key}
 use Rattle.bib_syntax.specs.Reading.{part, Piece, FieldReading, EntryReading}
 use Rattle.bib_syntax.specs.Reading.Piece.{abbreviation, literal}
@@ -18,9 +19,6 @@ use Rattle.bib_syntax.specs.Grammar.{Fields as fields}
 use Rattle.bib_syntax.proofs.FieldFacts.{ahead_identifier, ahead_field, ahead_fields, ahead_gap}
 use Rattle.bib_syntax.proofs.FileFacts.{ahead_head}
 use Rattle.edit_entries.specs.Edits.{moved_entry, moved_field, moved_piece}
-use Rattle.bib_text.proofs.BoundaryFacts.{not_over}
-use Rattle.edit_entries.proofs.GrammarFacts.{block_there}
-use Rattle.edit_entries.proofs.MovedFacts.{char_within}
 use Rattle.edit_entries.proofs.SplitFacts.{EntryBlock, block_of}
 use Rattle.edit_entries.proofs.ZoneFacts.{Frame, Inside, Zone, between_there, inside_between, run_there, there}
 use Rattle.edit_format.specs.Formatted.{entry_content, entry_in_order, entry_in_style, entry_laid_out, field_in_lowercase, field_laid_out, has_comment, has_percent, has_percent_between, has_unbalanced, is_copied, is_unbalanced, last_comma, padded_width}
@@ -29,29 +27,18 @@ use Rattle.edit_format.specs.declared.style.Style.{Style}
 use Rattle.edit_format.proofs.ByteFacts.{has}
 use Rattle.edit_format.proofs.ColumnFacts.{same_last, same_padded}
 use Rattle.edit_format.proofs.ContentFacts.{entry_placeless}
-use Rattle.edit_entries.proofs.ElementFacts.{one_byte, parted}
 use Rattle.edit_format.proofs.FieldFacts.{CommaRead, FieldIn, IsLaidOutAlike, IsLineEnd, LastComma, field_content, fields_in, fields_read, none_read, same_named, zip_again, zip_alike}
 use Rattle.edit_format.proofs.LowerFacts.{kind_lower, lower_lower}
 use Rattle.edit_format.proofs.NameFacts.{name_read}
 use Rattle.edit_format.proofs.OrderFacts.{in_order_all, in_order_twice, in_order_zip, last_ordered, padded_ordered}
-use Rattle.edit_entries.proofs.StandsFacts.{Stands, ascii, between_stands, copied, copied_before, copy_frame, first_part, last_part, past}
+use Rattle.edit_entries.proofs.EntryCopyFacts.{entry_copied}
+use Rattle.edit_entries.proofs.StandsFacts.{Stands, ascii, between_stands, copied_before, copy_frame, first_part, last_part, past}
 use Rattle.bib_syntax.proofs.LawFacts.{key_dark}
 
 abbrev contents : List FieldReading → List FieldReading
 contents fs = map (moved_field (λ n. 0)) (map field_in_lowercase fs)
 
 -- ---- literals whose braces aren't balanced
-
-neither : {a b : Bool} → a ≡ false → b ≡ false → (a || b) ≡ false
-neither {b = b} one other = ap (λ x. x || b) one ∙ other
-
-second_false : (a b : Bool) → (a || b) ≡ false → b ≡ false
-second_false false b is = is
-second_false true b is = cc
-
-first_false : (a b : Bool) → (a || b) ≡ false → a ≡ false
-first_false false b is = refl
-first_false true b is = is
 
 pieces_moved : (move : ℕ → ℕ) (ps : List Piece) → list_any is_unbalanced (map (moved_piece move) ps) ≡ list_any is_unbalanced ps
 pieces_moved move [] = refl
@@ -78,11 +65,11 @@ unbalanced_alike fs gs alike = sym (unbalanced_content fs) ∙ ap (list_any has_
 
 none_unbalanced : (fs : List FieldReading) → list_any has_unbalanced fs ≡ false → AllByRecursion (λ f. has_unbalanced f ≡ false) fs
 none_unbalanced [] is = _
-none_unbalanced (f ∷ fs) is = (first_false (has_unbalanced f) _ is, none_unbalanced fs (second_false (has_unbalanced f) _ is))
+none_unbalanced (f ∷ fs) is = (or_false_left (has_unbalanced f) _ is, none_unbalanced fs (or_false_right (has_unbalanced f) _ is))
 
 all_balanced : (fs : List FieldReading) → AllByRecursion (λ f. has_unbalanced f ≡ false) fs → list_any has_unbalanced fs ≡ false
 all_balanced [] all = refl
-all_balanced (f ∷ fs) all = neither all.0 (all_balanced fs all.1)
+all_balanced (f ∷ fs) all = or_from _ _ all.0 (all_balanced fs all.1)
 
 -- no literal is unbalanced in any order of the fields
 unbalanced_ordered : (names : List (List ℕ)) (fs : List FieldReading) → list_any has_unbalanced fs ≡ false
@@ -263,7 +250,7 @@ laid_out_read line_end style {a} {b} {u} {v} {e} ends balanced x s =
           (λ c.
           cond c (between (place u.text u.at) (place u.text (list.brace.at + 1)))
           (entry_laid_out line_end style u.text e'))
-          (neither list.clear (unbalanced_alike list.reading fs alike ∙ unbalanced_ordered names e.fields balanced))
+          (or_from _ _ list.clear (unbalanced_alike list.reading fs alike ∙ unbalanced_ordered names e.fields balanced))
           ∙ ap
           (λ t.
           write (str_to_ascii_lowercase t) (between u3 u4) (from (padded_width style list.reading))
@@ -342,62 +329,23 @@ copied_there {f} {a} {b} {e} z ia ib x =
 kept_read : (line_end : List ℕ) (style : Style) {a b u v : Place} {e : EntryReading} → is_copied a.text e ≡ true
     → EntryBlock a e b → Stands u (between a b) v → EntryRead line_end style (between a b) e u v
 kept_read line_end style {a} {b} {u} {v} {e} commented x s =
-    let to_inside = ahead_head x.head in
-    let to_brace =
-    ahead_then to_inside
-    (ahead_then (ahead_run x.key.run)
-    (ahead_then (ahead_run x.white.run)
-    (ahead_then (ahead_char x.comma) (ahead_then (ahead_gap x.gap) (ahead_fields x.fields))))) in
-    let whole = ahead_then to_brace (ahead_char x.closes) in
-    let within : b.at ≤ length a.text = omega (arith, char_within x.closes, ap length whole.text) in
-    let cut : between a b ≡ between a x.brace ++ 125 ∷ [] =
-    parted to_brace (ahead_char x.closes) within ∙ ap (λ t. between a x.brace ++ t) (one_byte 125 (omega arith) x.closes) in
-    let s' : Stands u (between a x.brace ++ 125 ∷ []) v = subst (λ t. Stands u t v) cut s in
-    let brace = ascii 125 (omega arith) (last_part (between a x.brace) (125 ∷ []) s') in
-    let m = past u (between a x.brace) in
-    let next : v.at ≡ m.at + 1 = brace.next in
-    let over =
-    λ (p q : Place) (d : ℕ) (same : p.text ≡ u.text) (char : CharAt p d q) (low : p.at < v.at).
-    last_char m p q v same char brace low next in
-    let c = copied whole within s over in
+    let c = entry_copied x s in
     let move = λ (n : ℕ). n - a.at + u.at in
-    let to_start : move e.start ≡ u.at = omega (arith, x.starts) in
-    let last_next : b.at ≡ x.brace.at + 1 = x.closes.next in
-    let size : v.at + a.at ≡ b.at + u.at = omega (arith, c.end.moved, ap (λ p. p.at) c.goes_end) in
-    let to_end : move e.end + 1 ≡ v.at = omega (arith, x.ends, last_next, size, to_brace.at) in
     record {
       reading = moved_entry move e;
-      block = subst (λ p. Block longest p (entry_alone (moved_entry move e)) v) c.goes_start
-          (subst (λ p. Block longest (there (copy_frame a b u) a) (entry_alone (moved_entry move e)) p) c.goes_end
-          (block_there c.zone c.start c.end (block_of x)));
+      block = c.block;
       alike = entry_placeless move e;
       again =
           ap
           (λ c.
           cond c (between (place u.text (move e.start)) (place u.text (move e.end + 1)))
           (entry_laid_out line_end style u.text (moved_entry move e)))
-          (copied_there c.zone c.start c.end x ∙ commented)
-          ∙ ap (λ n. between (place u.text n) (place u.text (move e.end + 1))) to_start
-          ∙ ap (λ n. take (n - u.at) (drop u.at u.text)) to_end ∙ between_stands (between a b) s;
-      starts = to_start;
-      ends = to_end;
+          (copied_there c.copy.zone c.copy.start c.copy.end x ∙ commented)
+          ∙ ap (λ n. between (place u.text n) (place u.text (move e.end + 1))) c.starts
+          ∙ ap (λ n. take (n - u.at) (drop u.at u.text)) c.ends ∙ between_stands (between a b) s;
+      starts = c.starts;
+      ends = c.ends;
     }
-  where
-    last_char : (m p q v : Place) {d : ℕ} → p.text ≡ m.text → CharAt p d q → CharAt m 125 v → p.at < v.at → v.at ≡ m.at + 1 → q.at ≤ v.at
-    last_char m p q v {d} same char brace low next =
-        elim (cases_lt p.at m.at) [
-          | inl before ↦ omega (
-            arith,
-            not_over m.text m.at
-                (inr (125, v, record { same = brace.same; here = brace.here; next = brace.next })) same char
-                before,
-            next,
-          )
-          | inr past_it ↦
-              let here : p ≡ m = same_place same (omega arith) in
-              let at : q ≡ v = (same_char char (subst (λ x. CharAt x 125 v) (sym here) brace)).1 in
-              omega (arith, ap (λ x. x.at) at)
-        ]
 
 -- ---- an entry with a new layout or a copied one
 
@@ -427,5 +375,5 @@ entry_read line_end style text {a} {b} {u} {v} {e} ends same x s = by_comment (i
         let in_its_order : entry_in_order style text e ≡ ordered style e = ap (λ c. cond c e (ordered style e)) is in
         subst (λ r. EntryRead line_end style (entry_in_style line_end style text e) r u v) (sym in_its_order)
         (subst (λ t. EntryRead line_end style t (ordered style e) u v) (sym laid_out)
-        (laid_out_read line_end style ends (second_false (has_comment text e) (list_any has_unbalanced e.fields) is) x
+        (laid_out_read line_end style ends (or_false_right (has_comment text e) (list_any has_unbalanced e.fields) is) x
         (subst (λ t. Stands u t v) laid_out s)))

@@ -4,22 +4,21 @@ use Rattle.std.specs.Prelude.{◌==◌, ◌&&◌, bytes_eq, cond, max, nat_lt, r
 use Rattle.std.specs.Char.{is_ascii_whitespace, is_whitespace}
 use Rattle.std.specs.List.{AllByRecursion, AllZip, flat_map, list_all}
 use Rattle.std.specs.Str.{chars, str_to_ascii_lowercase}
-use Rattle.std.proofs.lemmas.Bool.{ne_eqb}
+use Rattle.std.proofs.lemmas.Bool.{or_from}
 use Rattle.bib_text.specs.Places.{Place, place, CharAt, Stops, Longest, between}
 use Rattle.bib_text.specs.Places.Run.{stop, step}
-use Rattle.bib_text.proofs.PlaceFacts.{ahead_then, ahead_char, ahead_run, run_append, stops_at, test_clash}
-use Rattle.bib_syntax.specs.Characters.{is_id_start}
+use Rattle.bib_text.proofs.PlaceFacts.{ahead_then, ahead_char, ahead_run, run_append, stops_at}
 use Rattle.bib_syntax.specs.Reading.{part, Piece, FieldReading}
 use Rattle.bib_syntax.specs.Grammar.{Field, Fields, Gap, longest}
 use Rattle.bib_syntax.specs.Grammar.{Fields as fields}
 use Rattle.bib_syntax.specs.Grammar.{Gap as gap}
 use Rattle.bib_syntax.proofs.FieldFacts.{ahead_identifier, ahead_elements, ahead_field, ahead_gap, ahead_fields}
-use Rattle.bib_syntax.proofs.LawFacts.{start_not_white}
+use Rattle.bib_syntax.proofs.LawFacts.{start_not_white, start_plain}
 use Rattle.edit_entries.specs.Documents.{has_name}
 use Rattle.edit_entries.specs.Edits.{moved_field, moved_piece}
 use Rattle.edit_format.specs.Formatted.{elements_as_written, field_in_lowercase, field_laid_out, has_percent, has_percent_between, is_broken, is_too_long, next_line, next_sign, spaces, value_laid_out}
 use Rattle.edit_format.specs.declared.style.Style.{Style}
-use Rattle.edit_format.proofs.ByteFacts.{either_false, has, white_without}
+use Rattle.edit_format.proofs.ByteFacts.{has, white_without}
 use Rattle.edit_entries.proofs.ElementFacts.{Ending}
 use Rattle.edit_format.proofs.LowerFacts.{lower_lower}
 use Rattle.edit_format.proofs.NameFacts.{name_read, none_between}
@@ -36,9 +35,6 @@ pub record IsLineEnd (line_end : List ℕ) : Type 0 where
 -- a field without spans and with its name in lowercase
 abbrev pub field_content : FieldReading → FieldReading
 field_content f = moved_field (λ n. 0) (field_in_lowercase f)
-
-starts_no_percent : (c : ℕ) → is_id_start c ≡ true → (c == 37) ≡ false
-starts_no_percent c starts = ne_eqb c 37 (λ same. test_clash (is_id_start 37) (subst (λ x. is_id_start x ≡ true) same starts) refl)
 
 first_space : {u v : Place} (n : ℕ) (rest : List ℕ) → Stands u (replicate n 32 ++ 32 ∷ rest) v → Ending u
 first_space {u} {v} zero rest s = record {
@@ -204,7 +200,7 @@ field_read line_end style width {a} {b} {u} {v} {w} {f} ends field within s endi
           (record {
             run = run_append line blank;
             stops = stops_at is_whitespace name'.here (start_not_white name'.first name'.starts);
-          }) (stops_at (λ c. c == 37) name'.here (starts_no_percent name'.first name'.starts));
+          }) (stops_at (λ c. c == 37) name'.here (start_plain name'.first name'.starts));
       field = record {
         name_end = u4;
         before_sign = _;
@@ -343,7 +339,7 @@ before_comma line_end style text width {u} {m} {v} {f} {fs} ends stands s rest =
       closes = rest.closes;
       each = (first, subst (λ t. AllZip (IsLaidOutAlike line_end style t text width) rest.reading fs) s.same rest.each);
       clear =
-          either_false _ _ x.clear
+          or_from _ _ x.clear
           (ap (λ n. has_percent_between u.text n rest.reading rest.brace.at) x.field.ends
           ∙ ap (λ t. has_percent_between t m.at rest.reading rest.brace.at) (sym s.same) ∙ rest.clear);
     }
@@ -370,7 +366,7 @@ before_close line_end style text width {u} {m} {v} {f} ends stands s rest =
       closes = rest.closes;
       each = (record { alike = x.alike; again = x.again ∙ ap (λ t. field_laid_out line_end style t width f) stands.same }, _);
       clear =
-          either_false _ _ x.clear
+          or_from _ _ x.clear
           (ap (λ n. has_percent u.text n rest.brace.at) x.field.ends
           ∙ ap (has 37) (none_between (place u.text rest.brace.at)));
     }

@@ -1,18 +1,17 @@
 -- A text in one style parses to the same reading.
-use Rattle.std.proofs.Common.{◌≡◌, ℕ, ◌+◌, ◌-◌, ◌≤◌, Bool, true, false, cond, List, [], ◌∷◌, ◌++◌, Option, None, length, drop, take, map, refl, sym, ap, ◌∙◌, subst, arith, length-drop}
+use Rattle.std.proofs.Common.{◌≡◌, ℕ, ◌+◌, ◌-◌, ◌≤◌, Bool, true, false, cond, List, [], ◌∷◌, ◌++◌, Option, None, length, drop, take, map, refl, sym, ap, ◌∙◌, subst, arith}
 use Rattle.bib_text.specs.Places.{Place, place, between}
-use Rattle.bib_text.proofs.PlaceFacts.{ahead_then, ahead_char, ahead_run, char_left, same_place}
+use Rattle.bib_text.proofs.PlaceFacts.{char_within}
 use Rattle.bib_syntax.specs.Reading.{EntryReading, FileReading, then}
 use Rattle.bib_syntax.specs.Kept.{entry_alone}
 use Rattle.bib_syntax.specs.Grammar.{File, IsRawReading, longest}
 use Rattle.bib_syntax.specs.Grammar.{File as file}
-use Rattle.bib_syntax.proofs.FieldFacts.{ahead_fields, ahead_gap}
-use Rattle.bib_syntax.proofs.FileFacts.{ahead_head}
 use Rattle.edit_entries.specs.Edits.{moved_entry, moved_file}
 use Rattle.edit_entries.proofs.EditFacts.{text_stands}
-use Rattle.edit_entries.proofs.MovedFacts.{body_within, char_within, file_there}
+use Rattle.edit_entries.proofs.EntryCopyFacts.{rest_copied}
+use Rattle.edit_entries.proofs.EntryFacts.{ahead_entry}
+use Rattle.edit_entries.proofs.MovedFacts.{body_within}
 use Rattle.edit_entries.proofs.SplitFacts.{ahead_file_before, joined_file}
-use Rattle.edit_entries.proofs.ZoneFacts.{Frame, Inside, Zone, there}
 use Rattle.edit_format.specs.Formatted.{IsReadAlike, content, entry_content, entry_in_order, entry_in_style, gap_in_style, line_end_of, rest_in_style, says_in_order, text_in_style}
 use Rattle.edit_format.specs.declared.style.Style.{Style}
 use Rattle.edit_format.proofs.ContentFacts.{content_then, file_placeless}
@@ -54,40 +53,43 @@ line_end_is text = by_choice _
           };
     }
 
--- the output for the rest of a file parses from a place of another text on, and formatting it again doesn't change it
-pub record FileRead (line_end : List ℕ) (style : Style) (blank_lines : Option ℕ) (says : FileReading) (u : Place) : Type 0 where
+-- the gap before each entry of a text is, in the style, the one before the entry at the same index of another text
+abbrev pub AreGapsInStyle : List ℕ → Style → Option ℕ → List ℕ → List ℕ → ℕ → ℕ → List EntryReading → List EntryReading → Type 0
+AreGapsInStyle line_end style blank_lines new old m n [] [] = Unit {0}
+AreGapsInStyle line_end style blank_lines new old m n [] (e ∷ es) = ⊥
+AreGapsInStyle line_end style blank_lines new old m n (e' ∷ es') [] = ⊥
+AreGapsInStyle line_end style blank_lines new old m n (e' ∷ es') (e ∷ es) =
+    (between (place new m) (place new e'.start) ≡ gap_in_style line_end blank_lines (between (place old n) (place old e.start)))
+    × AreGapsInStyle line_end style style.blank_lines new old (e'.end + 1) (e.end + 1) es' es
+
+-- the output for the rest of a file, from `a` on, parses from a place of another text on, and formatting it again doesn't change it
+pub record FileRead (line_end : List ℕ) (style : Style) (blank_lines : Option ℕ) (a : Place) (says : FileReading) (u : Place) : Type 0 where
   pub reading : FileReading
   pub file : File longest u reading
-  pub alike : content reading ≡ content says
+  pub alike : content reading ≡ content (says_in_order style a.text says)
+  pub gaps : AreGapsInStyle line_end style blank_lines u.text a.text u.at a.at reading.entries says.entries
   pub again : rest_in_style line_end style blank_lines u.text u.at reading.entries ≡ drop u.at u.text
 
-stands_here : (u : Place) (xs ys : List ℕ) → drop u.at u.text ≡ xs ++ ys → Stands u xs (past u xs)
+-- the bytes that a text has from a place on are there
+pub stands_here : (u : Place) (xs ys : List ℕ) → drop u.at u.text ≡ xs ++ ys → Stands u xs (past u xs)
 stands_here u xs ys here = record { same = refl; here = here ∙ ap (λ t. xs ++ t) (sym (text_stands u.text xs ys u.at here)); next = refl }
-
--- the zone of the rest of a text after its last entry
-abbrev rest_frame : Place → Place → Frame
-rest_frame a u = record { old = a.text; new = u.text; move = λ n. n - a.at + u.at; from = a.at; to = u.at; end = length a.text + 1 }
 
 rest_read : (line_end : List ℕ) (style : Style) (blank_lines : Option ℕ) {a u : Place} {says : FileReading}
     → File longest a says → says.entries ≡ [] → a.at ≤ length a.text → u.at ≤ length u.text
-    → drop u.at u.text ≡ drop a.at a.text → FileRead line_end style blank_lines (says_in_order style a.text says) u
+    → drop u.at u.text ≡ drop a.at a.text → FileRead line_end style blank_lines a says u
 rest_read line_end style blank_lines {a} {u} {says} x none within within' same =
-    let sizes : length a.text + u.at ≡ length u.text + a.at =
-    omega (arith, ap length same, length-drop a.at a.text, length-drop u.at u.text, within, within') in
-    let z : Zone (rest_frame a u) = record {
-      moves = λ n from below. omega arith;
-      same = ap (take (length a.text + 1 - a.at)) (sym same);
-      cut = λ {u = p} {v = q} {c = d} text char below. omega (arith, char_left char, char.next, ap length text, sizes);
-    } in
-    let start : Inside (rest_frame a u) a = record { text = refl; start = omega arith; end = omega (arith, within); moved = omega arith } in
-    let goes : there (rest_frame a u) a ≡ u = same_place refl (omega arith) in
     record {
       reading = moved_file (λ n. n - a.at + u.at) says;
-      file = subst (λ p. File longest p (moved_file (λ n. n - a.at + u.at) says)) goes (file_there z refl sizes start x);
+      file = rest_copied x within within' same;
       alike =
           file_placeless (λ n. n - a.at + u.at) says
           ∙ ap (λ es. content (record says { entries = es }))
           (none ∙ sym (ap (map (entry_in_order style a.text)) none));
+      gaps =
+          subst
+          (λ es.
+          AreGapsInStyle line_end style blank_lines u.text a.text u.at a.at (map (moved_entry (λ n. n - a.at + u.at)) es) es)
+          (sym none) tt;
       again = ap (λ es. rest_in_style line_end style blank_lines u.text u.at (map (moved_entry (λ n. n - a.at + u.at)) es)) none;
     }
 
@@ -114,7 +116,7 @@ then_in_order style text before rest e none =
 pub file_read : (line_end : List ℕ) (style : Style) (blank_lines : Option ℕ) {a u : Place} {says : FileReading}
     → IsLineEnd line_end → ByEntries a says → a.at ≤ length a.text → u.at ≤ length u.text
     → drop u.at u.text ≡ rest_in_style line_end style blank_lines a.text a.at says.entries
-    → FileRead line_end style blank_lines (says_in_order style a.text says) u
+    → FileRead line_end style blank_lines a says u
 file_read line_end style blank_lines {a} {u} {says} ends (ByEntries.last x none) within within' here =
     rest_read line_end style blank_lines x none within within'
     (here ∙ ap (λ es. rest_in_style line_end style blank_lines a.text a.at es) none)
@@ -122,12 +124,7 @@ file_read line_end style blank_lines {a} {u} ends
     (ByEntries.more {s = s} {v = v} {before = before} {rest = rest} {e = e} first none x file' others) within
     within' here =
     let to_start = ahead_file_before first in
-    let to_brace =
-    ahead_then (ahead_head x.head)
-    (ahead_then (ahead_run x.key.run)
-    (ahead_then (ahead_run x.white.run)
-    (ahead_then (ahead_char x.comma) (ahead_then (ahead_gap x.gap) (ahead_fields x.fields))))) in
-    let to_end = ahead_then to_brace (ahead_char x.closes) in
+    let to_end = ahead_entry x in
     let end_text : v.text ≡ a.text = to_end.text ∙ to_start.text in
     let end_within : v.at ≤ length v.text = char_within x.closes in
     let next : v.at ≡ x.brace.at + 1 = x.closes.next in
@@ -153,6 +150,20 @@ file_read line_end style blank_lines {a} {u} ends
     (body_within entry.block.body) here'' in
     let start_within : s.at ≤ length a.text = omega (arith, to_end.at, end_within, ap length end_text) in
     let before' = gap_read line_end blank_lines ends.blank first none start_within x.head.sign s0 entry.block.head.sign in
+    let e' = entry.reading in
+    let new_gap : between (place u.text u.at) (place u.text e'.start) ≡ gap =
+    ap (λ n. take (n - u.at) (drop u.at u.text)) entry.starts ∙ between_stands gap s0 in
+    let old_gap : between (place a.text a.at) (place a.text e.start) ≡ between a s =
+    ap (λ n. take (n - a.at) (drop a.at a.text)) x.starts in
+    let after_gaps : AreGapsInStyle line_end style style.blank_lines u.text a.text (e'.end + 1) (e.end + 1) rest_said.reading.entries
+    rest.entries =
+    subst
+    (λ n. AreGapsInStyle line_end style style.blank_lines u.text a.text n (e.end + 1) rest_said.reading.entries rest.entries)
+    (sym entry.ends)
+    (subst (λ n. AreGapsInStyle line_end style style.blank_lines u.text a.text q.at n rest_said.reading.entries rest.entries)
+    (sym end_is)
+    (subst (λ t. AreGapsInStyle line_end style style.blank_lines u.text t q.at v.at rest_said.reading.entries rest.entries)
+    end_text rest_said.gaps)) in
     let rest_again = λ (n : ℕ). rest_in_style line_end style style.blank_lines u.text n rest_said.reading.entries in
     let entry_again = entry_in_style line_end style u.text entry.reading in
     record {
@@ -163,6 +174,15 @@ file_read line_end style blank_lines {a} {u} ends
           (entry_in_order style a.text e) entry.reading before'.alike entry.alike
           (rest_said.alike ∙ ap (λ t. content (says_in_order style t rest)) end_text)
           ∙ then_in_order style a.text before rest e none;
+      gaps =
+          subst
+          (λ es.
+          AreGapsInStyle line_end style blank_lines u.text a.text u.at a.at (es ++ e' ∷ rest_said.reading.entries)
+          (before.entries ++ e ∷ rest.entries)) (sym before'.none)
+          (subst
+          (λ es.
+          AreGapsInStyle line_end style blank_lines u.text a.text u.at a.at (e' ∷ rest_said.reading.entries)
+          (es ++ e ∷ rest.entries)) (sym none) (new_gap ∙ ap (gap_in_style line_end blank_lines) (sym old_gap), after_gaps));
       again = ap (λ es. rest_in_style line_end style blank_lines u.text u.at (es ++ entry.reading ∷ rest_said.reading.entries)) before'.none
           ∙ ap
           (λ n.

@@ -55,10 +55,12 @@ trimmed_blank (b ∷ bs) = by_test (is_ascii_whitespace b) (trimmed_blank bs)
         ap (λ n. length (drop n (b ∷ bs)) == 0) next ∙ rest
     by_test false rest = ne_eqb (suc (length bs)) 0 (λ same. omega (arith, same))
 
-blank_small : (b : ℕ) → is_ascii_whitespace b ≡ true → b < 128
+-- ASCII white space is an ASCII byte
+pub blank_small : (b : ℕ) → is_ascii_whitespace b ≡ true → b < 128
 blank_small b is = grind (arith, nat_tests)
 
-blank_skipped : (b : ℕ) → is_ascii_whitespace b ≡ true → (not (b == 64) && not (b == 37)) ≡ true
+-- ASCII white space is neither an at sign nor a percent sign
+pub blank_skipped : (b : ℕ) → is_ascii_whitespace b ≡ true → (not (b == 64) && not (b == 37)) ≡ true
 blank_skipped b is = grind (arith, nat_tests)
 
 -- white space parses to the empty reading

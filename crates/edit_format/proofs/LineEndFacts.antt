@@ -6,23 +6,23 @@ use Rattle.std.specs.List.{ends_with, flat_map, position_or_len}
 use Rattle.std.specs.Str.{str_to_ascii_lowercase}
 use lib.Dec.{eqb}
 use Rattle.std.specs.Cmp.Lexicographic.{pointwise}
-use Rattle.std.proofs.lemmas.Bool.{cases_lt, eqb-true, lt-ltb, ne_eqb}
+use Rattle.std.proofs.lemmas.Bool.{cases_lt, eqb-true, lt-ltb, ne_eqb, or_from}
 use Rattle.std.proofs.lemmas.List.{take_at}
 use Rattle.std.proofs.lemmas.List.Folds.{list_any-append}
 use Rattle.std.proofs.lemmas.Str.Ascii.{lowercase_is}
 use Rattle.bib_text.specs.Places.{Place, place, between}
-use Rattle.bib_text.proofs.PlaceFacts.{ahead_then, ahead_char, ahead_run}
+use Rattle.bib_text.proofs.PlaceFacts.{ahead_then, ahead_char, ahead_run, char_within}
+use Rattle.bib_text.proofs.BoolFacts.{or_false_left}
 use Rattle.bib_syntax.specs.Characters.{is_key, is_id_continue, is_id_start}
 use Rattle.bib_syntax.specs.Reading.{Part, FieldReading, EntryReading, FileReading}
 use Rattle.bib_syntax.specs.Grammar.{Identifier, longest}
 use Rattle.bib_syntax.proofs.FieldFacts.{ahead_fields, ahead_gap, ahead_identifier}
-use Rattle.bib_syntax.proofs.FileFacts.{ahead_head}
-use Rattle.edit_entries.proofs.MovedFacts.{char_within}
+use Rattle.edit_entries.proofs.EntryFacts.{ahead_to_fields}
 use Rattle.edit_entries.proofs.SplitFacts.{EntryBlock, ahead_file_before}
 use Rattle.edit_format.specs.Formatted.{entry_in_style, entry_laid_out, field_laid_out, gap_in_style, is_copied, last_comma, line_end_of, line_ends, padded_width, rest_in_style}
 use Rattle.edit_format.specs.Ordered.{in_order, order_of}
 use Rattle.edit_format.specs.declared.style.Style.{Style}
-use Rattle.edit_format.proofs.ByteFacts.{char_without, either_false, has, none_append, other_char, run_without}
+use Rattle.edit_format.proofs.ByteFacts.{char_without, has, none_append, other_char, run_without}
 use Rattle.edit_entries.proofs.ElementFacts.{ends_last, one_byte, parted}
 use Rattle.edit_format.proofs.GapFacts.{are_blank}
 use Rattle.edit_format.proofs.OrderFacts.{last_ordered}
@@ -81,7 +81,7 @@ first_line (b ∷ bs) some = by_test (b == 10) refl (first_line bs)
     by_test true is rest = record { line = []; rest = bs; none = refl; is = ap (λ c. c ∷ bs) (eqb-true b 10 is) }
     by_test false is rest =
         let l = rest (later (b == 10) (has 10 bs) is some) in
-        record { line = b ∷ l.line; rest = l.rest; none = either_false (b == 10) (has 10 l.line) is l.none; is = ap (λ t. b ∷ t) l.is }
+        record { line = b ∷ l.line; rest = l.rest; none = or_from (b == 10) (has 10 l.line) is l.none; is = ap (λ t. b ∷ t) l.is }
 
 -- the line end doesn't depend on the text after the first line feed
 same_start : (start xs ys : List ℕ) → has 10 start ≡ true → line_end_of (start ++ xs) ≡ line_end_of (start ++ ys)
@@ -225,13 +225,9 @@ parted_at start {u} {v} ordered same within =
     ap (λ t. start ++ t) (s.here ∙ ap (λ t. between u v ++ drop v.at t) (sym same))
     ∙ sym (append_assoc start (between u v) (drop v.at v.text))
 
-or_left : (x y : Bool) → (x || y) ≡ false → x ≡ false
-or_left false y none = refl
-or_left true y none = absurd (cc)
-
 first_clear : (first start : List ℕ) → start ≡ first ++ 125 ∷ [] → has 10 start ≡ false → has 10 first ≡ false
 first_clear first start is clear =
-    or_left (has 10 first) (has 10 (125 ∷ []))
+    or_false_left (has 10 first) (has 10 (125 ∷ []))
     (sym (list_any-append (λ x. x == 10) first (125 ∷ [])) ∙ ap (has 10) (sym is) ∙ clear)
 
 -- the text before a gap: that of the file if there are no blank lines to write, otherwise bytes with a closing brace at their end
@@ -264,11 +260,7 @@ lines_end line_end style blank_lines start {a} way front (ByEntries.last x none)
 lines_end line_end style blank_lines start {a} way front
     (ByEntries.more {s = s} {v = v} {before = before} {rest = rest} {e = e} first none x file' others) within is =
     let to_start = ahead_file_before first in
-    let to_brace =
-    ahead_then (ahead_head x.head)
-    (ahead_then (ahead_run x.key.run)
-    (ahead_then (ahead_run x.white.run)
-    (ahead_then (ahead_char x.comma) (ahead_then (ahead_gap x.gap) (ahead_fields x.fields))))) in
+    let to_brace = ahead_then (ahead_to_fields x) (ahead_fields x.fields) in
     let to_end = ahead_then to_brace (ahead_char x.closes) in
     let end_within : v.at ≤ length v.text = char_within x.closes in
     let next : v.at ≡ x.brace.at + 1 = x.closes.next in

@@ -5,14 +5,13 @@ use Rattle.std.specs.Char.{is_ascii_uppercase, to_ascii_lowercase}
 use Rattle.std.specs.List.{list_any}
 use Rattle.std.specs.Str.{str_to_ascii_lowercase}
 use lib.Utf8.{encode, next}
-use Rattle.std.proofs.lemmas.Bool.{ltb-true, cases_lt}
+use Rattle.std.proofs.lemmas.Bool.{ltb-true, cases_lt, or_parts}
 use Rattle.std.proofs.lemmas.Bool.Decides.{nat_tests}
 use Rattle.std.proofs.lemmas.List.{map-append}
 use Rattle.std.proofs.lemmas.Str.{encode_ascii}
 use Rattle.std.proofs.lemmas.Str.Ascii.{lowercase_ascii, lowercase_is, lowercase-lowercase}
 use Rattle.bib_syntax.specs.Characters.{is_id_continue, is_id_start}
 use Rattle.bib_syntax.specs.Grammar.{BlockKind, block_kind}
-use Rattle.edit_format.proofs.BraceFacts.{neither}
 
 pub lower_lower : (xs : List ℕ) → str_to_ascii_lowercase (str_to_ascii_lowercase xs) ≡ str_to_ascii_lowercase xs
 lower_lower [] = refl
@@ -39,7 +38,7 @@ small_stays c is = by_low (ltb c 65) refl
 pub lower_same : (xs : List ℕ) → list_any is_ascii_uppercase xs ≡ false → str_to_ascii_lowercase xs ≡ xs
 lower_same [] none = refl
 lower_same (x ∷ xs) none =
-    let both = neither (is_ascii_uppercase x) (list_any is_ascii_uppercase xs) none in
+    let both = or_parts (is_ascii_uppercase x) (list_any is_ascii_uppercase xs) none in
     ap (λ y. y ∷ str_to_ascii_lowercase xs) (small_stays x both.0) ∙ ap (λ ys. x ∷ ys) (lower_same xs both.1)
 
 -- the kind of a block doesn't depend on the case of its name

@@ -4,7 +4,7 @@ use Rattle.std.specs.List.{ends_with}
 use lib.Dec.{eqb}
 use Rattle.bib_text.specs.Places.{Place, between}
 use Rattle.bib_text.specs.Braces.{Parts}
-use Rattle.bib_text.proofs.PlaceFacts.{ahead_char, ahead_run}
+use Rattle.bib_text.proofs.PlaceFacts.{ahead_char, ahead_run, before_char}
 use Rattle.bib_syntax.specs.Reading.{Part, part, Piece}
 use Rattle.bib_syntax.specs.Reading.Piece.{literal, abbreviation}
 use Rattle.bib_syntax.specs.Grammar.{Braced, Identifier, NoDigit, Number, Quoted, QuotedParts, Element, longest}
@@ -14,7 +14,6 @@ use Rattle.bib_syntax.proofs.WordFacts.{ahead_number}
 use Rattle.edit_entries.specs.Documents.{in_braces}
 use Rattle.edit_entries.specs.Edits.{moved_part, moved_piece}
 use Rattle.edit_entries.proofs.GrammarFacts.{below_char, quoted_parts_there}
-use Rattle.edit_entries.proofs.MovedFacts.{char_within}
 use Rattle.edit_entries.proofs.ZoneFacts.{char_back, inside_between, parts_there, there}
 use Rattle.edit_format.specs.Delimited.{braced_in_style, can_stand_in_braces, can_stand_in_quotes, goes_in_braces, goes_in_quotes, has_quote, in_quotes, piece_as_written, quoted_in_style}
 use Rattle.edit_format.specs.declared.style.Delimiters.{Delimiters}
@@ -162,14 +161,7 @@ braced_read way {a} {b} {u} {v} {p} x s = by_test (goes_in_quotes way content) r
     content = between x.inside x.following
 
     within : x.following.at ≤ length x.inside.text
-    within =
-        omega (
-          arith,
-          char_within x.closes,
-          (ahead_char x.closes).at,
-          ap length (ahead_char x.closes).text,
-          ap length (ahead_parts x.parts).text,
-        )
+    within = before_char (ahead_parts x.parts) x.closes
 
     says : p.text ≡ content
     says = ap (λ q. q.text) x.reading
@@ -192,14 +184,7 @@ quoted_read way {a} {b} {u} {v} {p} x s = by_test (goes_in_braces way content) r
     content = between x.inside x.following
 
     within : x.following.at ≤ length x.inside.text
-    within =
-        omega (
-          arith,
-          char_within x.closes,
-          (ahead_char x.closes).at,
-          ap length (ahead_char x.closes).text,
-          ap length (ahead_quoted_parts x.parts).text,
-        )
+    within = before_char (ahead_quoted_parts x.parts) x.closes
 
     says : p.text ≡ content
     says = ap (λ q. q.text) x.reading

@@ -1,17 +1,17 @@
 -- A value in a new layout parses to the same pieces.
 use Rattle.std.proofs.Common.{◌≡◌, inl, inr, ℕ, ◌+◌, ◌<◌, ◌≤◌, Bool, true, false, List, [], ◌∷◌, ◌++◌, length, drop, map, codes, refl, sym, ap, ◌∙◌, subst, arith, append_assoc, length-append}
 use Rattle.std.specs.Prelude.{◌==◌}
-use Rattle.std.specs.Char.{is_whitespace, is_ascii_digit, len_utf8}
+use Rattle.std.specs.Char.{is_whitespace, len_utf8}
 use Rattle.std.specs.List.{ends_with}
 use lib.Dec.{eqb}
 use Rattle.std.proofs.lemmas.Bool.{cases_lt}
-use Rattle.std.proofs.lemmas.Bool.Decides.{Decides-eqb, nat_tests}
+use Rattle.std.proofs.lemmas.Bool.Decides.{Decides-eqb}
 use Rattle.std.proofs.lemmas.List.{append-nil, drop_at}
 use Rattle.std.proofs.lemmas.Slice.Eq.{ends_is}
 use Rattle.std.proofs.lemmas.Str.{len_utf8_bounds}
 use Rattle.bib_text.specs.Places.{Place, place, CharAt, Run, Stops, Longest}
 use Rattle.bib_text.specs.Places.Run.{stop, step}
-use Rattle.bib_text.proofs.PlaceFacts.{ahead_then, ahead_char, ahead_run, same_char, same_place, stops_at, test_clash}
+use Rattle.bib_text.proofs.PlaceFacts.{ahead_then, ahead_char, ahead_run, same_char, same_place, stops_at, test_clash, char_within}
 use Rattle.bib_syntax.specs.Reading.{Piece}
 use Rattle.bib_syntax.specs.Grammar.{Element, Elements, longest}
 use Rattle.bib_syntax.specs.Grammar.{Number as number}
@@ -21,8 +21,8 @@ use Rattle.bib_syntax.proofs.FieldFacts.{ahead_element, ahead_elements}
 use Rattle.bib_syntax.proofs.LawFacts.{start_not_white}
 use Rattle.edit_entries.specs.Edits.{moved_piece}
 use Rattle.bib_text.proofs.BoundaryFacts.{not_over}
+use Rattle.bib_text.proofs.DigitFacts.{digit_dark}
 use Rattle.edit_entries.proofs.EditFacts.{ascii_stands}
-use Rattle.edit_entries.proofs.MovedFacts.{char_within}
 use Rattle.edit_format.specs.Delimited.{piece_as_written}
 use Rattle.edit_format.specs.Formatted.{value_laid_out}
 use Rattle.edit_format.specs.declared.style.Delimiters.{Delimiters}
@@ -80,13 +80,10 @@ not_opened_sign c small a b char = record { no_brace = not_ended 123 (omega arit
 
 -- ---- values
 
-digit_is_dark : (c : ℕ) → is_ascii_digit c ≡ true → is_whitespace c ≡ false
-digit_is_dark c digit = grind (arith, nat_tests)
-
 element_dark : {u v : Place} {e : Piece} → Element longest u e v → Stops is_whitespace u
-element_dark (element.number (number.whole {c = c} char digit digits ends)) = stops_at is_whitespace char (digit_is_dark c digit)
+element_dark (element.number (number.whole {c = c} char digit digits ends)) = stops_at is_whitespace char (digit_dark c digit)
 element_dark (element.number (number.broken {c = c} char digit digits point others ends)) =
-    stops_at is_whitespace char (digit_is_dark c digit)
+    stops_at is_whitespace char (digit_dark c digit)
 element_dark (element.named none i) = stops_at is_whitespace i.here (start_not_white i.first i.starts)
 element_dark (element.braced b) = stops_at is_whitespace b.opens refl
 element_dark (element.quoted q) = stops_at is_whitespace q.opens refl

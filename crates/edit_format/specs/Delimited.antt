@@ -11,8 +11,8 @@ use Rattle.bib_syntax.specs.Reading.Piece.{literal, abbreviation}
 use Rattle.edit_format.specs.declared.style.Delimiters.{Delimiters}
 use Rattle.edit_format.specs.declared.style.Delimiters.TheVariants.{Keep, Braces, Quotes}
 
--- whether bytes close this number of open braces and all braces that they open. A backslash escapes the next byte, and may not be
--- the last byte. `is_hidden` says whether the first byte is escaped
+-- whether bytes close this number of open braces and all braces that they open. An unescaped backslash escapes the next byte, and
+-- may not be the last byte. `is_hidden` says whether the first byte is escaped
 abbrev pub close_braces : Bool → ℕ → List ℕ → Bool
 close_braces is_hidden depth [] = not is_hidden && depth == 0
 close_braces true depth (b ∷ bs) = close_braces false depth bs
@@ -26,8 +26,8 @@ close_braces false depth (b ∷ bs) =
 abbrev pub can_stand_in_braces : List ℕ → Bool
 can_stand_in_braces content = close_braces false 0 content
 
--- whether bytes have no unescaped quote. A backslash escapes the next byte, and may not be the last byte. `is_hidden` says whether
--- the first byte is escaped
+-- whether bytes have no unescaped quote. An unescaped backslash escapes the next byte, and may not be the last byte. `is_hidden`
+-- says whether the first byte is escaped
 abbrev pub hide_quotes : Bool → List ℕ → Bool
 hide_quotes is_hidden [] = not is_hidden
 hide_quotes true (b ∷ bs) = hide_quotes false bs
@@ -66,7 +66,7 @@ braced_in_style delimiters content = cond (goes_in_quotes delimiters content) (i
 abbrev pub quoted_in_style : Delimiters → List ℕ → List ℕ
 quoted_in_style delimiters content = cond (goes_in_braces delimiters content) (in_braces content) (in_quotes content)
 
--- a literal with the delimiters of the style: the end of the text before it tells its delimiters in the file, and a number has none
+-- a literal with the delimiters of the style. The end of the text before it tells its delimiters in the file, and a number has none
 abbrev pub delimited : Delimiters → List ℕ → List ℕ → List ℕ
 delimited delimiters before content =
     cond (ends_with eqb before (codes "{")) (braced_in_style delimiters content)

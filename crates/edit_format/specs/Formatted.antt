@@ -81,7 +81,7 @@ abbrev pub last_comma : Style → List FieldReading → List ℕ
 last_comma style [] = codes ","
 last_comma style (f ∷ fs) = if style.trailing_comma then codes "," else []
 
--- an entry in a new layout: its type and its key, its fields in the order of the style, and its closing brace on a line of its own
+-- an entry in a new layout: its type and key, its fields in the order of the style, and its closing brace on a new line
 abbrev pub entry_laid_out : List ℕ → Style → List ℕ → EntryReading → List ℕ
 entry_laid_out line_end style text e =
     codes "@"
@@ -96,7 +96,7 @@ entry_laid_out line_end style text e =
     (in_order (order_of style) e.fields)
     ++ (last_comma style e.fields ++ (line_end ++ codes "}"))))))
 
--- whether a text contains a percent sign between an offset, the fields after it and the closing brace
+-- whether a percent sign is in one of the gaps between an offset, the fields after it and the closing brace
 abbrev pub has_percent_between : List ℕ → ℕ → List FieldReading → ℕ → Bool
 has_percent_between text start [] end = has_percent text start end
 has_percent_between text start (f ∷ fs) end = has_percent text start f.name.start || has_percent_between text f.value.end fs end
@@ -105,7 +105,7 @@ has_percent_between text start (f ∷ fs) end = has_percent text start f.name.st
 abbrev pub has_comment : List ℕ → EntryReading → Bool
 has_comment text e = has_percent_between text e.key.end e.fields e.end
 
--- whether a piece is a literal whose braces aren't balanced. BibTeX and Biber end such a text elsewhere: for them, a backslash escapes no
+-- whether a piece is a literal whose braces aren't balanced. BibTeX and Biber end such a text elsewhere. For them, a backslash escapes no
 -- brace, and a quote inside braces doesn't end a text in quotes.
 abbrev pub is_unbalanced : Piece → Bool
 is_unbalanced (literal p) = not (is_balanced p.text)
@@ -130,8 +130,8 @@ abbrev pub line_ends : List ℕ → ℕ → List ℕ
 line_ends line_end zero = []
 line_ends line_end (suc count) = line_end ++ line_ends line_end count
 
--- the output for the text before an entry: blank lines if a number of them is given and the text is only ASCII white space, else a
--- copy
+-- the output for the text before an entry. It is a copy, or blank lines if a number of them is given and the text is empty or ASCII
+-- white space
 abbrev pub gap_in_style : List ℕ → Option ℕ → List ℕ → List ℕ
 gap_in_style line_end None gap = gap
 gap_in_style line_end (Some count) gap = cond (list_all is_ascii_whitespace gap) (line_ends line_end (suc count)) gap
@@ -180,7 +180,7 @@ content says = record {
   abbreviations = map (moved_field (λ at. 0)) says.abbreviations;
 }
 
--- a text parses to this reading, except for spans and the case of entry types and field names
+-- a text parses to this reading, except for spans and the ASCII case of entry types and field names
 pub record IsReadAlike (says : FileReading) (text : List ℕ) : Type 0 where
   pub tells : FileReading
   pub read : IsRawReading text tells

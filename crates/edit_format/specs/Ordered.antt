@@ -6,7 +6,7 @@ use Rattle.bib_syntax.specs.Reading.{FieldReading}
 use Rattle.edit_entries.specs.Documents.{has_name}
 use Rattle.edit_format.specs.declared.style.Style.{Style}
 
--- fields in an order of names, in any ASCII case: first those of the first name, then the others in the order of the other names.
+-- fields in an order of names, in any ASCII case: those of the first name, then the others in the order of the other names.
 -- Fields of the same name keep their relative order, and so do fields with none of the names, which come last
 abbrev pub in_order : List (List ℕ) → List FieldReading → List FieldReading
 in_order [] fields = fields

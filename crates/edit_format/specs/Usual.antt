@@ -5,8 +5,8 @@ use Rattle.edit_format.specs.Ordered.{order_of}
 use Rattle.edit_format.specs.declared.style.Delimiters.TheVariants.{Keep}
 use Rattle.edit_format.specs.declared.style.Style.{Style}
 
--- a style indents fields by two spaces, doesn't align equals signs, has a comma after the last field, and writes each field on one
--- line. The text between entries, the delimiters of literals and the order of fields are unchanged
+-- a style indents fields by two spaces, doesn't align equals signs, has a comma after the last field, and doesn't break values into
+-- lines. The text between entries, the delimiters of literals and the order of fields are unchanged
 pub record IsUsual (style : Style) : Type 0 where
   pub indent : style.indent ≡ 2
   pub aligned : style.aligned ≡ false

@@ -8,7 +8,7 @@ ghost use Rattle.edit_format.specs.Formatted.{gap_in_style, line_ends};
 
 use std::alloc::AllocError;
 
-// Returns whether `text` is only ASCII white space.
+// Returns whether `text` is empty or ASCII white space.
 fn is_blank(text: &str) -> bool
     ensures { result ≡ list_all is_ascii_whitespace text.now }
 {
@@ -25,8 +25,8 @@ fn push_line_ends(new: &mut String, line_end: &str, count: usize) -> Result<(), 
     Ok(())
 }
 
-// Appends the text before an entry. If it is only ASCII white space and `blank_lines` is a number, appends this number of blank
-// lines instead.
+// Appends the text before an entry. If it is empty or ASCII white space and `blank_lines` is a number, appends this number of
+// blank lines instead.
 pub(crate) fn push_gap(
     new: &mut String,
     line_end: &str,

@@ -1,5 +1,5 @@
-//! The layout of a bibliography file: each entry is written in one style, and the text between entries is kept. Only the blank
-//! lines between entries change, if the style asks for it. Entries with comments or unbalanced braces are copied (`comments`).
+//! The layout of a bibliography file: each entry is written in one style, and the text between entries is kept. Only white
+//! space between entries changes, if the style asks for it. Entries with comments or unbalanced braces are copied (`comments`).
 //!
 //! The text is copied up to each entry, the entry is written from its raw reading, and copying resumes after its closing brace.
 //! The new text isn't parsed. The proofs show that it parses to the same entries by the file grammar. The text between entries

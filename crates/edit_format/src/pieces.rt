@@ -14,7 +14,7 @@ use bib_syntax::raw::RawChunk;
 use bib_text::spanned::Spanned;
 use std::alloc::AllocError;
 
-// Appends a piece. A literal gets the delimiters of the style, if it can be written in them.
+// Appends a piece. A literal with delimiters gets those of the style, if it can be written in them.
 fn push_piece(
     new: &mut String,
     layout: &Layout<'_, '_>,

@@ -7,11 +7,11 @@ ghost use Rattle.edit_format.specs.Usual.{IsUsual};
 pub enum Delimiters {
     /// Each literal keeps its delimiters.
     Keep,
-    /// Literals are in braces. A literal in quotes with unbalanced braces keeps its quotes, since in braces it would end
-    /// elsewhere.
+    /// Literals are in braces. A literal in quotes with unbalanced unescaped braces keeps its quotes, since in braces it would
+    /// end elsewhere.
     Braces,
-    /// Literals are in quotes. A literal in braces that contains a quote keeps its braces, since BibTeX would end a quoted
-    /// literal there.
+    /// Literals are in quotes. A literal in braces that contains a quote keeps its braces, since this library or BibTeX could
+    /// end a quoted literal there.
     Quotes,
 }
 
@@ -24,8 +24,8 @@ pub struct Style<'a> {
     pub aligned: bool,
     /// Whether a comma follows the last field of an entry.
     pub trailing_comma: bool,
-    /// Number of blank lines between two entries that have only ASCII white space between them. With `None`, this white space
-    /// is unchanged.
+    /// Number of blank lines between two entries that have at most ASCII white space between them. With `None`, this white
+    /// space is unchanged.
     pub blank_lines: Option<usize>,
     /// The delimiters of the literals of values.
     pub delimiters: Delimiters,

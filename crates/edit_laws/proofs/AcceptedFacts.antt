@@ -3,7 +3,7 @@ use Rattle.std.proofs.Common.{◌≡◌, ◌⊎◌, ℕ, zero, suc, ◌<◌, ◌
 use Rattle.std.specs.Prelude.{codes, slice_get, slice_set, ◌||◌}
 use Rattle.std.specs.List.{AllZip, list_any}
 use Rattle.std.specs.Option.{option_map_or}
-use Rattle.std.proofs.lemmas.Bool.{both_ways}
+use Rattle.std.proofs.lemmas.Bool.{both_ways, cases_lt}
 use Rattle.std.proofs.lemmas.Bool.Decides.{eqb_tells}
 use Rattle.bib_abbreviations.specs.Abbreviations.{Definitions}
 use Rattle.bib_chunks.specs.Lists.{comma_texts}
@@ -19,14 +19,14 @@ use Rattle.bib_collections.proofs.Walks.{one_solution}
 use Rattle.bib_collections.specs.Graph.{IsInRange, Leads, refs_of}
 use Rattle.bib_inheritance.proofs.RangeFacts.{graph_in_range}
 use Rattle.bib_inheritance.specs.InheritableDate.{inheritable_date, is_unreadable}
-use Rattle.bib_text.proofs.ListFacts.{found_any}
+use Rattle.bib_text.proofs.ListFacts.{found_any, get_mapped}
 use Rattle.biblatex.proofs.ResolvedFacts.{bad_apart, names_below}
 use Rattle.biblatex.specs.Resolved.{AreOwn, IsAccepted, IsFirstErrorOf, graph_of, names_of}
 use Rattle.edit_laws.proofs.DateFacts.{HaveSameDate, date_same, dates_inherited, looks_alike}
-use Rattle.edit_laws.proofs.DifferFacts.{IsUnlinked, differ_apart, differ_graph, differ_here, get_of_map, other_field, past}
+use Rattle.edit_laws.proofs.DifferFacts.{IsUnlinked, differ_apart, differ_graph, differ_here, other_field, past}
 use Rattle.edit_laws.proofs.LiftFacts.{at_texts}
 use Rattle.edit_laws.proofs.ReplacedFacts.{IsReplaced, entries_alike}
-use Rattle.edit_laws.proofs.SolutionFacts.{order, related}
+use Rattle.edit_laws.proofs.SolutionFacts.{related}
 use Rattle.edit_laws.specs.OneField.{DifferInField, with_field_text}
 use Rattle.edit_laws.proofs.ReadAlikeFacts.{AreAlikeEntries, fields_faultless}
 use Rattle.edit_laws.proofs.TextFacts.{AreTexts, AreTextsOf, claims_are, claims_by, own_at, texts_are, texts_of_entry_are, texts_same}
@@ -137,7 +137,7 @@ module _ {said tells : FileReading} {k : ℕ} {e changed : EntryReading} (replac
   same_dates : (others : List Entry) (values news : List EntryTexts) → AreOwn tells others
       → Inherits (texts_of_entries own) (graph_of own) values → Inherits (texts_of_entries others) (graph_of own) news
       → (a : ℕ) → HaveSameDate (at_index values a) (at_index news a)
-  same_dates others values news are first second a = by_range (order a (length (graph_of own)))
+  same_dates others values news are first second a = by_range (cases_lt a (length (graph_of own)))
     where
       by_range : (a < length (graph_of own)) ⊎ (length (graph_of own) ≤ a) → HaveSameDate (at_index values a) (at_index news a)
       by_range (inl below) =
@@ -162,7 +162,7 @@ module _ {said tells : FileReading} {k : ℕ} {e changed : EntryReading} (replac
       tells.entries (entries_alike replaced)
       (texts_set k e changed (texts_of_entry at.0) (with_field_text name text (texts_of_entry at.0))
       (texts_are accepted.entries) replaced.here
-      (get_of_map texts_of_entry own k at.0 at.1) replaced.key (becomes (texts_of_entry at.0)) read
+      (get_mapped texts_of_entry own k at.0 at.1) replaced.key (becomes (texts_of_entry at.0)) read
       (other_field name text (texts_of_entry at.0) (codes "ids") apart.ids)) error
   still_accepted (IsFirstErrorOf.cycle {own = others} {index = index} are first is) =
       let graph = sym (differ_graph (differs others are) apart) in

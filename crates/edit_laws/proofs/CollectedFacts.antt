@@ -4,7 +4,7 @@ use Rattle.std.specs.Prelude.{◌==◌, ◌&&◌, bytes_eq, count_by, find, is_s
 use Rattle.std.specs.List.{AllByRecursion, AllZip, flat_map}
 use Rattle.std.specs.Option.{option_map_or, option_or}
 use Rattle.std.specs.Str.{chars}
-use Rattle.std.proofs.lemmas.Bool.{both_ways}
+use Rattle.std.proofs.lemmas.Bool.{both_ways, eqb-true}
 use Rattle.std.proofs.lemmas.List.{append-nil}
 use Rattle.std.proofs.lemmas.List.Folds.{list_any-append}
 use Rattle.std.proofs.lemmas.Slice.Eq.{bytes_eq-Decides}
@@ -17,9 +17,11 @@ use Rattle.bib_syntax.specs.Grammar.{is_word}
 use Rattle.bib_syntax.specs.Reading.{EntryReading, FieldReading, FileReading, Part, Piece}
 use Rattle.bib_syntax.specs.Reading.Piece.{abbreviation, literal}
 use Rattle.bib_text.proofs.ListFacts.{some_same}
+use Rattle.bib_text.proofs.BoolFacts.{or_false_left, or_false_right, and_true_right}
+use Rattle.bib_text.proofs.OptionFacts.{or_none}
 use Rattle.edit_entries.specs.Documents.{Document, IsDocument, has_name, or_first, text_at}
 use Rattle.edit_laws.proofs.AlikeFacts.{MeanTheSame}
-use Rattle.edit_laws.proofs.DefinedFacts.{IsNew, absent, defined_append, equal_counts, found_in, is_new, left_false, line_defined, one_literal, only_last, or_nothing, own_word, readings_push, right_false, second_true}
+use Rattle.edit_laws.proofs.DefinedFacts.{IsNew, absent, defined_append, found_in, is_new, line_defined, one_literal, only_last, own_word, readings_push}
 use Rattle.edit_laws.proofs.ExchangedFacts.{EachMeansTheSame, exchanged_pieces, files_exchanged}
 use Rattle.edit_laws.proofs.ReadAlikeFacts.{AreAlikeFiles}
 use Rattle.edit_laws.proofs.UsedNameFacts.{definitions_closed, entries_in, right_listed}
@@ -79,11 +81,11 @@ module _ (says : FileReading) where
               → cond b (single_text (elements f)) None ≡ Some text → IsReusable f text
           by_test false test value = absurd (cc)
           by_test true test value =
-              let named = second_true (is_before (first_entry_start says.entries) f) _ test in
+              let named = and_true_right (is_before (first_entry_start says.entries) f) _ test in
               let counted =
-              second_true (not (is_month f.name.text) && not (has_digit_first f.name.text))
+              and_true_right (not (is_month f.name.text) && not (has_digit_first f.name.text))
               (count_by (has_name f.name.text) says.abbreviations == 1) named in
-              record { one = equal_counts (count_by (has_name f.name.text) says.abbreviations) 1 counted; value = value }
+              record { one = eqb-true (count_by (has_name f.name.text) says.abbreviations) 1 counted; value = value }
 
   -- a known name is defined as its text
   known_means : (text name : List ℕ) → known_name says text ≡ Some name
@@ -130,10 +132,10 @@ module _ (says : FileReading) where
       fresh = λ fresh.
           defined_append added (line_reading n t ∷ []) name
           ∙ ap (λ o. option_or o (definition_in added name))
-          (line_defined n t name false (other_way name n (left_false (is_word name n) _ none)))
+          (line_defined n t name false (other_way name n (or_false_left (is_word name n) _ none)))
           ∙ all.0.fresh fresh;
     },
-    still_mean added n t names texts (right_false (is_word name n) _ none) all.1,
+    still_mean added n t names texts (or_false_right (is_word name n) _ none) all.1,
   )
     where
       other_way : (name n : List ℕ) → is_word name n ≡ false → bytes_eq name n ≡ false
@@ -205,7 +207,7 @@ module _ (says : FileReading) where
     same_in_file name inside =
         found_new name
         ∙ ap (λ o. option_or (option_or (definition_in other name) o) (definition_in one name)) (none_new named name inside)
-        ∙ ap (λ o. option_or o (definition_in one name)) (or_nothing (definition_in other name))
+        ∙ ap (λ o. option_or o (definition_in one name)) (or_none (definition_in other name))
         ∙ sym (found_old name)
 
     -- a name that the file hasn't has no definition there
@@ -214,7 +216,7 @@ module _ (says : FileReading) where
         first_none (definition_in other name) (definition_in one name)
         (sym (found_old name)
         ∙ absent says.abbreviations name
-        (left_false (is_one_in_any_case (definition_names says.abbreviations) name) _
+        (or_false_left (is_one_in_any_case (definition_names says.abbreviations) name) _
         (sym
         (list_any-append (λ o. is_word o name) (definition_names says.abbreviations)
         (flat_map (λ e. used_names e.fields) says.entries))

@@ -1,10 +1,9 @@
 -- What defines a name: among appended definitions, among new ones, and where it is defined once.
 use Rattle.std.proofs.Common.{◌≡◌, ℕ, ◌+◌, List, [], ◌∷◌, ◌++◌, Bool, true, false, cond, length, reverse, refl, sym, ap, ◌∙◌, subst, arith, Some, None, Option, option_map}
-use Rattle.std.specs.Prelude.{◌==◌, ◌&&◌, ◌||◌, ◌≤◌, bytes_eq, count_by, find, is_some}
+use Rattle.std.specs.Prelude.{◌||◌, ◌≤◌, bytes_eq, count_by, find, is_some}
 use Rattle.std.specs.Option.{option_or}
 use Rattle.std.specs.Str.{str_to_ascii_lowercase}
-use Rattle.std.proofs.lemmas.Bool.{both_ways}
-use Rattle.std.proofs.lemmas.Bool.Decides.{nat_tests}
+use Rattle.std.proofs.lemmas.Bool.{both_ways, not-true}
 use Rattle.std.proofs.lemmas.List.{append-nil, append_assoc, reverse-append}
 use Rattle.std.proofs.lemmas.List.Folds.{find-append, list_any-append}
 use Rattle.std.proofs.lemmas.List.Sums.{sum_by-append}
@@ -14,8 +13,8 @@ use Rattle.bib_syntax.specs.Grammar.{is_word}
 use Rattle.bib_syntax.specs.Reading.{FieldReading, FileReading, Part, Piece}
 use Rattle.bib_syntax.specs.Reading.Piece.{abbreviation, literal}
 use Rattle.bib_text.proofs.ListFacts.{some_same}
+use Rattle.bib_text.proofs.BoolFacts.{or_false_left, or_false_right}
 use Rattle.edit_entries.specs.Documents.{text_at}
-use Rattle.edit_strings.proofs.TextFacts.{not_true}
 use Rattle.edit_strings.specs.Collected.{definition_names, element_names, is_month, is_new_name, is_one_in_any_case, known_name, line_reading, line_readings, names_of_file, single_text}
 use Rattle.edit_strings.specs.Expanded.{elements}
 
@@ -46,37 +45,14 @@ other_bytes name other differs = by_case (bytes_eq name other) refl
         let same : name ≡ other = (bytes_eq-Decides name other).0 is in
         absurd (both_ways _ differs (subst (λ n. is_word other n ≡ true) (sym same) (own_word other)))
 
-pub left_false : (a b : Bool) → (a || b) ≡ false → a ≡ false
-left_false false b is = refl
-left_false true b is = is
-
-pub right_false : (a b : Bool) → (a || b) ≡ false → b ≡ false
-right_false false b is = is
-right_false true b is = cc
-
-pub right_true : (a b : Bool) → b ≡ true → (a || b) ≡ true
-right_true false b is = is
-right_true true b is = refl
-
-pub second_true : (a b : Bool) → (a && b) ≡ true → b ≡ true
-second_true true b is = is
-second_true false b is = cc
-
-pub equal_counts : (m n : ℕ) → (m == n) ≡ true → m ≡ n
-equal_counts m n is = grind (arith, nat_tests, is)
-
-pub or_nothing : {A : Type 0} (o : Option A) → option_or o None ≡ o
-or_nothing None = refl
-or_nothing (Some x) = refl
-
 -- the definition of a name that no definition has, in any case
 pub absent : (fs : List FieldReading) (name : List ℕ) → is_one_in_any_case (definition_names fs) name ≡ false → definition_in fs name ≡ None
 absent [] name none = refl
 absent (f ∷ fs) name none =
     let parted = sym (list_any-append (λ o. is_word o name) (f.name.text ∷ element_names (elements f)) (definition_names fs)) ∙ none in
-    let own = left_false (is_word f.name.text name || is_one_in_any_case (element_names (elements f)) name) _ parted in
-    let first = left_false (is_word f.name.text name) _ own in
-    let rest = right_false (is_word f.name.text name || is_one_in_any_case (element_names (elements f)) name) _ parted in
+    let own = or_false_left (is_word f.name.text name || is_one_in_any_case (element_names (elements f)) name) _ parted in
+    let first = or_false_left (is_word f.name.text name) _ own in
+    let rest = or_false_right (is_word f.name.text name || is_one_in_any_case (element_names (elements f)) name) _ parted in
     defined_append (f ∷ []) fs name
     ∙ ap (λ o. option_or o (definition_in (f ∷ []) name)) (absent fs name rest)
     ∙ ap (λ b. option_map elements (cond b (Some f) None)) (other_bytes name f.name.text first)
@@ -106,10 +82,10 @@ pub record IsNew (says : FileReading) (earlier : List (List ℕ)) (name : List �
 
 pub is_new : (says : FileReading) (earlier : List (List ℕ)) (name : List ℕ) → is_new_name says earlier name ≡ true → IsNew says earlier name
 is_new says earlier name new =
-    let free = right_false (is_month name) _ (not_true _ new) in
+    let free = or_false_right (is_month name) _ (not-true _ new) in
     record {
-      no_earlier = left_false (is_one_in_any_case earlier name) _ free;
-      no_other = right_false (is_one_in_any_case earlier name) _ free;
+      no_earlier = or_false_left (is_one_in_any_case earlier name) _ free;
+      no_other = or_false_right (is_one_in_any_case earlier name) _ free;
     }
 
 -- ---- the one definition of a known name

@@ -7,6 +7,9 @@ use Rattle.std.specs.FinMap as by_name
 use Rattle.std.proofs.lemmas.List.{ext_get_or, get_or-map, length-map}
 use Rattle.std.proofs.lemmas.Bool.Decides.{eqb_tells}
 use Rattle.std.proofs.lemmas.Option.{slice_get_within}
+use Rattle.std.proofs.lemmas.Bool.{cases_lt}
+use Rattle.bib_text.proofs.BoolFacts.{or_false_left, or_false_right}
+use Rattle.bib_text.proofs.ListFacts.{get_mapped}
 use Rattle.bib_chunks.specs.Lists.{comma_texts}
 use Rattle.bib_chunks.specs.Styled.{Atom}
 use Rattle.bib_collections.proofs.Walks.{below_from_edge, map_agree}
@@ -26,16 +29,11 @@ use Rattle.bib_tables.specs.declared.mechanics.EntryType.{EntryType}
 use Rattle.biblatex.proofs.ResolvedFacts.{all_texts_same, graph_same, keys_same, names_below, names_same}
 use Rattle.biblatex.specs.Resolved.{AreOwn, IsLoaded, graph_of, names_of}
 use Rattle.edit_laws.proofs.LiftFacts.{at_texts}
-use Rattle.edit_laws.proofs.SolutionFacts.{order, related}
+use Rattle.edit_laws.proofs.SolutionFacts.{related}
 use Rattle.edit_laws.proofs.TextFacts.{all_claims, all_claims_are, claims_set, graph_by_texts, graph_texts, map_set_same, names_by_claims}
 use Rattle.edit_laws.specs.OneField.{AreAlikeExcept, DifferInField, linked_names, with_field_text}
 
 -- ---- lists
-
-pub get_of_map : {A B : Type 0} (f : A → B) (xs : List A) (k : ℕ) (x : A) → slice_get xs k ≡ Some x → slice_get (map f xs) k ≡ Some (f x)
-get_of_map f [] k x here = cc
-get_of_map f (y ∷ xs) zero x here = let same : y ≡ x = cc in ap (λ z. Some (f z)) same
-get_of_map f (y ∷ xs) (suc k) x here = get_of_map f xs k x here
 
 set_apart : {A : Type 0} (xs : List A) (k a : ℕ) (x d : A) → (a ≡ k → ⊥) → get_or (slice_set xs k x) a d ≡ get_or xs a d
 set_apart [] k a x d apart = refl
@@ -72,14 +70,6 @@ pub record IsUnlinked (name : List ℕ) : Type 0 where
   pub month : bytes_eq (codes "month") name ≡ false
   pub day : bytes_eq (codes "day") name ≡ false
 
-first_false : (a b : Bool) → (a || b) ≡ false → a ≡ false
-first_false true b is = cc
-first_false false b is = refl
-
-other_false : (a b : Bool) → (a || b) ≡ false → b ≡ false
-other_false true b is = cc
-other_false false b is = is
-
 pub unlinked : (name : List ℕ) → is_one_of linked_names name ≡ false → IsUnlinked name
 unlinked name apart =
     let one : Bool = bytes_eq (codes "day") name || false in
@@ -88,20 +78,20 @@ unlinked name apart =
     let four : Bool = bytes_eq (codes "date") name || three in
     let five : Bool = bytes_eq (codes "xdata") name || four in
     let six : Bool = bytes_eq (codes "crossref") name || five in
-    let s = other_false (bytes_eq (codes "ids") name) six apart in
-    let f = other_false (bytes_eq (codes "crossref") name) five s in
-    let r = other_false (bytes_eq (codes "xdata") name) four f in
-    let t = other_false (bytes_eq (codes "date") name) three r in
-    let w = other_false (bytes_eq (codes "year") name) two t in
-    let o = other_false (bytes_eq (codes "month") name) one w in
+    let s = or_false_right (bytes_eq (codes "ids") name) six apart in
+    let f = or_false_right (bytes_eq (codes "crossref") name) five s in
+    let r = or_false_right (bytes_eq (codes "xdata") name) four f in
+    let t = or_false_right (bytes_eq (codes "date") name) three r in
+    let w = or_false_right (bytes_eq (codes "year") name) two t in
+    let o = or_false_right (bytes_eq (codes "month") name) one w in
     record {
-      ids = first_false (bytes_eq (codes "ids") name) six apart;
-      crossref = first_false (bytes_eq (codes "crossref") name) five s;
-      xdata = first_false (bytes_eq (codes "xdata") name) four f;
-      date = first_false (bytes_eq (codes "date") name) three r;
-      year = first_false (bytes_eq (codes "year") name) two t;
-      month = first_false (bytes_eq (codes "month") name) one w;
-      day = first_false (bytes_eq (codes "day") name) false o;
+      ids = or_false_left (bytes_eq (codes "ids") name) six apart;
+      crossref = or_false_left (bytes_eq (codes "crossref") name) five s;
+      xdata = or_false_left (bytes_eq (codes "xdata") name) four f;
+      date = or_false_left (bytes_eq (codes "date") name) three r;
+      year = or_false_left (bytes_eq (codes "year") name) two t;
+      month = or_false_left (bytes_eq (codes "month") name) one w;
+      day = or_false_left (bytes_eq (codes "day") name) false o;
     }
 
 -- another field is the same
@@ -153,7 +143,7 @@ module _ {own others : List Entry} {k : ℕ} {name : List ℕ} {text : Option (L
   new = with_field_text name text old
 
   old_here : slice_get (texts_of_entries own) k ≡ Some old
-  old_here = get_of_map texts_of_entry own k differ.entry differ.here
+  old_here = get_mapped texts_of_entry own k differ.entry differ.here
 
   -- the names are the same
   pub differ_names : names_of own ≡ names_of others
@@ -334,7 +324,7 @@ module _ {says tells : FileReading} {one other : Bibliography} (first : IsLoaded
     fields = λ field apart'.
         fields_same differ apart none (texts_of_entries one.entries) (texts_of_entries other.entries) solves second.inherits
         (subst (λ n. k < n) (sym rows) within_own) field apart';
-    others = λ at not leads. by_range at (order at (length (graph_of own))) not leads;
+    others = λ at not leads. by_range at (cases_lt at (length (graph_of own))) not leads;
   }
     where
       by_range : (at : ℕ) → (at < length (graph_of own)) ⊎ (length (graph_of own) ≤ at) → (at ≡ k → ⊥)

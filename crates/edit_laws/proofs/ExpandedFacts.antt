@@ -10,9 +10,9 @@ use Rattle.bib_chunks.specs.Styled.{Atom}
 use Rattle.bib_contents.specs.Contents.{IsContent}
 use Rattle.bib_file_entries.specs.Loaded.{definition_in}
 use Rattle.bib_syntax.specs.Reading.{EntryReading, FieldReading, FileReading, Part, Piece}
-use Rattle.bib_text.proofs.ListFacts.{some_same}
+use Rattle.bib_text.proofs.ListFacts.{some_same, all_weaker}
 use Rattle.bib_syntax.specs.Reading.Piece.{abbreviation, literal}
-use Rattle.edit_entries.proofs.AllFacts.{all_both, all_weaker}
+use Rattle.edit_entries.proofs.AllFacts.{all_both}
 use Rattle.edit_entries.specs.Documents.{Document}
 use Rattle.edit_laws.proofs.AlikeFacts.{MeanTheSame}
 use Rattle.edit_laws.proofs.ExchangedFacts.{exchanged_pieces, files_exchanged}

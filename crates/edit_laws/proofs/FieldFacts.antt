@@ -7,6 +7,8 @@ use Rattle.std.specs.Option.{option_or}
 use Rattle.std.specs.Str.{str_to_ascii_lowercase}
 use Rattle.std.proofs.lemmas.List.Folds.{list_any-append}
 use Rattle.std.proofs.lemmas.Slice.Eq.{bytes_eq-Decides}
+use Rattle.bib_text.proofs.OptionFacts.{or_none}
+use Rattle.bib_text.proofs.BytesFacts.{bytes_itself}
 use Rattle.bib_abbreviations.specs.Abbreviations.{Definitions, IsReadable}
 use Rattle.bib_file_entries.specs.Loaded.{AllCanBeRead, field_in, name_of}
 use Rattle.bib_syntax.specs.Reading.{FieldReading, Part, Piece}
@@ -15,7 +17,7 @@ use Rattle.bib_tables.specs.VerbatimFields.{is_verbatim_field}
 use Rattle.edit_entries.specs.Changes.{FieldChange, field_changed, field_reading, fields_changed}
 use Rattle.edit_entries.specs.Documents.{has_name}
 use Rattle.edit_entries.specs.Setting.{SetValue, field_with_value, has_other_value, is_same_value, new_value, set_change}
-use Rattle.edit_laws.proofs.FoundFacts.{find_failing, find_passing, or_nothing, reverse_filter, reverse_more}
+use Rattle.edit_laws.proofs.FoundFacts.{find_failing, find_passing, reverse_filter, reverse_more}
 use Rattle.edit_laws.proofs.ReorderedFacts.{field_append, named_alike}
 
 -- pieces are one literal with a text
@@ -30,9 +32,6 @@ pub record IsFieldSet (fields changed : List FieldReading) (name text : List ℕ
   pub field : FieldReading
   pub here : field_in changed name ≡ Some field
   pub says : IsText field.value.pieces text
-
-pub same_text : (text : List ℕ) → bytes_eq text text ≡ true
-same_text text = (bytes_eq-Decides text text).1 refl
 
 -- ---- searches
 
@@ -220,7 +219,7 @@ module _ (name : List ℕ) (value : SetValue) (text : List ℕ) where
         field = set_field found.0;
         here = field_mapped set_field name_kept fs (str_to_ascii_lowercase name) ∙ ap (option_map set_field) found.1;
         says = set_says found.0 new (all_found HasTextAlready test (reverse fs) found.0 (all_reversed HasTextAlready fs already) found.1)
-            (named_alike name (str_to_ascii_lowercase name) found.0 passes ∙ same_text (str_to_ascii_lowercase name));
+            (named_alike name (str_to_ascii_lowercase name) found.0 passes ∙ bytes_itself (str_to_ascii_lowercase name));
       }
 
   -- ---- a new field
@@ -234,11 +233,11 @@ module _ (name : List ℕ) (value : SetValue) (text : List ℕ) where
       record {
         others = λ other apart.
             field_append (f ∷ []) fs other
-            ∙ ap (λ b. option_or (field_in fs other) (cond b (Some f) None)) apart ∙ or_nothing (field_in fs other);
+            ∙ ap (λ b. option_or (field_in fs other) (cond b (Some f) None)) apart ∙ or_none (field_in fs other);
         field = f;
         here =
             field_append (f ∷ []) fs n ∙ ap (λ o. option_or o (field_in (f ∷ []) n)) (absent name fs none)
-            ∙ ap (λ b. cond b (Some f) None) (same_text n);
+            ∙ ap (λ b. cond b (Some f) None) (bytes_itself n);
         says = new;
       }
 
@@ -286,7 +285,7 @@ module _ (name : List ℕ) where
   unset_absent fs =
       ap (find (λ f. bytes_eq (str_to_ascii_lowercase name) (name_of f))) (reverse_filter other_field fs)
       ∙ find_failing (λ f. bytes_eq (str_to_ascii_lowercase name) (name_of f)) other_field
-      (λ f tests. ap not (named_alike name (str_to_ascii_lowercase name) f tests ∙ same_text (str_to_ascii_lowercase name))) (reverse fs)
+      (λ f tests. ap not (named_alike name (str_to_ascii_lowercase name) f tests ∙ bytes_itself (str_to_ascii_lowercase name))) (reverse fs)
 
   pub unset_readable : (definitions : Definitions) (fs : List FieldReading) → AllCanBeRead definitions fs
       → AllCanBeRead definitions (filter other_field fs)

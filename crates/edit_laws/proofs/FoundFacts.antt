@@ -1,7 +1,6 @@
 -- The last item that passes a test, in a filtered list.
-use Rattle.std.proofs.Common.{◌≡◌, List, [], ◌∷◌, ◌++◌, Bool, true, false, cond, reverse, refl, sym, ap, ◌∙◌, Some, None, Option}
+use Rattle.std.proofs.Common.{◌≡◌, List, [], ◌∷◌, ◌++◌, Bool, true, false, cond, reverse, refl, sym, ap, ◌∙◌, Some, None}
 use Rattle.std.specs.Prelude.{find}
-use Rattle.std.specs.Option.{option_or}
 use Rattle.std.specs.List.{filter}
 use Rattle.std.proofs.lemmas.Bool.{false≢true}
 use Rattle.std.proofs.lemmas.List.{append-nil, reverse-append}
@@ -43,7 +42,3 @@ reverse_filter {A} p (x ∷ xs) =
         → reverse (cond b (x ∷ filter p xs) (filter p xs)) ≡ filter p (reverse xs) ++ cond b (x ∷ []) []
     by_test true rest = reverse_more x (filter p xs) ∙ ap (λ t. t ++ x ∷ []) rest
     by_test false rest = rest ∙ sym (append-nil (filter p (reverse xs)))
-
-pub or_nothing : {A : Type 0} (o : Option A) → option_or o None ≡ o
-or_nothing None = refl
-or_nothing (Some x) = refl

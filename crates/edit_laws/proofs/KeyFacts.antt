@@ -5,6 +5,7 @@ use Rattle.std.specs.List.{AllByRecursion, AllZip}
 use Rattle.std.specs.Str.{str_to_ascii_lowercase}
 use Rattle.std.proofs.lemmas.Bool.{both_ways}
 use Rattle.std.proofs.lemmas.Slice.Eq.{bytes_eq-Decides}
+use Rattle.bib_text.proofs.ListFacts.{get_mapped}
 use Rattle.bib_abbreviations.specs.Abbreviations.{Definitions}
 use Rattle.bib_entry.specs.declared.entry.Entry.{Entry}
 use Rattle.bib_file_entries.proofs.LoadingFacts.{AllZip-reverse}
@@ -15,15 +16,13 @@ use Rattle.bib_syntax.specs.Reading.{EntryReading, FieldReading, FileReading}
 use Rattle.bib_tables.specs.EntryType.{entry_type_of}
 use Rattle.bib_tables.specs.ReferenceFields.{is_reference_field}
 use Rattle.biblatex.specs.Resolved.{AreOwn}
-use Rattle.edit_entries.proofs.PlacelessFacts.{file_placeless}
+use Rattle.edit_entries.proofs.PlacelessFacts.{file_placeless, pieces_placeless}
 use Rattle.edit_entries.specs.Documents.{Document, text_at, value_edit, with_value}
 use Rattle.edit_entries.specs.Edits.{moved_entry, moved_field, moved_piece, moved_place}
 use Rattle.edit_entries.specs.References.{Change, Changed, KeysRenamed, key_change, new_reference, reference_changes, renamed_text, renamed_value, renaming, value_change}
 use Rattle.edit_format.proofs.LowerFacts.{lower_lower}
 use Rattle.edit_laws.proofs.AlikeFacts.{AreAlikeFields, DefineAlike, FoundAlike, alike_mean, definitions_alike, find_alike}
-use Rattle.edit_laws.proofs.DifferFacts.{get_of_map}
 use Rattle.edit_laws.proofs.FieldFacts.{found_passes}
-use Rattle.edit_laws.proofs.LeadChangeFacts.{pieces_placeless}
 use Rattle.edit_laws.proofs.LeadListFacts.{zip_self}
 use Rattle.edit_laws.proofs.ReadAlikeFacts.{abbreviations_alike, pieces_alike}
 use Rattle.edit_laws.proofs.TextFacts.{found_text, texts_of_entry_are}
@@ -146,7 +145,7 @@ module _ (keys : ℕ → Option (List ℕ)) where
             zip_set (IsEntryKept keys) d.says.entries (map (moved_entry move) before.says.entries) k (moved_entry move e)
             (record (moved_entry move e) { key = text_at (move e.key.start) new })
             (zip_map (IsEntryKept keys) (moved_entry move) d.says.entries before.says.entries (entry_moved keys move) kept.entries)
-            (get_of_map (moved_entry move) before.says.entries k e here)
+            (get_mapped (moved_entry move) before.says.entries k e here)
             (λ x was. record { key = inr fine.0; kind = was.kind; fields = was.fields });
         abbreviations = kept.abbreviations ∙ sym (ap (λ (s : FileReading). s.abbreviations) (file_placeless move before.says));
       }
@@ -159,14 +158,14 @@ module _ (keys : ℕ → Option (List ℕ)) where
             zip_set (IsEntryKept keys) d.says.entries (map (moved_entry move) before.says.entries) k (moved_entry move e)
             (record (moved_entry move e) { fields = slice_set (map (moved_field move) e.fields) j changed })
             (zip_map (IsEntryKept keys) (moved_entry move) d.says.entries before.says.entries (entry_moved keys move) kept.entries)
-            (get_of_map (moved_entry move) before.says.entries k e here)
+            (get_mapped (moved_entry move) before.says.entries k e here)
             (λ x was.
             record {
               key = was.key;
               kind = was.kind;
               fields =
                   zip_set IsFieldKept x.fields (map (moved_field move) e.fields) j (moved_field move f) changed was.fields
-                  (get_of_map (moved_field move) e.fields j f there)
+                  (get_mapped (moved_field move) e.fields j f there)
                   (λ h named.
                   record {
                     name = named.name;

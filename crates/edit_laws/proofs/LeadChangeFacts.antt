@@ -6,7 +6,7 @@ use Rattle.std.specs.Option.{option_or, unwrap_or}
 use Rattle.std.proofs.lemmas.Bool.{cases_lt, eq-eqb, ne_eqb}
 use Rattle.bib_text.proofs.ListFacts.{all_append, some_same}
 use Rattle.bib_syntax.specs.Reading.{EntryReading, FieldReading, Part, Piece}
-use Rattle.bib_syntax.specs.Reading.Piece.{abbreviation, literal}
+use Rattle.bib_syntax.specs.Reading.Piece.{literal}
 use Rattle.edit_entries.specs.Documents.{Document, IsDocument, text_at, value_edit, with_value}
 use Rattle.edit_entries.specs.Edits.{Edit, moved_entry, moved_field, moved_part, moved_piece, moved_place}
 use Rattle.edit_entries.specs.References.{Change, Changed, KeysRenamed, key_change, key_renaming, new_reference, reference_changes, renamed_value, renaming, value_change}
@@ -15,6 +15,7 @@ use Rattle.edit_entries.proofs.ChangeListFacts.{key_all}
 use Rattle.edit_entries.proofs.EditFacts.{moved_after, moved_before}
 use Rattle.edit_entries.proofs.RenamedFacts.{key_some}
 use Rattle.edit_entries.proofs.RenamingFacts.{apart_known}
+use Rattle.edit_entries.proofs.PlacelessFacts.{pieces_placeless}
 use Rattle.edit_laws.proofs.LeadListFacts.{zip_back, zip_change, zip_get, zip_into, zip_self, zip_weaker}
 use Rattle.edit_laws.proofs.LeadOrderFacts.{fields_apart, keys_apart, value_filled, values_apart}
 
@@ -263,13 +264,6 @@ tracked_moved edit less at old new first ordered last t = record {
 abbrev pub IsNewValue : Option (List ℕ) → List Piece → List Piece → Type 0
 IsNewValue None ps qs = map (moved_piece (λ at. 0)) qs ≡ map (moved_piece (λ at. 0)) ps
 IsNewValue (Some new) ps qs = (q : Part) × (qs ≡ literal q ∷ []) × (q.text ≡ new)
-
--- moved pieces are the old ones, except for positions
-pub pieces_placeless : (move : ℕ → ℕ) (ps : List Piece)
-    → map (moved_piece (λ n. 0)) (map (moved_piece move) ps) ≡ map (moved_piece (λ n. 0)) ps
-pieces_placeless move [] = refl
-pieces_placeless move (literal p ∷ ps) = ap (λ xs. moved_piece (λ n. 0) (literal p) ∷ xs) (pieces_placeless move ps)
-pieces_placeless move (abbreviation p ∷ ps) = ap (λ xs. moved_piece (λ n. 0) (abbreviation p) ∷ xs) (pieces_placeless move ps)
 
 -- moved pieces are the new value if the old ones were
 value_moved : (move : ℕ → ℕ) (o : Option (List ℕ)) (ps qs : List Piece) → IsNewValue o ps qs → IsNewValue o ps (map (moved_piece move) qs)

@@ -9,7 +9,7 @@ use Rattle.std.proofs.lemmas.Bool.{and_parts, both_ways, eqb-true}
 use Rattle.std.proofs.lemmas.Slice.Eq.{bytes_eq-Decides}
 use Rattle.bib_text.specs.Places.{Place, Run}
 use Rattle.bib_text.specs.Places.Run.{stop, step}
-use Rattle.bib_text.proofs.ListFacts.{some_same}
+use Rattle.bib_text.proofs.ListFacts.{some_same, all_weaker}
 use Rattle.bib_syntax.specs.Characters.{is_key}
 use Rattle.bib_syntax.specs.Grammar.{is_word}
 use Rattle.bib_syntax.specs.Reading.{EntryReading, FieldReading, Part, Piece}
@@ -21,7 +21,6 @@ use Rattle.edit_entries.specs.Documents.{Document, HasEntry, IsDocument, is_keye
 use Rattle.edit_entries.specs.Edits.{moved_piece}
 use Rattle.edit_entries.specs.NewNames.{CanBeNewKey, is_new_key, is_unsafe_in_key}
 use Rattle.edit_entries.specs.References.{CanGetKeys, KeyRenamed, KeysRenamed, between_white, elements_of, is_renamed, meant_index, new_reference, only, renamed_element, renamed_list, renamed_text, renamed_where_listed}
-use Rattle.edit_entries.proofs.AllFacts.{all_weaker}
 use Rattle.edit_entries.proofs.StandsFacts.{Stands, joined, stands_char}
 use Rattle.edit_laws.proofs.LeadChangeFacts.{HasNewNames, IsNewValue, entries_renamed}
 use Rattle.edit_laws.proofs.LeadListFacts.{first_facts, zip_own, zip_self, zip_weaker, zip_where}

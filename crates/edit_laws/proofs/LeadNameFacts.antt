@@ -1,10 +1,10 @@
 -- The entries that names mean, before and after entries get new keys.
-use Rattle.std.proofs.Common.{◌≡◌, inl, inr, ℕ, zero, suc, ◌+◌, ◌<◌, Bool, true, false, cond, ◌||◌, List, [], ◌∷◌, ◌++◌, map, take, codes, Option, Some, None, refl, sym, ap, ap₂, ◌∙◌, subst, arith}
+use Rattle.std.proofs.Common.{◌≡◌, inl, inr, ℕ, zero, suc, ◌+◌, ◌<◌, Bool, true, false, cond, List, [], ◌∷◌, ◌++◌, map, take, codes, Option, Some, None, refl, sym, ap, ap₂, ◌∙◌, subst, arith, ◌||◌}
 use Rattle.std.specs.Prelude.{bytes_eq, is_some, option_to_list, slice_get, slice_index_or}
 use Rattle.std.specs.List.{AllZip, list_any}
 use Rattle.std.specs.Option.{unwrap_or}
 use Rattle.std.specs.Str.{str_to_ascii_lowercase}
-use Rattle.std.proofs.lemmas.Bool.{both_ways, cases_lt}
+use Rattle.std.proofs.lemmas.Bool.{both_ways, cases_lt, or_right, or_left}
 use Rattle.std.proofs.lemmas.List.Folds.{list_any-append}
 use Rattle.std.proofs.lemmas.Slice.Eq.{bytes_eq-Decides}
 use Rattle.bib_text.proofs.ListFacts.{some_same}
@@ -12,7 +12,7 @@ use Rattle.bib_syntax.specs.Grammar.{is_word}
 use Rattle.bib_syntax.specs.Reading.{EntryReading}
 use Rattle.bib_queries.specs.Names.{aliases_of}
 use Rattle.edit_entries.specs.Documents.{first_position, is_keyed}
-use Rattle.edit_entries.specs.NewNames.{IsNewKeyTaken, has_word, kept_names, new_keys, staying_names}
+use Rattle.edit_entries.specs.NewNames.{IsNewKeyTaken, has_word, new_keys, staying_names, kept_names}
 use Rattle.edit_entries.specs.References.{first_found, has_alias, has_key_word, index_in_any_case, meant_index, unless_other}
 use Rattle.edit_laws.proofs.LeadListFacts.{IsFirst, first_facts, first_is, first_same, get_take, index_of_get, none_facts, none_is, zip_back, zip_get, zip_weaker}
 use Rattle.edit_laws.specs.Renamed.{AreEarlierRenamed}
@@ -38,16 +38,6 @@ words_differ a b other =
     fails_too (bytes_eq a b) (is_word a b) other (λ is. same_word a b (ap str_to_ascii_lowercase ((bytes_eq-Decides a b).0 is)))
 
 -- ---- names that are taken
-
--- the first of two alternatives holds
-or_left : (b c : Bool) → b ≡ true → (b || c) ≡ true
-or_left true c is = refl
-or_left false c is = absurd (cc)
-
--- the second of two alternatives holds
-or_right : (b c : Bool) → c ≡ true → (b || c) ≡ true
-or_right true c is = refl
-or_right false c is = is
 
 -- an element of the first list passes
 any_left : (p : List ℕ → Bool) (xs ys : List (List ℕ)) → list_any p xs ≡ true → list_any p (xs ++ ys) ≡ true

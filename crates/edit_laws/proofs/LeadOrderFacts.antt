@@ -17,7 +17,7 @@ use Rattle.edit_laws.proofs.LeadListFacts.{get_past}
 
 -- ---- in one entry
 
--- a value begins after a byte offset and ends before another
+-- the span of a field's value isn't empty, begins at or after the byte offset `start`, and ends at or before the byte offset `end`
 record IsBetween (start end : ℕ) (f : FieldReading) : Type 0 where
   begins : start ≤ f.value.start
   some : f.value.start < f.value.end

@@ -158,7 +158,7 @@ leading (c ∷ cs) = let rest = leading cs in by_case (is_whitespace c) refl res
     by_case true white ws cut all = (c ∷ ws, ap (λ l. c ∷ l) cut, (white, all))
     by_case false dark ws cut all = ([], refl, tt)
 
--- the white space at their end
+-- the white space at the end of characters
 trailing : (cs : List ℕ) → (ws : List ℕ) × (cs ≡ drop_trailing_whitespace cs ++ ws) × AreWhite ws
 trailing [] = ([], refl, tt)
 trailing (c ∷ cs) = let rest = trailing cs in by_case (is_whitespace c) (drop_trailing_whitespace cs) rest.0 refl rest.1 rest.2

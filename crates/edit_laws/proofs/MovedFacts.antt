@@ -3,7 +3,7 @@ use Rattle.std.proofs.Common.{◌≡◌, ◌⊎◌, ℕ, zero, suc, ◌<◌, ◌
 use Rattle.std.specs.Prelude.{slice_get, ◌&&◌, ◌||◌, MatchOption}
 use Rattle.std.specs.FinMap as by_name
 use Rattle.std.specs.List.{Contains, cons_option, list_any}
-use Rattle.std.proofs.lemmas.Bool.{both_ways}
+use Rattle.std.proofs.lemmas.Bool.{both_ways, cases_lt}
 use Rattle.std.proofs.lemmas.List.{get_or-map, length-map}
 use Rattle.std.proofs.lemmas.Option.{slice_get-get_or, slice_get_within}
 use Rattle.bib_collections.proofs.Walks.{below_from_edge, one_solution}
@@ -24,7 +24,7 @@ use Rattle.biblatex.specs.Places.{ClaimsAt, IsLastClaim}
 use Rattle.biblatex.specs.Resolved.{graph_of, names_of}
 use Rattle.edit_laws.proofs.DifferFacts.{past, same_zip}
 use Rattle.edit_laws.proofs.LiftFacts.{at_texts}
-use Rattle.edit_laws.proofs.SolutionFacts.{order, Contains-first, Contains-later, related}
+use Rattle.edit_laws.proofs.SolutionFacts.{Contains-first, Contains-later, related}
 use Rattle.edit_laws.proofs.TextFacts.{claims_are, claims_by, graph_texts}
 
 -- each index of the new file has the key and the texts of an old index
@@ -44,7 +44,8 @@ points own name =
     (λ b. MatchOption (index_of b name) ((index : ℕ) → ClaimsAt b.entries index name → ⊥) (IsLastClaim b.entries name))
     (all_after own refl) (points_loaded own name)
 
-key_at : (xs : List Entry) (k : ℕ) (x : Entry) → slice_get xs k ≡ Some x → get_or (map (λ (e : Entry). e.key) xs) k [] ≡ x.key
+-- the key of the entry at an index
+pub key_at : (xs : List Entry) (k : ℕ) (x : Entry) → slice_get xs k ≡ Some x → get_or (map (λ (e : Entry). e.key) xs) k [] ≡ x.key
 key_at [] k x here = cc
 key_at (e ∷ xs) zero x here = let same : e ≡ x = cc in ap (λ (y : Entry). y.key) same
 key_at (e ∷ xs) (suc k) x here = key_at xs k x here
@@ -180,7 +181,7 @@ module _ {own others : List Entry} {move : ℕ → ℕ} (are : AreMoved own othe
       ∙ ap (map move) (sym (references_at others i below))
 
   below_edge : (a b : ℕ) → Contains (refs_of (graph_of others) a) b → a < length others
-  below_edge a b edge = by_range (order a (length others))
+  below_edge a b edge = by_range (cases_lt a (length others))
     where
       nothing : (g : List (List ℕ)) (i : ℕ) → length g ≤ i → refs_of g i ≡ []
       nothing [] i above = refl
@@ -259,7 +260,7 @@ module _ {own others : List Entry} {move : ℕ → ℕ} (are : AreMoved own othe
       → (news : List EntryTexts) → Inherits (texts_of_entries others) (graph_of others) news → (index : ℕ)
       → looks_for_date (at_index (texts_of_entries others) index) ≡ true
       → list_any (is_bad_date news) (refs_of (graph_of others) index) ≡ true → ⊥
-  no_bad_date none dates news second index looks bad = by_range (order index (length others))
+  no_bad_date none dates news second index looks bad = by_range (cases_lt index (length others))
     where
       by_range : (index < length others) ⊎ (length others ≤ index) → ⊥
       by_range (inl below) =

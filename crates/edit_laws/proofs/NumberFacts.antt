@@ -1,12 +1,12 @@
 -- No abbreviation in a file has a number as its name.
-use Rattle.std.proofs.Common.{◌≡◌, ℕ, zero, suc, ◌<◌, ◌-◌, Bool, true, false, List, [], ◌∷◌, ◌++◌, take, drop, refl, sym, ap, ◌∙◌, subst, arith}
+use Rattle.std.proofs.Common.{◌≡◌, ℕ, zero, suc, ◌-◌, Bool, true, false, List, [], ◌∷◌, ◌++◌, take, drop, refl, sym, ap, ◌∙◌, subst}
 use Rattle.std.specs.Prelude.{◌&&◌, slice_get, Some, ⊤}
 use Rattle.std.specs.Char.{is_ascii_digit}
 use Rattle.std.specs.List.{AllByRecursion, list_all}
-use Rattle.std.proofs.lemmas.Bool.Decides.{nat_tests}
 use Rattle.std.proofs.lemmas.Str.{encode_ascii}
 use Rattle.bib_text.specs.Places.{Place, between}
 use Rattle.bib_text.proofs.PlaceFacts.{char_here}
+use Rattle.bib_text.proofs.DigitFacts.{digit_small}
 use Rattle.bib_syntax.specs.Grammar.{BlockKind, Body, Element, Elements, Fields, File, IsRawReading, NoDigit, longest}
 use Rattle.bib_syntax.specs.Reading.{EntryReading, FieldReading, FileReading, Part, Piece}
 use Rattle.bib_syntax.specs.Reading.Piece.{abbreviation, literal}
@@ -26,9 +26,6 @@ HasNoNumber f = AllByRecursion IsNoNumber f.value.pieces
 both_true : (a b : Bool) → (a && b) ≡ true → a ≡ true
 both_true true b is = refl
 both_true false b is = cc
-
-digit_small : (b : ℕ) → is_ascii_digit b ≡ true → b < 128
-digit_small b digit = grind (arith, nat_tests)
 
 take_head : (n : ℕ) (xs : List ℕ) (b : ℕ) (bs : List ℕ) → take n xs ≡ b ∷ bs → (rest : List ℕ) × (xs ≡ b ∷ rest)
 take_head zero xs b bs is = cc

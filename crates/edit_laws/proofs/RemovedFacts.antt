@@ -8,6 +8,7 @@ use Rattle.std.proofs.lemmas.List.{ext_get_or, length-map}
 use Rattle.std.proofs.lemmas.List.Edits.{get_or-remove_above, get_or-remove_below, length-remove}
 use Rattle.std.proofs.lemmas.List.Folds.{list_any-append}
 use Rattle.std.proofs.lemmas.Option.{slice_get-get_or, slice_get_within}
+use Rattle.std.proofs.lemmas.Bool.{or_parts}
 use Rattle.bib_abbreviations.specs.Abbreviations.{Definitions}
 use Rattle.bib_collections.specs.Graph.{refs_of}
 use Rattle.bib_collections.specs.Names.{index_after_removal}
@@ -18,7 +19,7 @@ use Rattle.bib_inheritance.specs.EntryTexts.{EntryTexts, no_entry}
 use Rattle.bib_inheritance.specs.Resolving.{is_bad_date, texts_of_entries, texts_of_entry}
 use Rattle.bib_syntax.specs.Reading.{EntryReading, FileReading}
 use Rattle.bib_syntax.specs.declared.raw.ParseError.{ParseError}
-use Rattle.bib_text.proofs.ListFacts.{found_any}
+use Rattle.bib_text.proofs.ListFacts.{found_any, remove_mapped}
 use Rattle.biblatex.proofs.ResolvedFacts.{graph_same, keys_same, names_same}
 use Rattle.biblatex.specs.Places.{ClaimsAt, IsLastClaim}
 use Rattle.biblatex.specs.Resolved.{AreOwn, IsAccepted, IsFirstErrorOf, IsLoaded, graph_of, names_of}
@@ -37,16 +38,6 @@ use Rattle.edit_laws.proofs.TextFacts as texts
 use Rattle.edit_laws.specs.WithoutEntry.{AreWithout, IsUnreferenced, IsBibliographyWithout}
 
 -- ---- lists
-
-remove_nothing : {A : Type 0} (k : ℕ) → remove {X = A} [] k ≡ []
-remove_nothing zero = refl
-remove_nothing (suc k) = refl
-
-map_remove : {A B : Type 0} (f : A → B) (xs : List A) (k : ℕ) → map f (remove xs k) ≡ remove (map f xs) k
-map_remove f [] zero = refl
-map_remove f [] (suc k) = refl
-map_remove f (x ∷ xs) zero = refl
-map_remove f (x ∷ xs) (suc k) = ap (λ l. f x ∷ l) (map_remove f xs k)
 
 AllZip-remove : {A B : Type 0} (R : A → B → Type 0) (xs : List A) (ys : List B) (k : ℕ) → AllZip R xs ys
     → AllZip R (remove xs k) (remove ys k)
@@ -134,9 +125,9 @@ removed_read {d} (EntryRemoved.removed {k = k} {at = at} {e = e} entry white) =
       here = entry.here;
       is = key_is entry;
       entries =
-          map_remove (moved_entry (λ at. 0)) d.says.entries k
+          remove_mapped (moved_entry (λ at. 0)) d.says.entries k
           ∙ sym
-          (map_remove (moved_entry (λ at. 0)) (map (moved_entry move) d.says.entries) k
+          (remove_mapped (moved_entry (λ at. 0)) (map (moved_entry move) d.says.entries) k
           ∙ ap (λ (s : FileReading). remove s.entries k) same);
       abbreviations = sym (ap (λ (s : FileReading). s.abbreviations) same);
     }
@@ -147,18 +138,14 @@ removed_read {d} (EntryRemoved.removed {k = k} {at = at} {e = e} entry white) =
 abbrev Sub : List (List ℕ) → List (List ℕ) → Type 0
 Sub fewer more = (name : List ℕ) → is_claimed more name ≡ false → is_claimed fewer name ≡ false
 
-neither : (a b : Bool) → (a || b) ≡ false → (a ≡ false) × (b ≡ false)
-neither true b is = cc
-neither false b is = (refl, is)
-
 sub_append : (fewer more rest : List (List ℕ)) → Sub fewer more → Sub (fewer ++ rest) (more ++ rest)
 sub_append fewer more rest sub name free =
-    let parts = neither (is_claimed more name) (is_claimed rest name) (sym (list_any-append (bytes_eq name) more rest) ∙ free) in
+    let parts = or_parts (is_claimed more name) (is_claimed rest name) (sym (list_any-append (bytes_eq name) more rest) ∙ free) in
     list_any-append (bytes_eq name) fewer rest ∙ ap (λ b. b || is_claimed rest name) (sub name parts.0) ∙ parts.1
 
 sub_before : (fewer rest : List (List ℕ)) → Sub fewer (fewer ++ rest)
 sub_before fewer rest name free =
-    (neither (is_claimed fewer name) (is_claimed rest name) (sym (list_any-append (bytes_eq name) fewer rest) ∙ free)).0
+    (or_parts (is_claimed fewer name) (is_claimed rest name) (sym (list_any-append (bytes_eq name) fewer rest) ∙ free)).0
 
 texts_sub : {definitions : Definitions} {more : List (List ℕ)} {said : List EntryReading} {ts : List EntryTexts}
     → AreTexts definitions more said ts → (fewer : List (List ℕ)) → Sub fewer more → AreTexts definitions fewer said ts
@@ -190,7 +177,7 @@ module _ (said tells : FileReading) {key : List ℕ} (r : IsRemovedRead said tel
 
   reading_keys : remove (map (λ (x : EntryReading). x.key.text) said.entries) r.k ≡ map (λ (x : EntryReading). x.key.text) tells.entries
   reading_keys =
-      sym (map_remove (λ (x : EntryReading). x.key.text) said.entries r.k)
+      sym (remove_mapped (λ (x : EntryReading). x.key.text) said.entries r.k)
       ∙ sym (bare_keys (remove said.entries r.k))
       ∙ ap (map (λ (x : EntryReading). x.key.text)) r.entries ∙ bare_keys tells.entries
 

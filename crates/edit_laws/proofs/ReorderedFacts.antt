@@ -7,6 +7,7 @@ use Rattle.std.specs.Str.{str_to_ascii_lowercase}
 use Rattle.std.proofs.lemmas.List.{reverse-append}
 use Rattle.std.proofs.lemmas.List.Folds.{find-append}
 use Rattle.std.proofs.lemmas.Slice.Eq.{bytes_eq-Decides}
+use Rattle.bib_text.proofs.OptionFacts.{or_none}
 use Rattle.bib_abbreviations.specs.Abbreviations.{Definitions}
 use Rattle.edit_entries.specs.Documents.{has_name}
 use Rattle.bib_file_entries.specs.Loaded.{AllCanBeRead, CanBeRead, field_in, name_of}
@@ -15,7 +16,7 @@ use Rattle.edit_format.specs.Formatted.{entry_in_order, is_copied}
 use Rattle.edit_format.specs.Ordered.{in_order, order_of}
 use Rattle.edit_format.specs.declared.style.Style.{Style}
 use Rattle.edit_format.proofs.OrderFacts.{in_order_all}
-use Rattle.edit_laws.proofs.FoundFacts.{find_failing, find_passing, or_nothing, reverse_filter}
+use Rattle.edit_laws.proofs.FoundFacts.{find_failing, find_passing, reverse_filter}
 
 -- each name has the same last field in both lists, and the fields of the second are readable if those of the first are
 pub record IsReordered (fs gs : List FieldReading) : Type 0 where
@@ -61,7 +62,7 @@ field_parted n name fs = by_name (bytes_eq name (str_to_ascii_lowercase n)) refl
         ap (λ t. option_or (find test (reverse (filter other fs))) (find test t)) (reverse_filter named fs)
         ∙ ap (λ o. option_or (find test (reverse (filter other fs))) o)
         (find_failing test named (λ f tests. named_alike n name f tests ∙ is) (reverse fs))
-        ∙ or_nothing (find test (reverse (filter other fs)))
+        ∙ or_none (find test (reverse (filter other fs)))
         ∙ ap (find test) (reverse_filter other fs)
         ∙ find_passing test other (λ f tests. ap not (named_alike n name f tests ∙ is)) (reverse fs)
 

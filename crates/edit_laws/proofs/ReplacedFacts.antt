@@ -4,6 +4,7 @@ use Rattle.std.specs.Prelude.{bytes_eq, slice_get, slice_set}
 use Rattle.std.specs.List.{AllZip}
 use Rattle.std.specs.Str.{chars, str_to_ascii_lowercase}
 use Rattle.std.proofs.lemmas.Slice.Eq.{bytes_eq-Decides}
+use Rattle.bib_text.proofs.ListFacts.{get_set}
 use Rattle.bib_abbreviations.specs.Abbreviations.{Definitions, Evaluates}
 use Rattle.bib_abbreviations.specs.Abbreviations.{Evaluates as evaluates}
 use Rattle.bib_chunks.specs.Styled.{Atom}
@@ -17,7 +18,6 @@ use Rattle.bib_syntax.specs.Reading.Piece.{literal}
 use Rattle.bib_tables.specs.EntryType.{entry_type_of}
 use Rattle.bib_tables.specs.VerbatimFields.{is_verbatim_field}
 use Rattle.biblatex.specs.Resolved.{AreOwn}
-use Rattle.edit_entries.proofs.AgreementFacts.{get_set_same}
 use Rattle.edit_entries.specs.Edits.{moved_entry, moved_field, placeless}
 use Rattle.edit_laws.proofs.AlikeFacts.{AreAlikeFields, DefineAlike, FoundAlike, alike_mean, define_back, definitions_alike, field_alike}
 use Rattle.edit_laws.proofs.FieldFacts.{IsText, found_passes}
@@ -166,7 +166,7 @@ module _ {said tells : FileReading} {k : ℕ} {e changed : EntryReading} (is : I
   replaced_at others second =
       let found =
       zip_back_at (AreAlikeEntries new_definitions old_definitions) tells.entries (slice_set said.entries k changed) k changed
-      entries_alike_back (get_set_same said.entries k e changed is.here) in
+      entries_alike_back (get_set said.entries k e changed is.here) in
       let entry = own_at k found.0 second found.1 in
       (found.0, entry.0, entry.1, entry.2, found.2)
 
@@ -194,7 +194,7 @@ module _ {said tells : FileReading} {k : ℕ} {e changed : EntryReading} (is : I
       (at.4.reordered.found name)
       (field_alike at.4.ordered changed.fields name at.4.fields)) none ((texts_of_entry_are at.1 at.3).fields name)
 
-  -- the own entries of the new reading differ from those of the old one in this field
+  -- the new reading's own entries are those of the old one, except that the field `name` of the entry at `k` has this text or is missing
   pub differ_at : (own others : List Entry) (name : List ℕ) (text : Option (List Atom)) → AreOwn said own → AreOwn tells others
       → ((other : List ℕ) → bytes_eq other name ≡ false → field_in changed.fields other ≡ field_in e.fields other)
       → HasText old_definitions (field_in changed.fields name) text → DifferInField own others k name text

@@ -4,8 +4,8 @@ use Rattle.std.specs.Prelude.{bytes_eq, slice_get, ◌&&◌, ◌||◌, MatchOpti
 use Rattle.std.specs.List.{AllByRecursion, list_all, list_any}
 use Rattle.std.specs.Char.{is_ascii_digit, to_ascii_lowercase}
 use Rattle.std.specs.Str.{chars, str_to_ascii_lowercase}
-use Rattle.std.proofs.lemmas.Bool.{both_ways}
-use Rattle.std.proofs.lemmas.Bool.Decides.{eqb_tells, nat_tests}
+use Rattle.std.proofs.lemmas.Bool.{both_ways, cases_lt}
+use Rattle.std.proofs.lemmas.Bool.Decides.{eqb_tells}
 use Rattle.std.proofs.lemmas.Option.{slice_get-get_or, slice_get_within}
 use Rattle.std.proofs.lemmas.Slice.Eq.{bytes_eq-Decides}
 use Rattle.bib_abbreviations.specs.Abbreviations.{Definitions, Evaluates, IsReadable, Reaches}
@@ -23,6 +23,7 @@ use Rattle.bib_tables.specs.VerbatimFields.{is_verbatim_field}
 use Rattle.bib_syntax.specs.declared.raw.ParseError.{ParseError}
 use Rattle.bib_syntax.specs.Grammar.{is_word}
 use Rattle.bib_text.proofs.ListFacts.{some_same}
+use Rattle.bib_text.proofs.DigitFacts.{lower_digit}
 use Rattle.biblatex.specs.Resolved.{AreOwn, IsAccepted, IsFirstErrorOf, IsLoaded, names_of}
 use Rattle.biblatex.specs.Places.{ClaimsAt, IsLastClaim}
 use Rattle.std.specs.FinMap as by_name
@@ -40,7 +41,6 @@ use Rattle.edit_laws.proofs.DifferFacts.{IsUnlinked}
 use Rattle.edit_laws.proofs.NumberFacts.{HasNoNumber, IsNoNumber, no_number}
 use Rattle.edit_laws.proofs.LiftFacts.{as_long, field_at, same_key}
 use Rattle.edit_laws.proofs.TextFacts.{HasText, own_at}
-use Rattle.edit_laws.proofs.SolutionFacts.{order}
 use Rattle.edit_laws.specs.OneField.{AreSet, HasFieldContents, lost_names, text_of_value}
 
 -- the entry with a key is replaced, and a field of it is set to a text
@@ -133,9 +133,6 @@ module _ {d after : Document} {key name text : List ℕ} {value : SetValue} (new
       }
 
 -- ---- a text in braces, or a number
-
-lower_digit : (b : ℕ) → is_ascii_digit (to_ascii_lowercase b) ≡ is_ascii_digit b
-lower_digit b = grind (arith, nat_tests)
 
 lower_digits : (bs : List ℕ) → list_all is_ascii_digit bs ≡ list_all is_ascii_digit (map to_ascii_lowercase bs)
 lower_digits [] = refl
@@ -277,7 +274,7 @@ module _ (says : FileReading) (own : List Entry) (are : AreOwn says own) where
 
   pub one_key : (i j : ℕ) (x y : Entry) → slice_get own i ≡ Some x → slice_get own j ≡ Some y → x.key ≡ y.key → i ≡ j
   one_key i j x y here there same =
-      elim (order i j) [
+      elim (cases_lt i j) [
         | inl less ↦ absurd (keys_apart i j x y here there same less)
         | inr rest ↦ elim (eqb_tells i j) [
           | inl t ↦ t.1

@@ -1,19 +1,9 @@
 -- The solutions of two equations over graphs whose indices correspond: related rules have related values.
-use Rattle.std.proofs.Common.{◌≡◌, ◌⊎◌, ℕ, zero, suc, ◌<◌, ◌≤◌, Bool, true, false, inl, inr, List, [], ◌∷◌, length, get_or, map, refl, sym, ap, ◌∙◌, subst, arith}
-use Rattle.std.specs.Prelude.{nat_lt}
+use Rattle.std.proofs.Common.{◌≡◌, ℕ, zero, suc, ◌<◌, List, [], ◌∷◌, length, get_or, map, refl, sym, ap, ◌∙◌, subst, arith}
 use Rattle.std.specs.List.{AllZip, Contains}
-use Rattle.std.proofs.lemmas.Bool.Decides.{nat_tests}
 use Rattle.std.proofs.lemmas.List.Elements.{Contains-append_right}
 use Rattle.bib_collections.specs.Graph.{Graph, HasNoCycle, IsInRange, Solves, refs_of}
 use Rattle.bib_collections.proofs.Walks.{HasWalk, below_from_edge, no_long_walk}
-
--- a number is less than another, or not
-pub order : (a b : ℕ) → (a < b) ⊎ (b ≤ a)
-order a b = by_test (nat_lt a b) refl
-  where
-    by_test : (c : Bool) → nat_lt a b ≡ c → (a < b) ⊎ (b ≤ a)
-    by_test true is = inl (grind (arith, nat_tests))
-    by_test false is = inr (grind (arith, nat_tests))
 
 pub Contains-first : {A : Type 0} (x : A) (xs : List A) → Contains (x ∷ xs) x
 Contains-first x xs = (0, omega arith, refl)

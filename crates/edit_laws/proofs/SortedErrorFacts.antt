@@ -16,6 +16,7 @@ use Rattle.bib_inheritance.specs.Resolving.{is_bad_date, texts_of_entries, texts
 use Rattle.bib_syntax.specs.Reading.{EntryReading, FileReading}
 use Rattle.bib_syntax.specs.declared.raw.ParseError.{ParseError}
 use Rattle.bib_text.proofs.ListFacts.{found_any}
+use Rattle.bib_text.proofs.BytesFacts.{bytes_itself}
 use Rattle.biblatex.specs.Places.{ClaimsAt}
 use Rattle.biblatex.specs.Resolved.{AreOwn, IsAccepted, IsFirstErrorOf, graph_of}
 use Rattle.edit_laws.proofs.AlikeFacts.{definitions_alike}
@@ -27,7 +28,6 @@ use Rattle.edit_laws.proofs.SortedFacts.{IsPermutedRead, names_permuted, no_raw,
 use Rattle.edit_laws.proofs.SwapFacts.{after_before, after_swaps, before_swaps, before_within, get_swaps, length_swaps}
 use Rattle.edit_laws.proofs.TextFacts.{AreTexts, AreTextsOf, claims_are, claims_by, each_texts, own_at, texts_are}
 use Rattle.edit_laws.proofs.AcceptedFacts.{texts_faultless}
-use Rattle.edit_laws.proofs.FieldFacts.{same_text}
 use Rattle.edit_laws.specs.SameEntries.{AreClaimsDistinct}
 
 zip_by : {A B : Type 0} (R : A → B → Type 0) (d : A) (e : B) (xs : List A) (ys : List B) → length xs ≡ length ys
@@ -183,7 +183,7 @@ module _ (said tells : FileReading) (r : IsPermutedRead said tells) (own : List 
           (claims_there (before_swaps swaps j) (get_or raw (before_swaps swaps j) no_raw).key.text (inside j below)
           (ap (λ b. b || list_any (bytes_eq (get_or raw (before_swaps swaps j) no_raw).key.text)
           (option_map_or comma_texts ((get_or all_texts (before_swaps swaps j) no_entry).fields (codes "ids")) []))
-          (same_text (get_or raw (before_swaps swaps j) no_raw).key.text))) in
+          (bytes_itself (get_or raw (before_swaps swaps j) no_raw).key.text))) in
           let equal : i ≡ j = sym (after_before swaps i) ∙ ap (after_swaps swaps) same ∙ after_before swaps j in
           absurd (omega (arith, less, equal))
 

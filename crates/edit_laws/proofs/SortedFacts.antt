@@ -7,6 +7,7 @@ use Rattle.std.specs.List.Sorted.{IsPermutation, SwapsInRange, apply_swaps}
 use Rattle.std.proofs.lemmas.List.{ext_get_or, length-map}
 use Rattle.std.proofs.lemmas.List.Sorted.{IsPermutation-map}
 use Rattle.std.proofs.lemmas.Option.{slice_get-get_or, slice_get_within}
+use Rattle.std.proofs.lemmas.Bool.{cases_lt}
 use Rattle.bib_collections.proofs.Walks.{below_from_edge}
 use Rattle.bib_collections.specs.Graph.{refs_of}
 use Rattle.bib_entry.specs.declared.entry.Entry.{Entry}
@@ -17,7 +18,7 @@ use Rattle.bib_inheritance.specs.EntryTexts.{fields_of, no_entry}
 use Rattle.bib_inheritance.specs.References.{references}
 use Rattle.bib_inheritance.specs.Resolving.{at_index, texts_of_entries, texts_of_entry}
 use Rattle.bib_syntax.specs.Reading.{EntryReading, FileReading}
-use Rattle.bib_text.proofs.ListFacts.{some_same}
+use Rattle.bib_text.proofs.ListFacts.{some_same, element_at}
 use Rattle.biblatex.proofs.ResolvedFacts.{all_texts_same, keys_same, names_below, names_same}
 use Rattle.biblatex.specs.Places.{ClaimsAt, IsLastClaim}
 use Rattle.biblatex.specs.Resolved.{AreOwn, IsLoaded, graph_of, names_of}
@@ -25,12 +26,11 @@ use Rattle.edit_entries.specs.Documents.{Document}
 use Rattle.edit_entries.specs.Edits.{moved_entry, moved_field}
 use Rattle.edit_laws.proofs.AlikeFacts.{DefineAlike, definitions_alike}
 use Rattle.edit_laws.proofs.LiftFacts.{as_long, at_texts, inherits_by}
-use Rattle.edit_laws.proofs.MovedFacts.{AreMoved, claim_there, names_moved, same_moved}
+use Rattle.edit_laws.proofs.MovedFacts.{AreMoved, claim_there, names_moved, same_moved, key_at}
 use Rattle.edit_laws.proofs.ReadAlikeFacts.{AreAlikeEntries, abbreviations_alike}
 use Rattle.edit_laws.proofs.ReplacedFacts.{bare_entries_alike}
 use Rattle.edit_laws.proofs.SwapFacts.{after_swaps, after_within, before_after, before_swaps, before_within, get_swaps, length_swaps}
 use Rattle.edit_laws.proofs.TextFacts.{claims_are, claims_by, keys_are, own_at, texts_of_entry_are, texts_same, zip_at}
-use Rattle.edit_laws.proofs.SolutionFacts.{order}
 use Rattle.edit_laws.specs.SameEntries.{AreClaimsDistinct, HaveSameEntries, described}
 use Rattle.edit_sort.proofs.StepFacts.{items_are}
 use Rattle.edit_sort.specs.Sorted.{IsReadSorted, Item, items}
@@ -63,20 +63,10 @@ sorted_read d places new s = record {
   abbreviations = sym (ap (λ (r : FileReading). r.abbreviations) s.alike);
 }
 
-key_at : (xs : List Entry) (k : ℕ) (x : Entry) → slice_get xs k ≡ Some x → get_or (map (λ (e : Entry). e.key) xs) k [] ≡ x.key
-key_at [] k x here = cc
-key_at (e ∷ xs) zero x here = let same : e ≡ x = cc in ap (λ (y : Entry). y.key) same
-key_at (e ∷ xs) (suc k) x here = key_at xs k x here
-
 described_at : (xs : List Entry) (i : ℕ) (x : Entry) → slice_get xs i ≡ Some x → get_or (map described xs) i ([], no_entry) ≡ described x
 described_at [] i x here = cc
 described_at (e ∷ xs) zero x here = let same : e ≡ x = cc in ap described same
 described_at (e ∷ xs) (suc i) x here = described_at xs i x here
-
-found : (xs : List Entry) (i : ℕ) → i < length xs → (x : Entry) × (slice_get xs i ≡ Some x)
-found [] i below = absurd (omega (arith, below))
-found (e ∷ xs) zero below = (e, refl)
-found (e ∷ xs) (suc i) below = found xs i (omega (arith, below))
 
 -- lists with the same keys and texts at corresponding indices are permuted
 permuted_lists : (moves : List (ℕ × ℕ)) (xs ys : List Entry) → SwapsInRange (length xs) moves → length ys ≡ length xs
@@ -94,8 +84,8 @@ permuted_lists moves xs ys below long same =
           (λ i less.
           let inside : i < length ys = subst (λ n. i < n) (length-map ys described) less in
           let x =
-          found xs (before_swaps moves i) (before_within moves i (length xs) below (subst (λ n. i < n) long inside)) in
-          let y = found ys i inside in
+          element_at xs (before_swaps moves i) (before_within moves i (length xs) below (subst (λ n. i < n) long inside)) in
+          let y = element_at ys i inside in
           described_at ys i y.0 y.1 ∙ sym (same i x.0 y.0 x.1 y.1) ∙ sym (described_at xs (before_swaps moves i) x.0 x.1)
           ∙ sym (get_swaps (map described xs) moves i ([], no_entry) in_range));
     }
@@ -215,7 +205,7 @@ module _ (said tells : FileReading) (r : IsPermutedRead said tells) (own others 
     names_permuted = names_moved permuted_moved (length own) back last_claim
 
     pub unreferenced : (at : ℕ) → Contains (refs_of (graph_of own) at) (length own) → ⊥
-    unreferenced at edge = by_range (order at (length (graph_of own)))
+    unreferenced at edge = by_range (cases_lt at (length (graph_of own)))
       where
         rows : length (graph_of own) ≡ length own
         rows = length-map own (λ (e : Entry). references (names_of own) (fields_of e.fields))
@@ -309,8 +299,8 @@ module _ {says tells : FileReading} {one other : Bibliography} (first : IsLoaded
           let inside : i < length other.entries =
           subst (λ n. i < n) (sym (as_long second))
           (names_below news name i (ap (λ names. by_name.get names name) (sym second.names) ∙ is)) in
-          let x = found one.entries (old_index i) (old_within i inside) in
-          let y = found other.entries i inside in
+          let x = element_at one.entries (old_index i) (old_within i inside) in
+          let y = element_at other.entries i inside in
           ap (λ p. option_map described (option_and_then (λ index. slice_get one.entries index) p)) (old_name name ∙ ap
           (option_map old_index) is)
           ∙ ap (option_map described) x.1 ∙ ap Some (described_same i x.0 y.0 x.1 y.1) ∙ sym (ap (option_map described) y.1)
@@ -334,7 +324,7 @@ distinct_same says {own} {one} first second distinct name i j at also =
           length-map one (λ (e : Entry). e.key),
           ap length (keys_same says first second),
         ) in
-        let x = found own k within in
+        let x = element_at own k within in
         record {
           entry = x.0;
           there = x.1;

@@ -1,5 +1,5 @@
 -- The texts of the entries of a file, by its raw entries: they depend on neither spans nor the borders of chunks.
-use Rattle.std.proofs.Common.{◌≡◌, ℕ, zero, suc, ◌+◌, List, [], ◌∷◌, ◌++◌, false, drop, length, length-append, map, get_or, refl, sym, ap, ◌∙◌, subst, Some, None, Option, option_map, MatchOption}
+use Rattle.std.proofs.Common.{◌≡◌, ℕ, zero, suc, ◌+◌, List, [], ◌∷◌, ◌++◌, false, map, refl, sym, ap, ◌∙◌, subst, Some, None, Option, option_map, MatchOption}
 use Rattle.std.specs.Prelude.{codes, slice_get, slice_set}
 use Rattle.std.specs.FinMap as by_name
 use Rattle.std.specs.List.{AllZip}
@@ -9,11 +9,10 @@ use Rattle.bib_abbreviations.proofs.LawFacts.{evaluates_same}
 use Rattle.bib_chunks.specs.Lists.{comma_texts}
 use Rattle.bib_chunks.specs.Styled.{Atom, styled}
 use Rattle.bib_chunks.specs.declared.chunk.Chunk.{Chunk}
-use Rattle.bib_collections.specs.Names.{with_claims, claims_for}
 use Rattle.bib_collections.specs.Sorted.{ByText}
 use Rattle.bib_entry.specs.declared.entry.Entry.{Entry}
-use Rattle.bib_file_entries.specs.Bibliography.{Bibliography, claims, empty_bibliography, with_last_entry}
-use Rattle.bib_file_entries.specs.Loaded.{AllCanBeRead, AreEntries, FieldSays, IsEntry, field_in, is_claimed, loaded_after, name_of}
+use Rattle.bib_file_entries.specs.Bibliography.{claims, empty_bibliography}
+use Rattle.bib_file_entries.specs.Loaded.{AllCanBeRead, AreEntries, FieldSays, IsEntry, field_in, is_claimed, name_of}
 use Rattle.bib_inheritance.specs.EntryTexts.{EntryTexts, fields_of}
 use Rattle.bib_inheritance.specs.References.{references}
 use Rattle.bib_inheritance.specs.Resolving.{graph_by, texts_of_entries, texts_of_entry}
@@ -22,7 +21,7 @@ use Rattle.bib_tables.specs.EntryType.{entry_type_of}
 use Rattle.bib_tables.specs.VerbatimFields.{is_verbatim_field}
 use Rattle.bib_text.specs.declared.spanned.Spanned.{Spanned}
 use Rattle.biblatex.specs.Resolved.{names_of}
-use Rattle.biblatex.proofs.ResolvedFacts.{entry_texts_same}
+use Rattle.biblatex.proofs.ResolvedFacts.{entry_texts_same, names_go}
 use Rattle.edit_laws.proofs.AlikeFacts.{AreAlikeFields, FoundAlike, field_alike}
 use Rattle.edit_laws.proofs.ReadAlikeFacts.{AreAlikeEntries}
 
@@ -168,20 +167,6 @@ all_claims_are (e ∷ own) =
     ap (λ x. x ∷ map claims own) (claims_are e)
     ∙ ap (λ xs. claims_by e.key (texts_of_entry e) ∷ xs) (all_claims_are own)
 
-names_go : (l m : Bibliography) (a b : List Entry) → length l.entries ≡ length m.entries → l.names ≡ m.names
-    → map claims a ≡ map claims b → (loaded_after l a).names ≡ (loaded_after m b).names
-names_go l m [] [] count same are = same
-names_go l m [] (y ∷ b) count same are = cc
-names_go l m (x ∷ a) [] count same are = cc
-names_go l m (x ∷ a) (y ∷ b) count same are =
-    let head : claims x ≡ claims y = ap (λ cs. get_or cs 0 []) are in
-    names_go (with_last_entry l x) (with_last_entry m y) a b
-    (length-append l.entries (x ∷ []) ∙ ap (λ k. k + 1) count ∙ sym (length-append m.entries (y ∷ [])))
-    (ap (λ names. with_claims names (claims_for (claims x) (length l.entries))) same
-    ∙ ap (λ cs. with_claims m.names (claims_for cs (length l.entries))) head
-    ∙ ap (λ k. with_claims m.names (claims_for (claims y) k)) count)
-    (ap (drop 1) are)
-
 -- entries that claim the same names in order have the same names
 pub names_by_claims : (own others : List Entry) → map claims own ≡ map claims others → names_of own ≡ names_of others
 names_by_claims own others are = names_go empty_bibliography empty_bibliography own others refl refl are
@@ -195,11 +180,6 @@ graph_texts names [] = refl
 graph_texts names (e ∷ own) = ap (λ rows. references names (fields_of e.fields) ∷ rows) (graph_texts names own)
 
 -- ---- a list with another element
-
-pub map_set : {A B : Type 0} (f : A → B) (xs : List A) (k : ℕ) (y : A) → map f (slice_set xs k y) ≡ slice_set (map f xs) k (f y)
-map_set f [] k y = refl
-map_set f (x ∷ xs) zero y = refl
-map_set f (x ∷ xs) (suc k) y = ap (λ l. f x ∷ l) (map_set f xs k y)
 
 -- a function has the same values on a list and on the list with another element if it has the same value on both elements
 pub map_set_same : {A B : Type 0} (f : A → B) (xs : List A) (k : ℕ) (x y : A) → slice_get xs k ≡ Some x → f y ≡ f x

@@ -4,14 +4,14 @@ use Rattle.std.specs.Prelude.{◌||◌, bytes_eq, find}
 use Rattle.std.specs.List.{AllByRecursion, flat_map}
 use Rattle.std.proofs.lemmas.List.{reverse-append}
 use Rattle.std.proofs.lemmas.List.Folds.{list_any-append}
+use Rattle.std.proofs.lemmas.Bool.{or_right}
 use Rattle.bib_abbreviations.specs.Abbreviations.{HoldsName}
 use Rattle.bib_file_entries.specs.Loaded.{definition_in}
 use Rattle.bib_syntax.specs.Grammar.{is_word}
 use Rattle.bib_syntax.specs.Reading.{EntryReading, FieldReading, FileReading, Piece}
 use Rattle.bib_syntax.specs.Reading.Piece.{abbreviation, literal}
-use Rattle.bib_text.proofs.ListFacts.{all_append, some_same}
-use Rattle.edit_laws.proofs.DefinedFacts.{own_word, right_true}
-use Rattle.edit_strings.proofs.CutFacts.{found_has}
+use Rattle.bib_text.proofs.ListFacts.{all_append, some_same, found_has}
+use Rattle.edit_laws.proofs.DefinedFacts.{own_word}
 use Rattle.edit_strings.specs.Collected.{definition_names, element_names, is_one_in_any_case, names_of_file, used_names}
 use Rattle.edit_strings.specs.Expanded.{elements}
 
@@ -24,13 +24,13 @@ module _ (says : FileReading) where
   held_listed (literal p ∷ ps) name held = held_listed ps name held
   held_listed (abbreviation p ∷ ps) name (inl is) =
       ap (λ b. b || is_one_in_any_case (element_names ps) name) (subst (λ n. is_word p.text n ≡ true) is (own_word p.text))
-  held_listed (abbreviation p ∷ ps) name (inr held) = right_true (is_word p.text name) _ (held_listed ps name held)
+  held_listed (abbreviation p ∷ ps) name (inr held) = or_right (is_word p.text name) _ (held_listed ps name held)
 
   left_listed : (xs ys : List (List ℕ)) (name : List ℕ) → is_one_in_any_case xs name ≡ true → is_one_in_any_case (xs ++ ys) name ≡ true
   left_listed xs ys name is = list_any-append (λ o. is_word o name) xs ys ∙ ap (λ b. b || is_one_in_any_case ys name) is
 
   pub right_listed : (xs ys : List (List ℕ)) (name : List ℕ) → is_one_in_any_case ys name ≡ true → is_one_in_any_case (xs ++ ys) name ≡ true
-  right_listed xs ys name is = list_any-append (λ o. is_word o name) xs ys ∙ right_true (is_one_in_any_case xs name) _ is
+  right_listed xs ys name is = list_any-append (λ o. is_word o name) xs ys ∙ or_right (is_one_in_any_case xs name) _ is
 
   uses_in : (fs : List FieldReading) → ((name : List ℕ) → is_one_in_any_case (used_names fs) name ≡ true → InFile name)
       → AllByRecursion (λ f. (name : List ℕ) → HoldsName (elements f) name → InFile name) fs
@@ -56,7 +56,7 @@ module _ (says : FileReading) where
     λ name held.
         inside name
         (left_listed (f.name.text ∷ element_names (elements f)) (definition_names fs) name
-        (right_true (is_word f.name.text name) _ (held_listed (elements f) name held))),
+        (or_right (is_word f.name.text name) _ (held_listed (elements f) name held))),
     definitions_in fs
         (λ name listed. inside name (right_listed (f.name.text ∷ element_names (elements f)) (definition_names fs) name listed)),
   )

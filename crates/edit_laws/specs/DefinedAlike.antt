@@ -8,8 +8,8 @@ use Rattle.bib_syntax.specs.Reading.{FieldReading, FileReading, Piece}
 use Rattle.bib_syntax.specs.Reading.Piece.{abbreviation, literal}
 use Rattle.edit_strings.specs.Expanded.{count_before, elements, elements_at, index_before}
 
--- a name whose place is after the first `count` definitions has the same definition by two rules: the last one before its place with
--- this name in any ASCII case, and the last one in the file with exactly this name, which the library takes
+-- a name whose place is after the first `count` definitions has the same definition by two rules. One takes the last definition before its
+-- place with this name in any ASCII case. The other, that of the library, takes the last one in the file with exactly this name.
 abbrev pub HasSameDefinition : List FieldReading → ℕ → Piece → Type 0
 HasSameDefinition definitions count (literal p) = ⊤
 HasSameDefinition definitions count (abbreviation p) =

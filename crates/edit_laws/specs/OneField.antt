@@ -77,12 +77,13 @@ pub record HasFieldContents (bibliography : Bibliography) (key name text : List 
   pub has : by_name.get entry.fields name ≡ Some chunks
   pub contents : IsContent (is_verbatim_field name) (chars text) (styled chunks)
 
--- the fields that decide more than their own contents: they name the entry, refer to other entries, or are parts of a date
+-- the fields that decide more than their own contents: the other names of the entry, the names of entries from which it inherits, and a
+-- date or its year, month and day
 abbrev pub linked_names : Names
 linked_names = fields "ids crossref xdata date year month day"
 
--- two bibliographies have the same keys, entry types and names. They have the same fields in each entry, except for one field of the entry
--- with a key, and in the entries that lead to this one by the references of `own`, the entries before inheriting: these may inherit it.
+-- two bibliographies have the same keys, entry types and names. They have the same fields in each entry, with two exceptions. One field of
+-- the entry with a key may differ, and so may entries that lead to this one by the references of `own`, the entries before inheriting.
 pub record AreAlikeExcept (own : List Entry) (one other : Bibliography) (key name : List ℕ) : Type 0 where
   pub index : ℕ
   pub entry : Entry

@@ -1,5 +1,5 @@
 -- Meaning: words of public contracts.
--- Entries with new keys: what stays as it was before they inherit, and where their references lead.
+-- Entries with new keys: their unchanged parts before they inherit, and the entries that their references name.
 use Rattle.std.specs.Prelude.{◌≡◌, ◌⊎◌, ℕ, ◌<◌, true, false, is_some, List, [], ◌∷◌, Option, Some, slice_get}
 use Rattle.std.specs.List.{AllZip}
 use Rattle.std.specs.Option.{unwrap_or}

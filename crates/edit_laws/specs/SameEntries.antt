@@ -1,5 +1,5 @@
 -- Meaning: words of public contracts.
--- Bibliographies with the same entries in another order.
+-- Bibliographies with the same entries in any order.
 use Rattle.std.specs.Prelude.{◌≡◌, ℕ, List, map, option_map}
 use Rattle.std.specs.List.Sorted.{IsPermutation}
 use Rattle.bib_entry.specs.declared.entry.Entry.{Entry}

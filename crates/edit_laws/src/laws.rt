@@ -39,9 +39,8 @@ pub fn formatted_is_alike()
 {}
 
 /// States that, if a text is accepted, its text with expanded abbreviations is too, and gives the same bibliography, except for
-/// spans and the borders of chunks. The premise is that two rules give the same definition for each name of the text: that of the
-/// expansion, the last one before the use in any ASCII case, and that of the library, the last one in the file with exactly this
-/// name.
+/// spans and the borders of chunks. The premise is that two rules give the same definition for each name of the text. The expansion
+/// takes the last one before the use in any ASCII case. The library takes the last one in the file with exactly this name.
 pub fn expanded_is_alike()
     ensures accepted { (d : Document) (text : List ℕ) (e : ParseError) → IsDocument d → IsExpanded d text → AreDefinedAlike d.says →
         IsAcceptedText d.text
@@ -63,9 +62,9 @@ pub fn collected_is_alike()
 /// Each bibliography of the new text has one such entry. Its field has these contents after inheriting too, with three
 /// exceptions: `xdata` is removed, and an inherited date replaces `month` and `day`.
 ///
-/// Before inheriting, all other fields of the file are as they were. After inheriting, they are too, if the field isn't `ids`, a reference
-/// or a part of a date. Entries that can inherit from this one are excluded. The new text is then accepted if the old one is, and if the
-/// contents of the text can be parsed.
+/// Before inheriting, all other fields of the file are as they were. After inheriting, they are too, if the field isn't `ids`, `crossref`,
+/// `xdata`, `date`, `year`, `month` or `day`. Entries that can inherit from this one are excluded. The new text is then accepted if the old
+/// one is, and if the contents of the text can be parsed.
 pub fn set_is_read()
     ensures own { (d after : Document) (key name text : List ℕ) (value : SetValue) (own others : List Entry) → IsDocument d
         → text_of_value value ≡ Some text → FieldSet d key name value after → AreOwn d.says own → AreOwn after.says others
@@ -86,9 +85,9 @@ pub fn set_is_read()
 /// States that, after a field is unset, the entry with the key lacks this field before inheriting, and all other fields of the
 /// file are as they were.
 ///
-/// If the field isn't `ids`, a reference or a part of a date, the entry of a bibliography has the field exactly if it inherits the
-/// field. All other fields of the bibliography are then as they were, except in entries that can inherit from this one. The new text
-/// is then accepted if the old one is.
+/// If the field isn't `ids`, `crossref`, `xdata`, `date`, `year`, `month` or `day`, the entry of a bibliography has the field exactly if it
+/// inherits the field. All other fields of the bibliography are then as they were, except in entries that can inherit from this one. The
+/// new text is then accepted if the old one is.
 pub fn unset_is_read()
     ensures own { (d after : Document) (key name : List ℕ) (own others : List Entry) → FieldUnset d key name after → AreOwn d.says own
         → AreOwn after.says others → AreUnset own others key (str_to_ascii_lowercase name) }
@@ -117,7 +116,7 @@ pub fn removal_is_read()
         → EntryRemoved d key after → AreOwn d.says own → IsUnreferenced own key → IsAcceptedText d.text → IsErrorOf after.text e → ⊥ }
 {}
 
-/// States that, after the entries of a file are sorted, they are the same before inheriting, in another order. If no two entries
+/// States that, after the entries of a file are sorted, they are the same before inheriting, in some order. If no two entries
 /// of the file claim one name, the bibliography has the same entries, and each name points to the same entry. The new text is
 /// then accepted if the old one is.
 pub fn sorted_is_alike()

@@ -1,4 +1,4 @@
-//! Laws: what formatting, sorting, expanding, collecting, and edits of entries do to the bibliography of a file.
+//! Laws: the effects of formatting, sorting, expanding, collecting, and edits of entries on the bibliography of a file.
 //!
 //! The file grammar gives the same reading for a formatted text as for the old text, except for spans, the case of entry types
 //! and field names, and the order of fields (`edit_format`). A bibliography depends only on this reading, and on neither spans

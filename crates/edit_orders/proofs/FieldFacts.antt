@@ -1,7 +1,7 @@
 -- Facts about fields and lists.
-use Rattle.std.proofs.Common.{◌≡◌, ℕ, ◌+◌, ◌<◌, Bool, true, false, List, [], ◌∷◌, ◌++◌, Option, Some, cond, get_or, length, map, take, refl, sym, ap, subst, ◌∙◌}
-use Rattle.std.specs.Prelude.{◌||◌, bytes_eq, find, option_map, reverse}
-use Rattle.std.specs.List.{AllZip, list_any}
+use Rattle.std.proofs.Common.{◌≡◌, ℕ, ◌+◌, ◌<◌, true, false, List, [], ◌∷◌, ◌++◌, Option, Some, cond, get_or, length, map, take, refl, sym, ap, subst, ◌∙◌}
+use Rattle.std.specs.Prelude.{bytes_eq, find, option_map, reverse}
+use Rattle.std.specs.List.{AllZip}
 use Rattle.std.proofs.lemmas.Cmp.{nat_list_eq_equiv}
 use Rattle.std.proofs.lemmas.List.{map_push, reverse-append, take_more}
 use Rattle.bib_syntax.specs.Reading.{FieldReading, Piece}
@@ -12,13 +12,9 @@ use Rattle.bib_chunks.specs.Values.{Value}
 use Rattle.bib_syntax.specs.Views.{piece_of}
 use Rattle.bib_syntax.specs.declared.raw.RawChunk.{RawChunk}
 use Rattle.bib_text.specs.declared.spanned.Spanned.{Spanned}
+use Rattle.bib_text.proofs.OptionFacts.{mapped_cond}
 use Rattle.edit_orders.specs.Fields.{AreContentsOf, file_definition, plain_contents}
 use Rattle.edit_orders.specs.Fields.AreContentsOf.{plain}
-
--- a test of an element of a mapped list
-pub any_of_map : {A B : Type 0} (f : A → B) (test : B → Bool) (xs : List A) → list_any test (map f xs) ≡ list_any (λ x. test (f x)) xs
-any_of_map f test [] = refl
-any_of_map f test (x ∷ xs) = ap (λ b. test (f x) || b) (any_of_map f test xs)
 
 -- a definition at the end of the list is the last one of its name
 definition-push : (fields : List FieldReading) (f : FieldReading) (name : List ℕ)
@@ -30,11 +26,6 @@ definition-push fields f name =
     option_map (λ (g : FieldReading). g.value.pieces) (cond b (Some f) (find (λ g. bytes_eq name g.name.text) (reverse fields)))
     ≡ cond b (Some f.value.pieces) (file_definition fields name)) [ true ↦ refl | false ↦ refl ]
 
-chosen : {A B : Type 0} (f : A → B) (b : Bool) (a : A) (o : Option A)
-    → option_map f (cond b (Some a) o) ≡ cond b (Some (f a)) (option_map f o)
-chosen f true a o = refl
-chosen f false a o = refl
-
 -- inserting the next definition into the map of the last definitions so far gives the last definitions with it
 pub defined_more : {F : Type 0} (f : F → List Piece) (pairs : List Pair) (i : ℕ) (p : Pair) (field : F) (name : List ℕ)
     (before after : Option F)
@@ -44,7 +35,7 @@ pub defined_more : {F : Type 0} (f : F → List Piece) (pairs : List Pair) (i : 
     → option_map f after ≡ file_definition (map field_of (take (i + 1) pairs)) name
 defined_more f pairs i p field name before after within here same so_far updated =
     ap (option_map f) updated
-    ∙ chosen f (bytes_eq p.key.v.now name) field before
+    ∙ mapped_cond f (bytes_eq p.key.v.now name) field before
     ∙ ap (λ b. cond b (Some (f field)) (option_map f before)) (nat_list_eq_equiv.symm p.key.v.now name)
     ∙ ap (λ a. cond (bytes_eq name p.key.v.now) (Some a) (option_map f before)) same
     ∙ ap (cond (bytes_eq name p.key.v.now) (Some (field_of p).value.pieces)) so_far

@@ -1,5 +1,5 @@
 -- Facts about the places of entries among sorted entries: two places compare as the entries do.
-use Rattle.std.proofs.Common.{◌≡◌, inl, inr, ℕ, ◌+◌, ◌<◌, ◌≤◌, Bool, true, false, List, [], ◌∷◌, ◌++◌, Option, get_or, length, map, refl, sym, ap, ◌∙◌, subst, arith, Less, Equal, Greater, Ordering, IsPermutation, IsSorted, IsSortedBy, Contains, is_lt, nat_cmp}
+use Rattle.std.proofs.Common.{◌≡◌, inl, inr, ℕ, ◌+◌, ◌<◌, ◌≤◌, Bool, true, false, List, [], ◌∷◌, ◌++◌, Option, get_or, length, map, refl, sym, ap, ◌∙◌, subst, arith, Less, Equal, Greater, Ordering, IsPermutation, IsSorted, Contains, is_lt, nat_cmp}
 use Rattle.std.specs.List.Sorted.{IsPartitionPoint, IsPartitionedBy}
 use Rattle.std.specs.Cmp.{alike_right, nat_cmp_is}
 use Rattle.std.specs.Ordering.{ordering_reverse}
@@ -19,16 +19,6 @@ use Rattle.edit_orders.proofs.TotalFacts.{values_total}
 
 abbrev Values : Type 0
 Values = List (Option SortValue)
-
--- if a list is sorted by the values of a function, the list of these values is sorted
-pub sorted_map : {X Y : Type 0} (f : X → Y) (lt : Y → Y → Bool) (xs : List X) → IsSortedBy (λ a b. lt (f a) (f b)) xs
-    → IsSortedBy lt (map f xs)
-sorted_map f lt [] up k d from within = absurd (omega arith)
-sorted_map f lt (x ∷ xs) up k d from within =
-    let size : length (map f (x ∷ xs)) ≡ length (x ∷ xs) = length-map (x ∷ xs) f in
-    let later = get_or-map f (x ∷ xs) (k + 1) x d (omega arith) in
-    let first = get_or-map f (x ∷ xs) k x d (omega arith) in
-    ap (λ y. lt y (get_or (map f (x ∷ xs)) k d)) later ∙ ap (lt (f (get_or (x ∷ xs) (k + 1) x))) first ∙ up k x from (omega arith)
 
 -- if `P` holds for each place in `places` and for one more, it holds for each place of the extended list
 pub each_more : (P : ℕ → ℕ → Type 0) (places new : List ℕ) (n i : ℕ) → length places ≡ i → new ≡ places ++ n ∷ [] → P i n

@@ -1,47 +1,15 @@
 -- Facts about runs of digits.
-use Rattle.std.proofs.Common.{◌≡◌, ℕ, zero, suc, ◌+◌, ◌-◌, ◌<◌, ◌≤◌, Bool, true, false, cond, not, min, List, [], ◌∷◌, drop, get_or, length, take, ◌==◌, arith, refl, sym, ap, ap₂, ◌∙◌, subst, add-one, Some, None, inl, inr}
+use Rattle.std.proofs.Common.{◌≡◌, ℕ, zero, ◌+◌, ◌-◌, ◌<◌, ◌≤◌, Bool, true, false, cond, not, min, List, [], ◌∷◌, drop, get_or, length, take, ◌==◌, arith, refl, sym, ap, ap₂, ◌∙◌, subst, Some, None, inl, inr}
 use Rattle.std.specs.Prelude.{bytes_eq, codes}
 use Rattle.std.specs.List.{prefix_len}
-use Rattle.std.specs.Char.{is_ascii_digit, digit_value}
-use Rattle.std.specs.Str.{IsCharBoundary, IsUtf8}
-use Rattle.std.specs.Str.Parse.{AllDigits, digits_value}
+use Rattle.std.specs.Char.{is_ascii_digit}
+use Rattle.std.specs.Str.{IsCharBoundary}
+use Rattle.std.specs.Str.Parse.{digits_value}
 use Rattle.std.proofs.lemmas.Bool.{cases_lt, eqb-true}
 use Rattle.std.proofs.lemmas.Bool.Decides.{nat_tests}
-use Rattle.std.proofs.lemmas.List.Sums.{prefix_len-le-length, prefix_len_passes, prefix_len_stops}
-use Rattle.std.proofs.lemmas.Str.{IsCharBoundary-after_ascii, IsCharBoundary-before_ascii, IsCharBoundary-end, IsCharBoundary-start}
+use Rattle.std.proofs.lemmas.List.Sums.{prefix_len-le-length, prefix_len_stops}
+use Rattle.std.proofs.lemmas.Str.{IsCharBoundary-before_ascii, IsCharBoundary-end}
 use Rattle.edit_orders.specs.Years.{counted, from_digits, most, year_by_digits}
-
-digit_is_low : (b : ℕ) → is_ascii_digit b ≡ true → digit_value b < 10
-digit_is_low b h = grind (arith, nat_tests)
-
-one_more : (n : ℕ) → 1 + n ≡ suc n
-one_more n = omega arith
-
-run_digits-cons : (b : ℕ) (v : Bool) (bs : List ℕ) (n : ℕ) → is_ascii_digit b ≡ v → AllDigits 10 (take n bs)
-    → AllDigits 10 (take (cond v (1 + n) 0) (b ∷ bs))
-run_digits-cons b true bs n is all = rw (one_more n) (digit_is_low b is, all)
-run_digits-cons b false bs n is all = tt
-
--- the run of digits at the start consists of digits
-pub run_digits : (bs : List ℕ) → AllDigits 10 (take (prefix_len is_ascii_digit bs) bs)
-run_digits [] = tt
-run_digits (b ∷ bs) = run_digits-cons b (is_ascii_digit b) bs (prefix_len is_ascii_digit bs) refl (run_digits bs)
-
-is_low : (b : ℕ) → is_ascii_digit b ≡ true → b < 128
-is_low b h = grind (arith, nat_tests)
-
--- the offset after ASCII bytes at the start of a text is a character boundary
-following_ascii : (bs : List ℕ) (n : ℕ) → IsUtf8 bs → n ≤ length bs → ((k : ℕ) → k < n → get_or bs k 0 < 128) → IsCharBoundary bs n
-following_ascii bs zero u h low = IsCharBoundary-start bs u
-following_ascii bs (suc m) u h low =
-    let at : IsCharBoundary bs (m + 1) = IsCharBoundary-after_ascii bs m u (omega arith) (low m (omega arith)) in
-    rw add-one at at
-
--- the offset after a run of digits is a character boundary
-pub after_digits : (bs : List ℕ) (n : ℕ) → IsUtf8 bs → n ≡ prefix_len is_ascii_digit bs → IsCharBoundary bs n
-after_digits bs n u is =
-    rw is (following_ascii bs (prefix_len is_ascii_digit bs) u (prefix_len-le-length is_ascii_digit bs)
-    (λ k h. is_low (get_or bs k 0) (prefix_len_passes is_ascii_digit bs k 0 h)))
 
 is_digit : (b : ℕ) → not (is_ascii_digit b) ≡ false → b < 128
 is_digit b h = grind (arith, nat_tests)

@@ -13,7 +13,7 @@ use Rattle.edit_orders.specs.declared.order.Property.{Property}
 use Rattle.edit_orders.specs.declared.order.Property.TheVariants as property
 use Rattle.edit_orders.specs.declared.values.SortValue.{SortValue}
 
--- the definition of an abbreviation: the last one in the file, even after its use
+-- the definition of an abbreviation: the last one in the file with exactly this name, even after its use
 abbrev pub file_definition : List FieldReading → Definitions
 file_definition abbreviations name = option_map (λ f. f.value.pieces) (find (λ f. bytes_eq name f.name.text) (reverse abbreviations))
 
@@ -57,12 +57,12 @@ abbrev pub plain_contents : List Piece → Value
 plain_contents pieces = alone (Normal (flat_map plain_piece pieces))
 
 -- chunks are the contents of a field: parsed with the definitions of abbreviations, or its pieces as normal text if they can't be
--- parsed, such as for an abbreviation without a definition
+-- parsed. For example, an abbreviation without a definition can't be parsed
 pub data AreContentsOf (definitions : Definitions) (pieces : List Piece) : Value → Type 0 where
   parsed : {chunks : Value} → AreContents definitions false pieces chunks → AreContentsOf definitions pieces chunks
   plain : (IsReadable definitions false pieces → ⊥) → AreContentsOf definitions pieces (plain_contents pieces)
 
--- the sort value of a property, given its field: none without a field
+-- the sort value of a property that is in a field: that of the contents of the field, and none without a field
 abbrev pub IsFieldValue : Definitions → Property → Option FieldReading → Option SortValue → Type 0
 IsFieldValue definitions property None value = value ≡ None
 IsFieldValue definitions property (Some f) value =

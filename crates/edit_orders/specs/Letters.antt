@@ -9,7 +9,7 @@ use Rattle.std.specs.StrCase.Lower.{str_to_lowercase}
 use Rattle.unicode_normalization.specs.Forms.{nfkd}
 use Rattle.bib_text.specs.Characters as char
 
--- whether `c` separates words: white space, a slash, a hyphen or a dash
+-- whether `c` separates words: white space, a slash, a hyphen, an en dash or an em dash
 abbrev pub separates_words : ℕ → Bool
 separates_words c = is_whitespace c || (c == char.slash || (c == char.hyphen || (c == char.en_dash || c == char.em_dash)))
 
@@ -27,13 +27,13 @@ sort_letters c =
     else if c == 0xF8 then codes "o"
     else encode_utf8 c
 
--- a character of a decomposed text in lowercase, in UTF-8: a letter or a digit, a space if it separates words, and nothing otherwise, such
--- as for punctuation and the marks of accents
+-- a character of a decomposed text in lowercase, in UTF-8: a letter or a digit, a space if it separates words, and nothing otherwise.
+-- Punctuation and the marks of accents become nothing
 abbrev pub sort_character : ℕ → List ℕ
 sort_character c = if separates_words c then char.space ∷ [] else if is_alphabetic c || is_numeric c then sort_letters c else []
 
--- whether a character belongs to the name of a LaTeX command, given the same of the character before it: a backslash does, and so do
--- the ASCII letters after it
+-- whether a character belongs to the name of a LaTeX command: a backslash does, and so do the ASCII letters after it. `before` says
+-- whether the character before it belongs to one.
 abbrev pub is_in_name : Bool → ℕ → Bool
 is_in_name before c = c == char.backslash || (before && is_ascii_alphabetic c)
 

@@ -18,7 +18,7 @@ sort_family p = family_by p.use_prefix p.prefix p.name
 abbrev pub person_part : List ℕ → List (List ℕ)
 person_part text = sort_text text ∷ []
 
--- the texts by which a person is compared; the word `others` in a list of authors has none
+-- the texts by which a person is compared; a person with the family name `others` has none
 abbrev pub person_texts : Person → List (List ℕ)
 person_texts p =
     if bytes_eq p.name (codes "others") then []

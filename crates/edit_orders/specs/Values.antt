@@ -1,5 +1,5 @@
 -- Meaning: words of public contracts.
--- Sort values: what entries are compared by.
+-- Sort values: the values by which entries are compared.
 use Rattle.std.specs.Prelude.{ℕ, ◌==◌, Bool, List, [], ◌∷◌, Option, None, Some, if◌then◌else◌, length, option_map}
 use Rattle.std.specs.Cmp.Lexicographic.{slice_cmp}
 use Rattle.std.specs.List.{flat_map, list_all}
@@ -81,8 +81,8 @@ abbrev pub later_values : List (Option SortValue) → List (Option SortValue)
 later_values [] = []
 later_values (v ∷ vs) = vs
 
--- the order of two entries by some properties, given their sort values of these properties: the first property by which they differ
--- decides
+-- the order of two entries by some properties: the first property by which they differ decides. `vs` and `ws` are the sort values of the
+-- entries, one for each property.
 abbrev pub values_cmp : List SortBy → List (Option SortValue) → List (Option SortValue) → Ordering
 values_cmp [] vs ws = Equal
 values_cmp (s ∷ order) vs ws =

@@ -6,19 +6,19 @@ use Rattle.std.specs.List.{prefix_len}
 use Rattle.std.specs.Str.{trim}
 use Rattle.std.specs.Str.Parse.{digits_value}
 
--- a year that is farther from 0 counts as this one
+-- the greatest distance of a year from 0. A year that is farther from 0 counts as the year at this distance on the same side
 abbrev pub most : ℕ
 most = 10 ^ 18
 
--- the text before the first digit
+-- the text before the first ASCII digit, or the whole text if it has none
 abbrev pub before_digits : List ℕ → List ℕ
 before_digits text = take (prefix_len (λ byte. not (is_ascii_digit byte)) text) text
 
--- the text from the first digit on
+-- the text from the first ASCII digit on, or nothing if it has none
 abbrev pub from_digits : List ℕ → List ℕ
 from_digits text = drop (prefix_len (λ byte. not (is_ascii_digit byte)) text) text
 
--- the first digits in a row
+-- the first ASCII digits in a row
 abbrev pub first_digits : List ℕ → List ℕ
 first_digits text = take (prefix_len is_ascii_digit (from_digits text)) (from_digits text)
 

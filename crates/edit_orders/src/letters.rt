@@ -6,7 +6,7 @@ ghost use Rattle.edit_orders.specs.Letters as spec;
 use std::alloc::{AllocError, Global};
 use unicode_normalization::to_nfkd;
 
-// Returns whether a character separates words: white space, a slash, a hyphen or a dash.
+// Returns whether a character separates words: white space, a slash, a hyphen, an en dash or an em dash.
 fn is_gap(c: char) -> bool
     ensures { result ≡ spec.separates_words c }
 {
@@ -43,7 +43,7 @@ fn push_plain(out: &mut String, c: char) -> Result<(), AllocError>
     Ok(())
 }
 
-// Returns whether a character belongs to the name of a LaTeX command, given the same of the character before it.
+// Returns whether a character belongs to the name of a LaTeX command. `before` says whether the character before it does.
 fn is_in_name(before: bool, c: char) -> bool
     ensures { result ≡ spec.is_in_name before c }
 {

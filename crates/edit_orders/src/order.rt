@@ -6,16 +6,17 @@ ghost use Rattle.edit_orders.specs.Orders.{IsOrderRefused, order_parts, property
 
 use std::alloc::{AllocError, Global};
 
-/// A property by which entries can be sorted. An empty field counts as missing, and the last of several fields with one name
-/// counts.
+/// A property by which entries can be sorted. An empty field counts as missing, and the last of several fields with one name, in
+/// any ASCII case, counts.
 #[derive(Debug, Clone, Copy, PartialEq, Eq)]
 pub enum Property {
     /// The key, with ASCII letters in lowercase.
     Key,
-    /// The year as a number: the first number in the field `date`, or in `year` if there is no `date`.
+    /// The year as a number: the first digits in the field `date`, or in `year` if there is no `date`. It is negative if only a hyphen is
+    /// before them.
     Year,
-    /// The names of all authors, or of all editors if there is no author. Each name is compared by family name, given name, suffix and
-    /// prefix, without accents, case and punctuation.
+    /// The names in the field `author`, or in `editor` if there is no `author`, except for `others`. Each name is compared by family name,
+    /// given name, suffix and prefix, without accents, case and punctuation.
     Author,
     /// The title, without accents, case, punctuation and LaTeX markup.
     Title,

@@ -109,9 +109,9 @@ fn places_of(
 /// Returns the place of each entry of a file in an order. Two entries have equal places if the order doesn't tell them apart, so that
 /// they keep their order in the file. The only error is out of memory.
 ///
-/// Only the own fields of an entry count, not those that it inherits. Abbreviations count as their definitions in the file. If a field
-/// contains an abbreviation without a definition, or LaTeX that can't be parsed, the names of abbreviations and the source of the
-/// texts count.
+/// Only the own fields of an entry count, not those that it inherits. Abbreviations count as their last definitions in the file with
+/// exactly the same name. If a field contains an abbreviation without a definition, or LaTeX that can't be parsed, the names of
+/// abbreviations and the source of the texts count.
 pub fn order_places(
     alloc: Global,
     order: Order,

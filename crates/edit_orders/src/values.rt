@@ -1,4 +1,4 @@
-//! Sort values: what entries are compared by.
+//! Sort values: the values by which entries are compared.
 
 ghost use Rattle.std.specs.Prelude.{◌≡◌, IfOk, string_bytes};
 ghost use Rattle.edit_orders.specs.Values as spec;
@@ -12,7 +12,7 @@ use bib_text::items::Items;
 use bib_text::text::Text;
 use std::alloc::{AllocError, Global};
 
-/// What entries are compared by.
+/// A value by which entries are compared.
 #[derive(Debug, Drop)]
 pub enum SortValue {
     /// A number.

@@ -6,10 +6,10 @@ ghost use Rattle.std.specs.List.{prefix_len};
 ghost use Rattle.std.specs.Str.Parse.{AllDigits, digits_value};
 ghost use Rattle.edit_orders.specs.Years as spec;
 
-// Years from -10^18 to 10^18 are told apart.
+// The greatest distance of a year from 0. A year that is farther from 0 counts as the year at this distance on the same side.
 const MOST: u64 = 1_000_000_000_000_000_000;
 
-// Returns the number of bytes before the first digit.
+// Returns the number of bytes before the first ASCII digit, or the number of all bytes if there is none.
 fn start_len(text: &str) -> usize
     ensures { result ≡ prefix_len (λ byte. not (is_ascii_digit byte)) text.now }
 {
@@ -19,7 +19,7 @@ fn start_len(text: &str) -> usize
         .count()
 }
 
-// Returns the number of digits at the start.
+// Returns the number of ASCII digits at the start.
 fn digits_len(text: &str) -> usize
     ensures { result ≡ prefix_len is_ascii_digit text.now }
 {
@@ -29,7 +29,7 @@ fn digits_len(text: &str) -> usize
         .count()
 }
 
-// Returns the number that digits write, at most `MOST`.
+// Returns the number that `digits` are, at most `MOST`.
 fn number(digits: &str) -> u64
     requires digits { AllDigits 10 digits.now }
     requires some { 1 ≤ length digits.now }
@@ -41,7 +41,7 @@ fn number(digits: &str) -> u64
     }
 }
 
-// Returns the digits at the start.
+// Returns the ASCII digits at the start.
 fn first_digits(text: &str) -> &str
     ensures value { result.now ≡ take (prefix_len is_ascii_digit text.now) text.now }
     ensures digits { AllDigits 10 result.now }

@@ -4,6 +4,7 @@ use Rattle.std.specs.Prelude.{bytes_eq, ◌||◌}
 use Rattle.std.specs.Borrow.{Bor}
 use Rattle.std.proofs.lemmas.List.{get_or-map, length-map, length-take-le}
 use Rattle.std.proofs.lemmas.Slice.Eq.{bytes_eq-Decides}
+use Rattle.bib_text.proofs.ListFacts.{mapped_more}
 use Rattle.bib_syntax.specs.Reading.{EntryReading}
 use Rattle.bib_tables.specs.Requirements.{is_container}
 use Rattle.bib_tables.specs.declared.mechanics.EntryType.{EntryType}
@@ -12,7 +13,6 @@ use Rattle.edit_entries.specs.References.{has_alias}
 use Rattle.edit_resolve.specs.Parents.{container_index, entry_at, entry_index, first_index, no_reading, parent_index, type_of}
 use Rattle.edit_resolve.specs.declared.parents.Link.{Link}
 use Rattle.edit_resolve.specs.declared.parents.Link.TheVariants.{Crossref, Xdata}
-use Rattle.edit_resolve.proofs.ListFacts.{seen_more}
 
 -- one more entry
 first_push : {A : Type 0} (test : A → Bool) (xs : List A) (x : A)
@@ -34,7 +34,7 @@ pub first_more : {A B : Type 0} (view : A → B) (test : B → Bool) (xs : List 
     → first_position test (map view (take (i + 1) xs))
     ≡ first_index (first_position test (map view (take i xs))) (cond (test (view x)) (Some i) None)
 first_more view test xs i x within is =
-    ap (first_position test) (seen_more view xs i x within is)
+    ap (first_position test) (mapped_more view xs i x within is)
     ∙ first_push test (map view (take i xs)) (view x)
     ∙ ap (λ n. first_index (first_position test (map view (take i xs))) (cond (test (view x)) (Some n) None))
     (length-map (take i xs) view ∙ length-take-le i xs (omega arith))
@@ -124,6 +124,6 @@ container_found entries o i b found is =
     ap (λ t. cond t (Some i) None) (sym is) ∙ ap (container_index entries) (sym found)
 
 -- the type of an entry among the types of all
-pub kind_found : (entries : List EntryReading) (kinds : List EntryType) (i : ℕ) (kind : EntryType) → kinds ≡ map type_of entries
-    → i < length entries → kind ≡ get_or kinds i kind → kind ≡ type_of (entry_at entries i)
-kind_found entries kinds i kind are within is = is ∙ ap (λ ks. get_or ks i kind) are ∙ get_or-map type_of entries i no_reading kind within
+pub type_found : (entries : List EntryReading) (types : List EntryType) (i : ℕ) (type : EntryType) → types ≡ map type_of entries
+    → i < length entries → type ≡ get_or types i type → type ≡ type_of (entry_at entries i)
+type_found entries types i type are within is = is ∙ ap (λ ks. get_or ks i type) are ∙ get_or-map type_of entries i no_reading type within

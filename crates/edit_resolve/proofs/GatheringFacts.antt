@@ -1,7 +1,8 @@
 -- Offered fields one after another.
 use Rattle.std.proofs.Common.{◌≡◌, ℕ, ◌+◌, ◌<◌, Bool, true, false, cond, List, [], ◌∷◌, ◌++◌, length, map, take, get_or, refl, sym, ap, ◌∙◌, subst, append_assoc, append-nil, Option, Some, Result, Ok, Err, zero, suc}
-use Rattle.std.specs.Prelude.{bytes_eq, not, ◌||◌, unwrap_or, OnOk}
+use Rattle.std.specs.Prelude.{bytes_eq, ◌||◌, unwrap_or, OnOk}
 use Rattle.bib_text.specs.Enums.{value_named}
+use Rattle.bib_text.proofs.ListFacts.{mapped_more, any_same}
 use Rattle.std.specs.BTreeSet.{contains_text}
 use Rattle.std.specs.List.{flat_map}
 use Rattle.std.proofs.lemmas.List.{map-append, take_more}
@@ -16,10 +17,9 @@ use Rattle.bib_tables.specs.declared.mechanics.EntryType.{EntryType}
 use Rattle.edit_resolve.specs.Parents.{entry_at, type_of}
 use Rattle.edit_resolve.specs.Resolved.{Named, is_ruled_out, new_fields, offers, renamed}
 use Rattle.edit_resolve.specs.declared.parents.Parent.{Parent}
-use Rattle.edit_resolve.specs.Working.{IsGathered, Offered, is_ruled_out_in, kind_at, named_of, offered_at, read_names}
+use Rattle.edit_resolve.specs.Working.{IsGathered, Offered, is_ruled_out_in, named_of, offered_at, read_names, type_at}
 use Rattle.edit_resolve.specs.declared.gathering.Named.{Named as NamedField}
 use Rattle.edit_resolve.specs.declared.gathering.Gathered.{Gathered}
-use Rattle.edit_resolve.proofs.ListFacts.{any_same, seen_more}
 
 -- the new fields among offered fields and more of them
 pub new_append : (taken : List (List ℕ)) (xs ys : List Named)
@@ -78,7 +78,7 @@ pub offered_more : (each : List Named → List Named) → ((xs ys : List Named) 
     → Offered a (each (map named_of (take (i + 1) all))) c
 offered_more each joins all i x a b c within is before now =
     offered_same a c _ _
-    (sym (ap each (seen_more named_of all i x within is) ∙ joins (map named_of (take i all)) (named_of x ∷ [])))
+    (sym (ap each (mapped_more named_of all i x within is) ∙ joins (map named_of (take i all)) (named_of x ∷ [])))
     (offered_then a b c _ _ before now)
 
 -- a name is in the set exactly if it is taken
@@ -126,11 +126,6 @@ pushed taken fields n old new low read free added lists is =
 pub passed : {A : Type 0} (x : A) (b : Bool) → b ≡ true → x ∷ [] ≡ cond b (x ∷ []) []
 passed x b is = ap (λ t. cond t (x ∷ []) []) (sym is)
 
--- what isn't false is true
-pub not_false : (b : Bool) → not b ≡ false → b ≡ true
-not_false true is = refl
-not_false false is = absurd (cc)
-
 -- what is renamed is offered
 pub renamed_found : (n : Named) (new : Option (List ℕ)) (name : List ℕ) → new ≡ Some name
     → record { name = name; field = n.field } ∷ [] ≡ renamed n new
@@ -145,7 +140,7 @@ names_more fields i f low q has within is read known =
     listed_more (map (λ f. read_name f.name.text) (map field_of (take i fields))) low q has known
     ∙ ap (λ l. is_listed (map (λ f. read_name f.name.text) (map field_of (take i fields)) ++ l ∷ []) q) read
     ∙ ap (λ l. is_listed l q)
-    (sym (ap (map (λ f. read_name f.name.text)) (seen_more field_of fields i f within is)
+    (sym (ap (map (λ f. read_name f.name.text)) (mapped_more field_of fields i f within is)
     ∙ map-append (λ f. read_name f.name.text) (map field_of (take i fields)) (field_of f ∷ [])))
 
 -- what follows from a success
@@ -154,33 +149,33 @@ on_ok (Ok x) f is = f is
 on_ok (Err e) f is = is
 
 -- the type of the entry at an index
-kind_is : (entries : List EntryReading) (i : ℕ) → kind_at (map type_of entries) i ≡ type_of (entry_at entries i)
-kind_is [] i = refl
-kind_is (e ∷ es) zero = refl
-kind_is (e ∷ es) (suc i) = kind_is es i
+type_is : (entries : List EntryReading) (i : ℕ) → type_at (map type_of entries) i ≡ type_of (entry_at entries i)
+type_is [] i = refl
+type_is (e ∷ es) zero = refl
+type_is (e ∷ es) (suc i) = type_is es i
 
 -- what parents offer, by the types of all entries
-pub offered_is : (entries : List EntryReading) (kinds : List EntryType) (child : EntryType) (fields : ℕ → List Named) (ps : List Parent)
-    → kinds ≡ map type_of entries
-    → offered_at kinds child fields ps
+pub offered_is : (entries : List EntryReading) (types : List EntryType) (child : EntryType) (fields : ℕ → List Named) (ps : List Parent)
+    → types ≡ map type_of entries
+    → offered_at types child fields ps
     ≡ flat_map (λ p. offers p.link (type_of (entry_at entries p.index)) child (fields p.index)) ps
-offered_is entries kinds child fields [] are = refl
-offered_is entries kinds child fields (p ∷ ps) are =
-    ap (λ k. offers p.link k child (fields p.index) ++ offered_at kinds child fields ps)
-    (ap (λ ks. kind_at ks p.index) are ∙ kind_is entries p.index)
+offered_is entries types child fields [] are = refl
+offered_is entries types child fields (p ∷ ps) are =
+    ap (λ k. offers p.link k child (fields p.index) ++ offered_at types child fields ps)
+    (ap (λ ks. type_at ks p.index) are ∙ type_is entries p.index)
     ∙ ap (λ l. offers p.link (type_of (entry_at entries p.index)) child (fields p.index) ++ l)
-    (offered_is entries kinds child fields ps are)
+    (offered_is entries types child fields ps are)
 
 -- one more parent
-pub parents_more : (kinds : List EntryType) (child : EntryType) (fields : ℕ → List Named) (ps : List Parent) (i : ℕ) (d : Parent)
-    (a b c : Gathered) → i < length ps → Offered a (offered_at kinds child fields (take i ps)) b
-    → Offered b (offers (get_or ps i d).link (kind_at kinds (get_or ps i d).index) child (fields (get_or ps i d).index)) c
-    → Offered a (offered_at kinds child fields (take (i + 1) ps)) c
-parents_more kinds child fields ps i d a b c within before now =
-    let each = λ (q : Parent). offers q.link (kind_at kinds q.index) child (fields q.index) in
+pub parents_more : (types : List EntryType) (child : EntryType) (fields : ℕ → List Named) (ps : List Parent) (i : ℕ) (d : Parent)
+    (a b c : Gathered) → i < length ps → Offered a (offered_at types child fields (take i ps)) b
+    → Offered b (offers (get_or ps i d).link (type_at types (get_or ps i d).index) child (fields (get_or ps i d).index)) c
+    → Offered a (offered_at types child fields (take (i + 1) ps)) c
+parents_more types child fields ps i d a b c within before now =
+    let each = λ (q : Parent). offers q.link (type_at types q.index) child (fields q.index) in
     let p : Parent = get_or ps i d in
     offered_same a c _ _
-    (ap (λ l. offered_at kinds child fields (take i ps) ++ l) (sym (append-nil (each p)))
+    (ap (λ l. offered_at types child fields (take i ps) ++ l) (sym (append-nil (each p)))
     ∙ sym (flat_map-append each (take i ps) (p ∷ []))
     ∙ ap (flat_map each) (sym (take_more ps i d within)))
     (offered_then a b c _ _ before now)

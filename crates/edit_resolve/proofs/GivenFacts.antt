@@ -10,30 +10,16 @@ use Rattle.std.proofs.lemmas.List.Concat.{flat_map-append}
 use Rattle.std.proofs.lemmas.List.Folds.{find-append}
 use Rattle.std.proofs.lemmas.Slice.Eq.{bytes_eq-Decides}
 use Rattle.edit_resolve.specs.Inheritance.{read_name}
-use Rattle.bib_text.proofs.ListFacts.{contains_more}
+use Rattle.bib_text.proofs.ListFacts.{contains_more, mapped_more}
+use Rattle.bib_text.proofs.OptionFacts.{some_mapped, mapped_cond, or_none}
 use Rattle.edit_resolve.specs.Resolved.{Named, given_fields, given_fields_by, is_read_as}
 use Rattle.edit_resolve.specs.Working.{Gives, given_at, named_of}
 use Rattle.edit_resolve.specs.declared.gathering.Named.{Named as NamedField}
 use Rattle.edit_resolve.specs.declared.parents.Parent.{Parent}
-use Rattle.edit_resolve.proofs.ListFacts.{seen_more}
-
--- nothing more is given
-or_none : {A : Type 0} (o : Option A) → option_or o None ≡ o
-or_none (Some x) = refl
-or_none None = refl
 
 or_or : {A : Type 0} (a b c : Option A) → option_or (option_or a b) c ≡ option_or a (option_or b c)
 or_or (Some x) b c = refl
 or_or None b c = refl
-
-some_mapped : {A B : Type 0} (f : A → B) (o : Option A) → is_some (option_map f o) ≡ is_some o
-some_mapped f (Some x) = refl
-some_mapped f None = refl
-
-mapped_cond : {A B : Type 0} (f : A → B) (b : Bool) (x : A) (o : Option A)
-    → option_map f (cond b (Some x) o) ≡ cond b (Some (f x)) (option_map f o)
-mapped_cond f true x o = refl
-mapped_cond f false x o = refl
 
 pub gives_none : {A : Type 0} (given : BTreeMap (String A) NamedField) → Gives given [] given
 gives_none given = λ name. sym (or_none (given_at given name))
@@ -92,7 +78,7 @@ pub gives_more : {A : Type 0} (each : List Named → List Named) → ((xs ys : L
     → Gives a (each (map named_of (take (i + 1) all))) c
 gives_more each joins all i x a b c within is before now =
     subst (λ l. Gives a l c)
-    (sym (ap each (seen_more named_of all i x within is) ∙ joins (map named_of (take i all)) (named_of x ∷ [])))
+    (sym (ap each (mapped_more named_of all i x within is) ∙ joins (map named_of (take i all)) (named_of x ∷ [])))
     (gives_then a b c (each (map named_of (take i all))) (each (named_of x ∷ [])) before now)
 
 -- a field that isn't inherited is passed over

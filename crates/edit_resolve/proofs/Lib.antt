@@ -9,3 +9,4 @@ mod NameFacts
 mod OrderFacts
 mod ParentFacts
 mod ResolvedFacts
+mod UninheritedFacts

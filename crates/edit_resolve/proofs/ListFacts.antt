@@ -1,24 +1,11 @@
 -- General facts about lists.
-use Rattle.std.proofs.Common.{◌≡◌, ℕ, ◌+◌, ◌<◌, Bool, false, List, [], ◌∷◌, ◌++◌, length, map, take, get_or, refl, sym, ap, ◌∙◌, arith, append_assoc, Option}
-use Rattle.std.specs.Prelude.{◌||◌}
-use Rattle.std.specs.List.{filter_map, list_any}
+use Rattle.std.proofs.Common.{◌≡◌, ℕ, ◌+◌, ◌<◌, false, List, [], ◌∷◌, ◌++◌, length, map, take, get_or, refl, sym, ap, ◌∙◌, arith, append_assoc, Option}
+use Rattle.std.specs.List.{filter_map}
 use Rattle.std.proofs.lemmas.List.Elements.{filter_map-append}
 use Rattle.std.proofs.lemmas.List.{take_more, map-append}
 use Rattle.std.proofs.lemmas.Slice.Eq.{bytes_eq-Decides}
 use Rattle.bib_text.proofs.EnumFacts.{IsNoneOf}
 use Rattle.bib_tables.specs.Requirements.{is_one_of}
-
--- one more element of a list that is looked at through a function
-pub seen_more : {A B : Type 0} (view : A → B) (xs : List A) (i : ℕ) (x : A) → i < length xs → x ≡ get_or xs i x
-    → map view (take (i + 1) xs) ≡ map view (take i xs) ++ view x ∷ []
-seen_more view xs i x within is =
-    ap (map view) (take_more xs i x within ∙ ap (λ y. take i xs ++ y ∷ []) (sym is)) ∙ map-append view (take i xs) (x ∷ [])
-
--- the same test has the same outcome for a list
-pub any_same : {A : Type 0} (f g : A → Bool) → ((x : A) → f x ≡ g x) → (xs : List A) → list_any f xs ≡ list_any g xs
-any_same f g same [] = refl
-any_same f g same (x ∷ xs) =
-    ap (λ b. b || list_any f xs) (same x) ∙ ap (λ b. g x || b) (any_same f g same xs)
 
 -- functions with the same values make the same list
 pub map_same : {A B : Type 0} (f g : A → B) → ((x : A) → f x ≡ g x) → (xs : List A) → map f xs ≡ map g xs

@@ -1,58 +1,19 @@
 -- The names of fields: each can be the name of a new field.
-use Rattle.std.proofs.Common.{◌≡◌, inl, ℕ, ◌≤◌, Bool, true, false, cond, List, [], ◌∷◌, ◌++◌, length, drop, refl, sym, ap, ◌∙◌, subst, arith, append-nil, codes, Option, Some, None}
+use Rattle.std.proofs.Common.{◌≡◌, ℕ, Bool, true, false, cond, List, [], ◌∷◌, refl, subst, codes, Option, Some, None}
 use Rattle.std.specs.Prelude.{bytes_eq}
 use Rattle.std.specs.List.{AllByRecursion}
-use Rattle.std.proofs.lemmas.List.{drop_all}
 use Rattle.bib_text.specs.Enums.{value_named}
-use Rattle.bib_text.specs.Places.{Place, place, CharAt, Run, between}
-use Rattle.bib_text.proofs.PlaceFacts.{ahead_char, ahead_run, ahead_then, char_left, stops_at_end}
-use Rattle.bib_text.proofs.BoundaryFacts.{not_over}
-use Rattle.bib_syntax.specs.Characters.{is_id_continue}
-use Rattle.bib_syntax.specs.Reading.{Part, part}
-use Rattle.bib_syntax.specs.Grammar.{Identifier, longest}
-use Rattle.bib_syntax.proofs.FieldFacts.{ahead_identifier}
 use Rattle.bib_tables.specs.declared.mechanics.EntryType.{EntryType}
 use Rattle.edit_entries.specs.Documents.{CanBeName, Document, IsDocument}
 use Rattle.edit_entries.proofs.AllFacts.{OfFields, all_found}
 use Rattle.edit_entries.proofs.SplitFacts.{split_fields, split_file}
-use Rattle.edit_entries.proofs.StandsFacts.{Stands, copied, copy_frame}
-use Rattle.edit_entries.proofs.ZoneFacts.{char_there, inside_between, run_there, there}
+use Rattle.edit_strings.proofs.CutFacts.{field_can}
 use Rattle.edit_strings.proofs.NameFacts.{plain_can}
 use Rattle.edit_resolve.specs.Inheritance.{author_name, has_book_author, name_by_crossref, title_name, title_names, titles_in}
 use Rattle.edit_resolve.specs.declared.inheritance.Titles.{Titles}
 use Rattle.edit_resolve.specs.declared.inheritance.Titles.TheVariants.{Main, Volume, Journal}
 
 -- ---- names in a file
-
--- a name in a text is one by itself
-name_can : {a b : Place} {p : Part} → b.at ≤ length a.text → Identifier longest a p b → CanBeName (between a b)
-name_can {a} {b} {p} within i =
-    let text : List ℕ = between a b in
-    let u : Place = place text 0 in
-    let v : Place = place text (length text) in
-    let rest : drop (length text) text ≡ [] = drop_all (length text) text (omega arith) in
-    let stands : Stands u text v = record {
-      same = refl;
-      here = sym (append-nil text) ∙ ap (λ t. text ++ t) (sym rest);
-      next = omega arith;
-    } in
-    let c =
-    copied (ahead_identifier i) within stands (λ x y d same char below. not_over text (length text) (inl refl) same char below) in
-    let f = copy_frame a b u in
-    let second = inside_between c.zone c.start c.end (ahead_char i.here) (ahead_run i.rest.run) in (
-      part u v,
-      record {
-        second = there f i.second;
-        first = i.first;
-        here = subst (λ q. CharAt q i.first (there f i.second)) c.goes_start (char_there c.zone c.start second i.here);
-        starts = i.starts;
-        rest = record {
-          run = subst (λ q. Run is_id_continue (there f i.second) q) c.goes_end (run_there c.zone second c.end i.rest.run);
-          stops = stops_at_end is_id_continue refl;
-        };
-        reading = refl;
-      },
-    )
 
 -- the name of each field of a file can be a name
 pub names_can : (d : Document) → IsDocument d → OfFields (λ f. CanBeName f.name.text) d.says.entries
@@ -61,11 +22,7 @@ names_can d read =
     (λ k e here. all_found (λ f. CanBeName f.name.text) e.fields (λ j f there'.
     let s = split_file k e read here in
     let g = split_fields j f s.block.fields there' in
-    let field = g.field in
-    let to_sign = ahead_then (ahead_identifier field.name) (ahead_run field.white.run) in
-    subst CanBeName (sym (ap (λ p. p.text) field.name.reading))
-    (name_can
-    (omega (arith, (ahead_run field.white.run).at, char_left field.sign, ap length to_sign.text)) field.name)))
+    field_can g.field))
 
 -- ---- new names
 

@@ -1,5 +1,5 @@
 -- The parents of entries are entries, so the graph of parents is one.
-use Rattle.std.proofs.Common.{◌≡◌, ℕ, ◌<◌, List, [], ◌∷◌, ◌++◌, get_or, length, map, reverse, refl, sym, ap, ◌∙◌, subst, Option, Some, None}
+use Rattle.std.proofs.Common.{◌≡◌, ℕ, ◌<◌, Bool, true, false, cond, List, [], ◌∷◌, ◌++◌, get_or, length, map, reverse, refl, sym, ap, ◌∙◌, subst, Option, Some, None}
 use Rattle.std.specs.List.{All, AllByRecursion, cons_option, filter_map}
 use Rattle.std.proofs.lemmas.List.{length-map, reverse-append}
 use Rattle.std.proofs.lemmas.List.Elements.{All-from_recursion, All-map}
@@ -8,7 +8,8 @@ use Rattle.std.specs.Global.{Vec}
 use Rattle.bib_collections.specs.Graph.{IsInRange}
 use Rattle.bib_collections.specs.Rows.{rows}
 use Rattle.bib_syntax.specs.Reading.{EntryReading, FieldReading}
-use Rattle.edit_resolve.specs.Parents.{field_keys, field_parents, linked, parent, parent_graph, parent_index, parents}
+use Rattle.edit_resolve.specs.Parents.{field_keys, field_parents, is_resolved, linked, parent, parent_graph, parent_index, parents}
+use Rattle.edit_resolve.specs.Uninherited.{reference_parents}
 use Rattle.edit_resolve.specs.Working.{parent_lists}
 use Rattle.edit_resolve.specs.declared.parents.Link.{Link}
 use Rattle.edit_resolve.specs.declared.parents.Link.TheVariants.{Crossref, Xdata}
@@ -56,6 +57,16 @@ module _ (entries : List EntryReading) where
       (all_reverse IsEntry (linked entries Crossref e.fields ++ linked entries Xdata e.fields)
       (all_append IsEntry (linked entries Crossref e.fields) (linked entries Xdata e.fields) (linked_within Crossref e.fields)
       (linked_within Xdata e.fields)))
+
+  -- the parents that a resolved reference names are entries
+  pub references_within : (f : FieldReading) → AllByRecursion IsEntry (reference_parents entries f)
+  references_within f = by_case (is_resolved entries f)
+    where
+      by_case : (b : Bool) → AllByRecursion IsEntry (cond b (field_parents entries Crossref f ++ field_parents entries Xdata f) [])
+      by_case true =
+          all_append IsEntry (field_parents entries Crossref f) (field_parents entries Xdata f)
+          (keys_within Crossref (field_keys Crossref f)) (keys_within Xdata (field_keys Xdata f))
+      by_case false = tt
 
   pub graph_size : length (parent_graph entries) ≡ length entries
   graph_size = length-map entries (λ e. map (λ p. p.index) (parents entries e))

@@ -3,12 +3,13 @@ use Rattle.std.proofs.Common.{◌≡◌, ℕ, Bool, true, false, cond, List, [],
 use Rattle.std.specs.Prelude.{◌||◌}
 use Rattle.std.specs.List.{AllByRecursion, list_any}
 use Rattle.std.specs.Str.{IsCharBoundary}
+use Rattle.bib_text.proofs.ListFacts.{all_weaker}
 use Rattle.bib_syntax.specs.Reading.{EntryReading, FieldReading}
 use Rattle.edit_entries.specs.Changes.{FieldChange}
 use Rattle.edit_entries.specs.Cuts.{ArePiecesCut, IsPieceCut}
 use Rattle.edit_entries.specs.Documents.{CanBeName, Document, IsDocument}
 use Rattle.edit_entries.specs.Placed.{IsPlaced}
-use Rattle.edit_entries.proofs.AllFacts.{OfFields, all_placed, all_weaker, fields_weaker}
+use Rattle.edit_entries.proofs.AllFacts.{OfFields, all_placed, fields_weaker}
 use Rattle.edit_entries.proofs.ChangesFacts.{CanChange, CanEntryChange, CanFieldsChange}
 use Rattle.edit_entries.proofs.NewFieldFacts.{CanBePut}
 use Rattle.edit_entries.proofs.PartFacts.{AreEntriesIn, AreFieldsIn, file_in}

@@ -20,7 +20,7 @@ biber_names =
     (codes "annote", codes "annotation") ∷ (codes "archiveprefix", codes "eprinttype") ∷ (codes "primaryclass", codes "eprintclass")
     ∷ (codes "hyphenation", codes "langid") ∷ (codes "key", codes "sortkey") ∷ (codes "pdf", codes "file") ∷ []
 
--- the name under which Biber reads a field: in lowercase, and BibLaTeX's name for one of BibTeX
+-- the name under which Biber reads a field: in ASCII lowercase, or another one by `biber_names` or `biblatex_name`
 abbrev pub read_name : List ℕ → List ℕ
 read_name name =
     let lower : List ℕ = str_to_ascii_lowercase name in
@@ -126,7 +126,7 @@ author_name parent child = if has_book_author parent child then Some (codes "boo
 
 -- ---- fields
 
--- the new name of a field of an entry of the first type in an entry of the second type that refers to it by `crossref`, if it has one
+-- the new name that a field of an entry of the first type gets by `crossref` in an entry of the second type, if it has one
 abbrev pub name_by_crossref : EntryType → EntryType → List ℕ → Option (List ℕ)
 name_by_crossref parent child name =
     if bytes_eq name (codes "author") then author_name parent child else title_name (titles_in parent child) name
@@ -144,12 +144,11 @@ never_by_crossref =
     ∷ codes "label" ∷ codes "options" ∷ codes "presort" ∷ codes "related" ∷ codes "relatedoptions" ∷ codes "relatedstring"
     ∷ codes "relatedtype" ∷ codes "shorthand" ∷ codes "shorthandintro" ∷ codes "sortkey" ∷ []
 
--- whether a field is an annotation: BibLaTeX's marker comes after the name of the field that it is about
+-- whether a field is an annotation: its name contains `+an`, BibLaTeX's marker after the name of the annotated field
 abbrev pub is_annotation : List ℕ → Bool
 is_annotation name = has_part (codes "+an") name
 
--- whether a field of an entry of the first type is inherited under its own name by an entry of the second type that refers to it by
--- `crossref`
+-- whether an entry of the second type inherits a field of an entry of the first type by `crossref` under its own name
 abbrev pub keeps_name : EntryType → EntryType → List ℕ → Bool
 keeps_name parent child name =
     not (is_annotation name) && not (is_one_of never_by_crossref name)

@@ -2,4 +2,5 @@ pub mod Errors
 pub mod Inheritance
 pub mod Parents
 pub mod Resolved
+pub mod Uninherited
 pub mod Working

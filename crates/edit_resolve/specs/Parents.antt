@@ -24,8 +24,7 @@ abbrev pub first_index : Option ℕ → Option ℕ → Option ℕ
 first_index (Some index) other = Some index
 first_index None other = other
 
--- the index of the entry that Biber finds by a name: of the first entry with this key, or else of the first entry with the name in its
--- fields `ids`
+-- the index of the entry that Biber finds by a name: the first one with this key, or else the first one with the name in its fields `ids`
 abbrev pub entry_index : List EntryReading → List ℕ → Option ℕ
 entry_index entries name = first_index (first_position (is_keyed name) entries) (first_position (has_alias name) entries)
 
@@ -84,8 +83,8 @@ field_parents entries link f = map (parent link) (filter_map (parent_index entri
 abbrev pub linked : List EntryReading → Link → List FieldReading → List Parent
 linked entries link fields = flat_map (field_parents entries link) fields
 
--- the parents of an entry: those of `xdata` come first, from the last to the first, since Biber takes a field from the last one that
--- has it
+-- the parents of an entry: those of `xdata`, and then those of `crossref`, each from the last to the first. Biber takes a field from the
+-- last one that has it
 abbrev pub parents : List EntryReading → EntryReading → List Parent
 parents entries e = reverse (linked entries Crossref e.fields ++ linked entries Xdata e.fields)
 

@@ -19,7 +19,7 @@ use Rattle.edit_resolve.specs.declared.parents.Link.{Link}
 use Rattle.edit_resolve.specs.declared.parents.Link.TheVariants.{Crossref, Xdata}
 use Rattle.edit_resolve.specs.declared.parents.Parent.{Parent}
 
--- ---- what a parent offers
+-- ---- the fields that a parent offers
 
 -- a name, and the field of the file that has the value
 pub record Named : Type 0 where
@@ -42,7 +42,7 @@ offers Crossref type child fields =
     flat_map (λ n. renamed n (name_by_crossref type child (read_name n.name))) fields
     ++ filter (λ n. keeps_name type child (read_name n.name)) fields
 
--- ---- what takes the place of own fields
+-- ---- the fields that take the place of own fields
 
 -- whether Biber reads a field under this name
 abbrev pub is_read_as : List ℕ → Named → Bool
@@ -66,7 +66,7 @@ substitute fields f = find (is_read_as (read_name f.name.text)) fields
 abbrev pub in_place : List Named → FieldReading → Named
 in_place fields f = unwrap_or (substitute fields f) (as_itself f)
 
--- ---- what an entry inherits
+-- ---- the fields that an entry inherits
 
 -- whether a field can't be inherited, since there is one with this name, or with a name that excludes it
 abbrev pub is_ruled_out : List (List ℕ) → List ℕ → Bool
@@ -116,8 +116,8 @@ replacement entries e f = substitute (given_fields_by (all_fields entries) (pare
 abbrev pub new_field : List ℕ → Named → NewField
 new_field text n = record { name = n.name; value = record { bytes = laid_out text n.field.value.pieces; pieces = n.field.value.pieces } }
 
--- the change of an entry's last resolved reference before other fields: the inherited fields replace it. If there are none it is removed,
--- or kept if no field follows.
+-- the change of an entry's last resolved reference; `following` are the fields after it. The inherited fields replace it. If there are
+-- none, it is removed, or kept if no field follows.
 abbrev pub last_change : List ℕ → List Named → FieldReading → List FieldReading → FieldChange
 last_change text (n ∷ ns) f following = FieldChange.replaced (new_field text n) (map (new_field text) ns) (white_before text f.name.start)
 last_change text [] f [] = FieldChange.kept
@@ -128,7 +128,7 @@ abbrev pub own_change : List ℕ → Option Named → FieldChange
 own_change text None = FieldChange.kept
 own_change text (Some n) = FieldChange.replaced (new_field text n) [] []
 
--- the change of a field before other fields: each other resolved reference is removed
+-- the change of a field; `following` are the fields after it. Each resolved reference before the last one is removed
 abbrev pub field_resolution : List ℕ → (FieldReading → Bool) → (FieldReading → Option Named) → List Named → FieldReading
     → List FieldReading → FieldChange
 field_resolution text resolved instead new f following =
@@ -153,8 +153,8 @@ resolution text entries e = record {
 abbrev pub IsResolved : Document → List ℕ → Type 0
 IsResolved d text = IsChanged (resolution d.text d.says.entries) d text
 
--- why resolving entries fails: the entry at this index is the first that inherits from itself, directly or through others, or memory ran
--- out
+-- the conditions of an error: the entry at this index is the first that inherits from itself, directly or through others. Memory may
+-- always run out
 abbrev pub IsResolveError : List EntryReading → ResolveError → Type 0
 IsResolveError entries (Cycle index) = IsFirstOnCycle (parent_graph entries) index
 IsResolveError entries OutOfMemory = ⊤

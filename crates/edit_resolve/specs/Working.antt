@@ -1,5 +1,5 @@
 -- Machinery: words of private contracts.
--- The file, the parents and the gathered fields, in the types of the code.
+-- The file, the parents, the gathered fields and the fields that entries lack, in the types of the code.
 use Rattle.std.specs.Prelude.{◌≡◌, ℕ, String, ◌<◌, ◌≤◌, Bool, if◌then◌else◌, List, [], ◌∷◌, ◌++◌, length, map, slice_index_or, Option, Some, unwrap_or}
 use Rattle.std.specs.Borrow.{Bor}
 use Rattle.std.specs.BTreeMap.{BTreeMap, get_by, get_by_text}
@@ -12,6 +12,7 @@ use Rattle.std.specs.Ordering.{nat_cmp}
 use Rattle.std.specs.Str.{IsCharBoundary}
 use Rattle.bib_text.specs.Enums.{value_named}
 use Rattle.bib_queries.specs.Needed.{is_listed}
+use Rattle.bib_queries.specs.Texts.{text_list}
 use Rattle.bib_syntax.specs.Reading.{EntryReading, FieldReading}
 use Rattle.bib_syntax.specs.Views.{entry_reading_of, field_of}
 use Rattle.bib_tables.specs.EntryType.{entry_type_of}
@@ -24,10 +25,13 @@ use Rattle.edit_entries.specs.References.{has_alias}
 use Rattle.edit_resolve.specs.Inheritance.{read_name, rival_names}
 use Rattle.edit_resolve.specs.Parents.{entry_at, type_of}
 use Rattle.edit_resolve.specs.Resolved.{Named, fields_along, given_fields_by, in_place, is_read_as, last_change, new_fields, offers}
+use Rattle.edit_resolve.specs.Uninherited.{Uninherited}
 use Rattle.edit_resolve.specs.declared.file.File.{File}
 use Rattle.edit_resolve.specs.declared.gathering.Named.{Named as NamedField}
 use Rattle.edit_resolve.specs.declared.gathering.Gathered.{Gathered}
 use Rattle.edit_resolve.specs.declared.parents.Parent.{Parent}
+use Rattle.edit_resolve.specs.declared.uninherited.Child.{Child}
+use Rattle.edit_resolve.specs.declared.uninherited.UninheritedFields.{UninheritedFields}
 
 -- ---- the file
 
@@ -43,7 +47,7 @@ readings file = map entry_reading_of file.entries.now
 pub record HasNames (file : File) : Type 0 where
   pub keys : (name : List ℕ) → name_index file.keys name ≡ first_position (is_keyed name) (readings file)
   pub aliases : (name : List ℕ) → name_index file.aliases name ≡ first_position (has_alias name) (readings file)
-  pub kinds : file.kinds.items ≡ map type_of (readings file)
+  pub types : file.types.items ≡ map type_of (readings file)
 
 -- the parents in the vectors of the code
 abbrev pub parent_lists : List (Vec Parent) → List (List Parent)
@@ -59,7 +63,7 @@ is_ruled_out_in has name = list_any has (name ∷ unwrap_or (value_named rival_n
 abbrev pub named_of : NamedField → Named
 named_of n = record { name = n.name.now; field = field_of n.field.now }
 
--- the taken names are these, and the fields begin with these
+-- the taken names and the gathered fields are these
 pub record IsGathered (taken : List (List ℕ)) (all : List Named) (g : Gathered) : Type 0 where
   pub names : (name : List ℕ) → contains_text g.names name ≡ is_listed taken name
   pub fields : map named_of g.fields.items ≡ all
@@ -82,7 +86,7 @@ fields_at found index = slice_index_or (map (λ row. map named_of row.items) fou
 abbrev pub given_at : {A : Type 0} → BTreeMap (String A) NamedField → List ℕ → Option Named
 given_at given name = option_map named_of (get_by_text given name)
 
--- the first map becomes the second one by adding each of these fields whose name it doesn't have
+-- the first map becomes the second one by adding, for each name that it doesn't have, the first of these fields with the name
 abbrev pub Gives : {A : Type 0} → BTreeMap (String A) NamedField → List Named → BTreeMap (String A) NamedField → Type 0
 Gives old fields new = (name : List ℕ) → given_at new name ≡ option_or (given_at old name) (find (is_read_as name) fields)
 
@@ -91,12 +95,12 @@ abbrev pub instead_at : {A : Type 0} → BTreeMap (String A) NamedField → Fiel
 instead_at given f = given_at given (read_name f.name.text)
 
 -- the type at an index
-abbrev pub kind_at : List EntryType → ℕ → EntryType
-kind_at kinds index = slice_index_or kinds index (entry_type_of [])
+abbrev pub type_at : List EntryType → ℕ → EntryType
+type_at types index = slice_index_or types index (entry_type_of [])
 
 -- the fields that an entry of a type is offered by these parents
 abbrev pub offered_at : List EntryType → EntryType → (ℕ → List Named) → List Parent → List Named
-offered_at kinds child fields parents = flat_map (λ p. offers p.link (kind_at kinds p.index) child (fields p.index)) parents
+offered_at types child fields parents = flat_map (λ p. offers p.link (type_at types p.index) child (fields p.index)) parents
 
 -- the fields of the entry at an index, or those that take their places, and those that it inherits from these parents
 abbrev pub with_inherited : List EntryReading → (ℕ → List Named) → List Parent → ℕ → List Named
@@ -113,19 +117,38 @@ AreAlong entries fields =
 
 -- ---- edits
 
--- the name and the value of a field may be cut out of a text
+-- the value of a field may be cut out of a text, which may also be cut where the field's name begins
 pub record IsNamedCut (text : List ℕ) (f : FieldReading) : Type 0 where
   pub placed : IsPlaced text f
   pub name : IsCharBoundary text f.name.start
 
--- the fields of entries and the literals of their values may be cut out of a text
+-- each field of the entries meets `IsNamedCut`, and the text may be cut where the literals of its value begin
 abbrev pub AreFieldsCut : List ℕ → List EntryReading → Type 0
 AreFieldsCut text entries = AllByRecursion (λ e. AllByRecursion (λ f. IsNamedCut text f × ArePiecesCut text f) e.fields) entries
 
--- the values of the fields in a map may be cut out of a text
+-- a text may be cut where the literals of the fields in a map begin
 abbrev pub AreGivenCut : {A : Type 0} → List ℕ → BTreeMap (String A) NamedField → Type 0
 AreGivenCut text given = (name : List ℕ) (n : Named) → given_at given name ≡ Some n → ArePiecesCut text n.field
 
 -- the change of a resolved reference
 abbrev pub last_or_removed : List ℕ → Bool → List Named → FieldReading → List FieldReading → FieldChange
 last_or_removed text is_last new f following = if is_last then last_change text new f following else FieldChange.removed
+
+-- ---- fields that entries lack
+
+-- the type of a child is that of its entry
+abbrev pub IsChild : Child → Type 0
+IsChild child = child.entry_type.now ≡ type_of (entry_reading_of child.entry.now)
+
+-- the fields of a parent that a value of the code represents
+abbrev pub uninherited_row : UninheritedFields → Uninherited
+uninherited_row u = record {
+  entry = entry_reading_of u.entry.now;
+  reference = field_of u.reference.now;
+  parent = entry_reading_of u.parent.now;
+  names = text_list u.names;
+}
+
+-- the fields of parents that values of the code represent
+abbrev pub uninherited_list : List UninheritedFields → List Uninherited
+uninherited_list found = map uninherited_row found

@@ -4,7 +4,7 @@ ghost use Rattle.std.specs.Prelude.{◌≡◌, ◌++◌, ◌<◌, ◌≤◌, Lis
 ghost use Rattle.std.specs.List.{AllByRecursion};
 ghost use Rattle.bib_syntax.specs.Reading.{FieldReading};
 ghost use Rattle.bib_syntax.specs.Views.{entry_reading_of, field_of};
-ghost use Rattle.edit_entries.specs.Changes.{edits_of_entries, edits_of_entry, edits_of_field, edits_of_fields, removal_edits};
+ghost use Rattle.edit_entries.specs.Changes.{edits_of_entries, edits_of_entry, edits_of_field, edits_of_fields};
 ghost use Rattle.edit_entries.specs.Cuts.{ArePiecesCut};
 ghost use Rattle.edit_entries.specs.EditList.{edit_of};
 ghost use Rattle.edit_resolve.specs.Parents as spec;
@@ -12,37 +12,16 @@ ghost use Rattle.edit_resolve.specs.Resolved.{all_fields, field_resolutions, fie
 ghost use Rattle.edit_resolve.specs.Working.{AreAlong, AreFieldsCut, AreGivenCut, HasNames, IsNamedCut, fields_at, instead_at, last_or_removed, named_of, parent_lists, readings};
 
 use crate::file::File;
-use crate::gathering::Named;
+use crate::gathering::{Named, fields_of};
 use crate::giving::{given, substitute};
 use crate::parents::{Parent, is_resolved, parents_at};
 use crate::texts::{new_text, white_before};
 use bib_syntax::raw::{Pair, RawEntry};
 use bib_text::spanned::Spanned;
-use edit_entries::editing::Edit;
+use edit_entries::editing::{Edit, push_removal};
 use edit_entries::values::value_end;
 use std::alloc::{AllocError, Global};
 use std::collections::BTreeMap;
-
-// Adds the edit that removes a field, up to the next one. Does nothing if there is no next one.
-fn push_removal(
-    edits: &mut Vec<Edit>,
-    alloc: Global,
-    field: &Pair<'_>,
-    following: &[Pair<'_>],
-) -> Result<(), AllocError>
-    ensures { OnOk result (map edit_of edits.new.items ≡ map edit_of edits.old.items
-        ++ removal_edits (field_of field.now) (map field_of following.now)) }
-{
-    let [next, ..] = following else {
-        return Ok(());
-    };
-    edits.push(Edit {
-        start: field.key.span.start,
-        end: next.key.span.start,
-        text: String::new(alloc),
-    })?;
-    Ok(())
-}
 
 // Adds the edit of an entry's last resolved reference: the inherited fields replace it. If there are none, it is removed, or kept if no
 // field follows.
@@ -137,7 +116,7 @@ fn push_own(
     Ok(())
 }
 
-// Adds the edits of the fields of an entry that inherits new fields.
+// Adds the edits of the fields of an entry. `new` are the fields that it inherits.
 fn push_field_edits(
     edits: &mut Vec<Edit>,
     alloc: Global,
@@ -199,14 +178,6 @@ fn push_entry_edits(
     let own = &entry.v.fields;
     let new = without_first(all, own.len());
     push_field_edits(edits, alloc, file, text, given, new, own)
-}
-
-// Returns the fields at an index.
-fn fields_of<'f, 'a, 's>(fields: &'f [Vec<Named<'a, 's>>], index: usize) -> &'f [Named<'a, 's>]
-    requires { index < length fields.now }
-    ensures { map named_of result.now ≡ fields_at fields.now index }
-{
-    &fields[index]
 }
 
 // Returns the edits of the entries, which have these parents and fields.

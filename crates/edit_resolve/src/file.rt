@@ -28,7 +28,7 @@ pub(crate) struct File<'a, 's> {
     // The index of the first entry with each name in its fields `ids`.
     aliases: BTreeMap<&'s str, usize>,
     // The types of the entries.
-    pub(crate) kinds: Vec<EntryType>,
+    pub(crate) types: Vec<EntryType>,
 }
 
 // Adds the index of a name, if the name has none yet.
@@ -101,21 +101,21 @@ fn alias_indices<'s>(
 }
 
 // Returns the types of entries.
-fn kinds(alloc: Global, entries: &[Spanned<RawEntry<'_>>]) -> Result<Vec<EntryType>, AllocError>
-    ensures { IfOk result (λ kinds. kinds.items ≡ map type_of (map entry_reading_of entries.now)) }
+fn types(alloc: Global, entries: &[Spanned<RawEntry<'_>>]) -> Result<Vec<EntryType>, AllocError>
+    ensures { IfOk result (λ types. types.items ≡ map type_of (map entry_reading_of entries.now)) }
 {
-    let mut kinds = Vec::with_capacity(alloc, entries.len())?;
+    let mut types = Vec::with_capacity(alloc, entries.len())?;
     'entries: for entry in entries {
-        kinds.push(EntryType::new(alloc, entry.v.kind.v)?)?;
+        types.push(EntryType::new(alloc, entry.v.kind.v)?)?;
     }
-    Ok(kinds)
+    Ok(types)
 }
 
 // Returns whether a type is `xdata`.
-fn is_container(kind: &EntryType) -> bool
-    ensures { result ≡ requirements.is_container kind.now }
+fn is_container(entry_type: &EntryType) -> bool
+    ensures { result ≡ requirements.is_container entry_type.now }
 {
-    matches!(kind, EntryType::XData)
+    matches!(entry_type, EntryType::XData)
 }
 
 impl<'a, 's> File<'a, 's> {
@@ -131,7 +131,7 @@ impl<'a, 's> File<'a, 's> {
             entries,
             keys: key_indices(alloc, entries)?,
             aliases: alias_indices(alloc, entries)?,
-            kinds: kinds(alloc, entries)?,
+            types: types(alloc, entries)?,
         })
     }
 
@@ -152,7 +152,7 @@ impl<'a, 's> File<'a, 's> {
         ensures { result ≡ spec.container_index (readings self.now) (spec.entry_index (readings self.now) name.now) }
     {
         let index = self.entry_index(name)?;
-        if is_container(&self.kinds[index]) {
+        if is_container(&self.types[index]) {
             Some(index)
         } else {
             None

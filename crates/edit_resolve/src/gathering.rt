@@ -8,7 +8,7 @@ ghost use Rattle.bib_syntax.specs.Views.{entry_reading_of, field_of};
 ghost use Rattle.edit_resolve.specs.Inheritance.{keeps_name, name_by_crossref, passes_on, read_name};
 ghost use Rattle.edit_resolve.specs.Resolved.{as_itself, offers, renamed};
 ghost use Rattle.edit_resolve.specs.Working as spec;
-ghost use Rattle.edit_resolve.specs.Working.{HasNames, Offered, fields_at, instead_at, kind_at, named_of, readings};
+ghost use Rattle.edit_resolve.specs.Working.{HasNames, Offered, fields_at, instead_at, named_of, readings, type_at};
 
 use crate::file::File;
 use crate::giving::{given, substitute};
@@ -27,6 +27,17 @@ pub(crate) struct Named<'a, 's> {
     pub(crate) name: &'s str,
     // The field.
     pub(crate) field: &'a Pair<'s>,
+}
+
+// Returns the fields at an index.
+pub(crate) fn fields_of<'f, 'a, 's>(
+    fields: &'f [Vec<Named<'a, 's>>],
+    index: usize,
+) -> &'f [Named<'a, 's>]
+    requires { index < length fields.now }
+    ensures { map named_of result.now ≡ fields_at fields.now index }
+{
+    &fields[index]
 }
 
 // The fields of an entry, and the names that are taken.
@@ -214,25 +225,25 @@ fn own_fields<'a, 's>(
 }
 
 // Adds each field that `parent` offers, unless its name, or a name that excludes it, is taken. `found` contains the fields of
-// each entry, and `kinds` the types.
+// each entry, and `types` the types.
 fn push_parent<'a, 's>(
     gathered: &mut Gathered<'a, 's>,
     alloc: Global,
-    kinds: &[EntryType],
+    types: &[EntryType],
     child: &EntryType,
     parent: Parent,
     found: &[Vec<Named<'a, 's>>],
 ) -> Result<(), AllocError>
-    requires as_many { length kinds.now ≡ length found.now }
+    requires as_many { length types.now ≡ length found.now }
     requires within { parent.index < length found.now }
     ensures { OnOk result (Offered gathered.old
-        (offers parent.link (kind_at kinds.now parent.index) child.now (fields_at found.now parent.index)) gathered.new) }
+        (offers parent.link (type_at types.now parent.index) child.now (fields_at found.now parent.index)) gathered.new) }
 {
     push_offers(
         gathered,
         alloc,
         parent.link,
-        &kinds[parent.index],
+        &types[parent.index],
         child,
         &found[parent.index],
     )
@@ -242,17 +253,17 @@ fn push_parent<'a, 's>(
 fn push_parents<'a, 's>(
     gathered: &mut Gathered<'a, 's>,
     alloc: Global,
-    kinds: &[EntryType],
+    types: &[EntryType],
     child: &EntryType,
     parents: &[Parent],
     found: &[Vec<Named<'a, 's>>],
 ) -> Result<(), AllocError>
-    requires as_many { length kinds.now ≡ length found.now }
+    requires as_many { length types.now ≡ length found.now }
     requires within { All (λ p. p.index < length found.now) parents.now }
-    ensures { OnOk result (Offered gathered.old (spec.offered_at kinds.now child.now (fields_at found.now) parents.now) gathered.new) }
+    ensures { OnOk result (Offered gathered.old (spec.offered_at types.now child.now (fields_at found.now) parents.now) gathered.new) }
 {
     'parents: for parent in parents {
-        push_parent(gathered, alloc, kinds, child, *parent, found)?;
+        push_parent(gathered, alloc, types, child, *parent, found)?;
     }
     Ok(())
 }
@@ -282,8 +293,8 @@ pub(crate) fn with_inherited<'a, 's>(
     push_parents(
         &mut gathered,
         alloc,
-        &file.kinds,
-        &file.kinds[index],
+        &file.types,
+        &file.types[index],
         parents,
         found,
     )?;

@@ -198,7 +198,7 @@ fn author_name(parent: &EntryType, child: &EntryType) -> Option<&'static str>
     }
 }
 
-// Returns the new name of a field of a parent in an entry of the type `child` that refers to it by `crossref`, if it has one.
+// Returns the new name that a field of a parent gets by `crossref` in an entry of the type `child`, if it has one.
 pub(crate) fn name_by_crossref(
     parent: &EntryType,
     child: &EntryType,
@@ -261,7 +261,7 @@ fn is_annotation(name: &str) -> bool
     name.contains("+an")
 }
 
-// Returns whether a field of a parent is inherited under its own name by an entry of the type `child` that refers to it by `crossref`.
+// Returns whether an entry of the type `child` inherits a field of a parent by `crossref` under its own name.
 pub(crate) fn keeps_name(parent: &EntryType, child: &EntryType, name: &str) -> bool
     ensures { result ≡ spec.keeps_name parent.now child.now name.now }
 {

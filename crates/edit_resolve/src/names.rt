@@ -18,7 +18,7 @@ pub(crate) fn read_name(alloc: Global, name: &str) -> Result<String, AllocError>
     String::from_str(alloc, biber_name(&lower))
 }
 
-// Returns whether a set has a name, or one that excludes it.
+// Returns whether a set has a name, or a name that excludes it.
 pub(crate) fn is_ruled_out(names: &BTreeSet<String>, name: &str) -> bool
     ensures { result ≡ is_ruled_out_in (contains_text names.now) name.now }
 {

@@ -9,6 +9,7 @@ ghost use Rattle.bib_queries.specs.Texts.{text_list};
 ghost use Rattle.bib_syntax.specs.Views.{entry_reading_of, field_of, piece_of};
 ghost use Rattle.edit_strings.specs.Collected as texts;
 ghost use Rattle.edit_resolve.specs.Parents as spec;
+ghost use Rattle.edit_resolve.specs.Uninherited.{reference_parents};
 ghost use Rattle.edit_resolve.specs.Working.{HasNames, parent_lists, readings};
 
 use crate::file::File;
@@ -254,4 +255,22 @@ pub(crate) fn is_resolved(
     }
     let keys = field_keys(alloc, Link::Xdata, field)?;
     Ok(are_found(file, Link::Xdata, &keys))
+}
+
+// Returns the parents that a reference names, in order; none if it isn't resolved.
+pub(crate) fn reference_parents(
+    alloc: Global,
+    file: &File<'_, '_>,
+    field: &Pair<'_>,
+) -> Result<Vec<Parent>, AllocError>
+    requires { HasNames file.now }
+    ensures { IfOk result (λ found. found.items ≡ reference_parents (readings file.now) (field_of field.now)) }
+{
+    let mut found = Vec::new(alloc);
+    if !is_resolved(alloc, file, field)? {
+        return Ok(found);
+    }
+    push_field_parents(&mut found, alloc, file, Link::Crossref, field)?;
+    push_field_parents(&mut found, alloc, file, Link::Xdata, field)?;
+    Ok(found)
 }

@@ -17,15 +17,15 @@ use std::alloc::Global;
 
 /// Returns the text of a document in which inherited fields are written out, by the rules of inheritance of BibLaTeX.
 ///
-/// **References.** An entry inherits from the entries that its fields `crossref` (one key) and `xdata` (a list of keys) name, and from the
-/// entries that those inherit from. A field whose value isn't one literal names no entry. A key finds the first entry with this
-/// key, or else the first entry with this name in its fields `ids`; `xdata` finds only entries of the type `xdata`.
+/// **References.** An entry inherits from the entries that its fields `crossref` (one key) and `xdata` (a list of keys) name. These can
+/// inherit from others. A field whose value isn't one literal names no entry. A key finds the first entry with this key, or else the
+/// first entry with this name in its fields `ids`. In `xdata`, it finds nothing if this entry doesn't have the type `xdata`.
 ///
 /// **Fields.** By `xdata` an entry inherits all fields except `ids`, `options`, `crossref`, `xdata` and annotations. By `crossref` the
-/// titles of the parent get other names, such as `booktitle`, if the types of both entries have such a rule; then `shorttitle`,
+/// titles of the parent get other names, such as `booktitle`, if the types of both entries have such a rule. Then `shorttitle`,
 /// `sorttitle`, `indextitle` and `indexsorttitle` aren't inherited. A part of a book inherits the author of the book also as `bookauthor`.
 /// Annotations and `ids`, `xref`, `related`, `label`, `options`, `shorthand`, `sortkey` and other fields of the parent itself aren't
-/// inherited, and all other fields keep their names. A field of an `xdata` parent takes the place of an own field with its name; by
+/// inherited, and all other fields keep their names. A field of an `xdata` parent takes the place of an own field with its name. By
 /// `crossref` no own field is replaced. Names are compared as Biber reads them: in any ASCII case, and for example `address`, `journal` and
 /// `school` as `location`, `journaltitle` and `institution`. An entry with `date` inherits no `year`, `month` or `day`, and one with `year`
 /// no `date`.

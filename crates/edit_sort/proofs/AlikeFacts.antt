@@ -5,6 +5,7 @@ use Rattle.std.specs.List.{filter, list_any}
 use Rattle.std.specs.Option.{option_map_or}
 use Rattle.std.specs.Str.{str_eq_ignore_ascii_case, str_to_ascii_lowercase}
 use Rattle.std.proofs.lemmas.List.Folds.{list_any-append}
+use Rattle.bib_text.proofs.BoolFacts.{or_grouped}
 use Rattle.bib_syntax.specs.Grammar.{is_word}
 use Rattle.bib_syntax.specs.Reading.{Piece, FieldReading, EntryReading}
 use Rattle.bib_syntax.specs.Reading.Piece.{literal, abbreviation}
@@ -16,7 +17,7 @@ use Rattle.edit_format.specs.declared.style.Style.{Style}
 use Rattle.edit_format.proofs.LowerFacts.{lower_lower}
 use Rattle.edit_sort.specs.Sorted.{crossref, greatest, has_chain, names_key, one_text, rank, refers_to}
 use Rattle.edit_sort.proofs.GreatestFacts.{greatest_same}
-use Rattle.edit_sort.proofs.SetFacts.{any_same, any_through, or_assoc}
+use Rattle.edit_sort.proofs.SetFacts.{any_same, any_through}
 
 pub head_same : {A : Type 0} (x y : A) (xs ys : List A) → x ∷ xs ≡ y ∷ ys → x ≡ y
 head_same x y xs ys is = cc
@@ -128,7 +129,7 @@ any_split p q (x ∷ xs) = by_test (q x) (any_split p q xs)
         → (list_any p (cond b (x ∷ filter q xs) (filter q xs))
         || list_any p (cond (not b) (x ∷ filter (λ y. not (q y)) xs) (filter (λ y. not (q y)) xs)))
         ≡ (p x || list_any p xs)
-    by_test true both = or_assoc (p x) first second ∙ ap (λ b. p x || b) both
+    by_test true both = or_grouped (p x) first second ∙ ap (λ b. p x || b) both
     by_test false both = turned (p x) first second ∙ ap (λ b. p x || b) both
 
 any_in_order : (p : FieldReading → Bool) (names : List (List ℕ)) (fields : List FieldReading)

@@ -6,28 +6,30 @@ use Rattle.std.specs.Str.{IsCharBoundary}
 use Rattle.std.proofs.lemmas.List.{length-map, length-take-le, take_at}
 use Rattle.std.proofs.lemmas.List.Elements.{All-from_recursion, recursion_from_All}
 use Rattle.std.proofs.lemmas.List.Sorted.{All-permutation, length_permutation}
+use Rattle.edit_format.proofs.FileFacts.{stands_here}
 use Rattle.bib_text.specs.Places.{Place, place, between}
-use Rattle.bib_text.proofs.PlaceFacts.{ahead_then, ahead_char, ahead_run, char_left, same_place}
+use Rattle.bib_text.proofs.PlaceFacts.{ahead_then, ahead_char, char_within}
 use Rattle.bib_syntax.specs.Reading.{EntryReading, FileReading, then}
 use Rattle.bib_syntax.specs.Kept.{entry_alone}
 use Rattle.bib_syntax.specs.Grammar.{File, IsRawReading, longest}
 use Rattle.bib_syntax.specs.Grammar.{File as file}
-use Rattle.bib_syntax.proofs.FieldFacts.{ahead_fields, ahead_gap}
-use Rattle.bib_syntax.proofs.FileFacts.{ahead_head}
+use Rattle.bib_syntax.proofs.FieldFacts.{ahead_fields}
 use Rattle.edit_entries.specs.Documents.{Document, IsDocument}
-use Rattle.edit_entries.specs.Edits.{moved_entry, moved_file}
+use Rattle.edit_entries.specs.Edits.{moved_entry, moved_file, placeless}
 use Rattle.edit_entries.proofs.EditFacts.{text_stands}
 use Rattle.edit_entries.proofs.GrammarFacts.{moved-then}
-use Rattle.edit_entries.proofs.MovedFacts.{body_within, char_within, file_there}
+use Rattle.edit_entries.proofs.EntryCopyFacts.{rest_copied}
+use Rattle.edit_entries.proofs.EntryFacts.{ahead_to_fields}
+use Rattle.edit_entries.proofs.MovedFacts.{body_within}
 use Rattle.edit_entries.proofs.SplitFacts.{ahead_file_before, joined_file}
-use Rattle.edit_entries.proofs.ZoneFacts.{Frame, Inside, Zone, there}
+use Rattle.edit_entries.proofs.ZoneFacts.{there}
 use Rattle.edit_entries.proofs.CutFacts.{cut_file, cut_stood, stood}
 use Rattle.edit_entries.proofs.ByEntriesFacts.{ByEntries, by_entries}
-use Rattle.edit_entries.proofs.StandsFacts.{Stands, past}
+use Rattle.edit_entries.proofs.StandsFacts.{past}
 use Rattle.edit_sort.specs.Cuts.{AreItemsCut, IsEntryOfItemCut, IsItemCut}
-use Rattle.edit_sort.specs.Sorted.{AreEntriesInOrder, IsReadSorted, Item, comment_in, without_places, entry_bytes, gap_before, items, says_sorted, space_in, text_in_order}
+use Rattle.edit_sort.specs.Sorted.{AreEntriesInOrder, IsReadSorted, Item, comment_in, entry_bytes, gap_before, items, says_sorted, space_in, text_in_order}
 use Rattle.edit_sort.specs.Steps.{items_from, items_laid_out, place_after, run_after, spaces_from}
-use Rattle.edit_sort.proofs.PlacelessFacts.{file_placeless}
+use Rattle.edit_entries.proofs.PlacelessFacts.{file_placeless}
 use Rattle.edit_sort.proofs.PlainFacts.{ahead_plain, stood_plain}
 use Rattle.edit_sort.proofs.ReadFacts.{ItemReads, SpaceReads, gap_cut, item_reads}
 use Rattle.edit_sort.proofs.StepFacts.{listed, listed_order, text_is}
@@ -38,28 +40,16 @@ use Rattle.edit_sort.proofs.StepFacts.{listed, listed_order, text_is}
 pub record FileThere (says : FileReading) (u : Place) : Type 0 where
   pub reading : FileReading
   pub file : File longest u reading
-  pub alike : without_places reading ≡ without_places says
+  pub alike : placeless reading ≡ placeless says
 
 abbrev RestReads : List ℕ → FileReading → Type 0
 RestReads bytes says = (u : Place) → drop u.at u.text ≡ bytes → u.at ≤ length u.text → FileThere says u
 
-abbrev rest_frame : Place → Place → Frame
-rest_frame a u = record { old = a.text; new = u.text; move = λ n. n - a.at + u.at; from = a.at; to = u.at; end = length a.text + 1 }
-
 rest_reads : {a : Place} {says : FileReading} → File longest a says → a.at ≤ length a.text → RestReads (drop a.at a.text) says
 rest_reads {a} {says} x within u same within' =
-    let sizes : length a.text + u.at ≡ length u.text + a.at =
-    omega (arith, ap length same, length-drop a.at a.text, length-drop u.at u.text, within, within') in
-    let z : Zone (rest_frame a u) = record {
-      moves = λ n from below. omega arith;
-      same = ap (take (length a.text + 1 - a.at)) (sym same);
-      cut = λ {u = p} {v = q} {c = d} text char below. omega (arith, char_left char, char.next, ap length text, sizes);
-    } in
-    let start : Inside (rest_frame a u) a = record { text = refl; start = omega arith; end = omega (arith, within); moved = omega arith } in
-    let goes : there (rest_frame a u) a ≡ u = same_place refl (omega arith) in
     record {
       reading = moved_file (λ n. n - a.at + u.at) says;
-      file = subst (λ p. File longest p (moved_file (λ n. n - a.at + u.at) says)) goes (file_there z refl sizes start x);
+      file = rest_copied x within within' same;
       alike = file_placeless (λ n. n - a.at + u.at) says;
     }
 
@@ -106,11 +96,7 @@ file_parts text index {u} {says} same within cut (ByEntries.last x none) =
 file_parts text index {u} {says} same within cut
     (ByEntries.more {s = s} {v = v} {before = before} {rest = rest} {e = e} first none x file' others) =
     let to_start = ahead_file_before first in
-    let to_brace =
-    ahead_then (ahead_head x.head)
-    (ahead_then (ahead_run x.key.run)
-    (ahead_then (ahead_run x.white.run)
-    (ahead_then (ahead_char x.comma) (ahead_then (ahead_gap x.gap) (ahead_fields x.fields))))) in
+    let to_brace = ahead_then (ahead_to_fields x) (ahead_fields x.fields) in
     let to_end = ahead_then to_brace (ahead_char x.closes) in
     let start_text : s.text ≡ text = to_start.text ∙ same in
     let end_text : v.text ≡ text = to_end.text ∙ start_text in
@@ -170,19 +156,16 @@ file_parts text index {u} {says} same within cut
 
 -- ---- parsing in another order
 
-alike_then : (gap before rest reading : FileReading) (e e' : EntryReading) → without_places gap ≡ without_places before
-    → moved_entry (λ n. 0) e' ≡ moved_entry (λ n. 0) e → without_places reading ≡ without_places rest
-    → without_places (then gap (then (entry_alone e') reading)) ≡ without_places (then before (then (entry_alone e) rest))
+alike_then : (gap before rest reading : FileReading) (e e' : EntryReading) → placeless gap ≡ placeless before
+    → moved_entry (λ n. 0) e' ≡ moved_entry (λ n. 0) e → placeless reading ≡ placeless rest
+    → placeless (then gap (then (entry_alone e') reading)) ≡ placeless (then before (then (entry_alone e) rest))
 alike_then gap before rest reading e e' between_entries entry others =
     moved-then (λ n. 0) gap (then (entry_alone e') reading)
-    ∙ ap (λ r. then r (without_places (then (entry_alone e') reading))) between_entries
-    ∙ ap (then (without_places before))
-    (moved-then (λ n. 0) (entry_alone e') reading ∙ ap (λ y. then (entry_alone y) (without_places reading)) entry
+    ∙ ap (λ r. then r (placeless (then (entry_alone e') reading))) between_entries
+    ∙ ap (then (placeless before))
+    (moved-then (λ n. 0) (entry_alone e') reading ∙ ap (λ y. then (entry_alone y) (placeless reading)) entry
     ∙ ap (then (entry_alone (moved_entry (λ n. 0) e))) others ∙ sym (moved-then (λ n. 0) (entry_alone e) rest))
     ∙ sym (moved-then (λ n. 0) before (then (entry_alone e) rest))
-
-stands_here : (u : Place) (xs ys : List ℕ) → drop u.at u.text ≡ xs ++ ys → Stands u xs (past u xs)
-stands_here u xs ys here = record { same = refl; here = here ∙ ap (λ t. xs ++ t) (sym (text_stands u.text xs ys u.at here)); next = refl }
 
 -- the text has these spaces between its entries, each with the comment of the entry after it
 abbrev pub AreLaid : List ℕ → ℕ → List EntryReading → List (List ℕ) → List Item → Type 0
@@ -197,14 +180,14 @@ AreLaid text at (e ∷ es) (s ∷ ss) (i ∷ order) = (gap_before text at e ≡ 
 pub record OrderThere (says : FileReading) (spaces : List (List ℕ)) (order : List Item) (u : Place) : Type 0 where
   pub reading : FileReading
   pub file : File longest u reading
-  pub alike : without_places reading ≡ without_places says
+  pub alike : placeless reading ≡ placeless says
   pub laid : AreLaid u.text u.at reading.entries spaces order
 
 empty_map : {A B : Type 0} (f : A → B) (xs : List A) → map f xs ≡ [] → xs ≡ []
 empty_map f [] none = refl
 empty_map f (x ∷ xs) none = absurd (cc)
 
-no_entries : (reading says : FileReading) → without_places reading ≡ without_places says → says.entries ≡ [] → reading.entries ≡ []
+no_entries : (reading says : FileReading) → placeless reading ≡ placeless says → says.entries ≡ [] → reading.entries ≡ []
 no_entries reading says alike none =
     empty_map (moved_entry (λ n. 0)) reading.entries (ap (λ r. r.entries) alike ∙ ap (map (moved_entry (λ n. 0))) none)
 
@@ -296,7 +279,7 @@ as_many d places order in_order =
 pub record OrderRead (d : Document) (order : List Item) : Type 0 where
   pub reading : FileReading
   pub read : IsRawReading (text_in_order d order) reading
-  pub alike : without_places reading ≡ without_places (says_sorted d order)
+  pub alike : placeless reading ≡ placeless (says_sorted d order)
   pub laid : AreLaid (text_in_order d order) 0 reading.entries (spaces_from d.text 0 0 d.says.entries) order
 
 pub read_in_order : (d : Document) (places : List ℕ) (order : List Item) → IsDocument d
@@ -317,10 +300,10 @@ read_in_order d places order read in_order =
       read = said.file;
       alike =
           said.alike
-          ∙ ap without_places
+          ∙ ap placeless
           (said_with parts.befores spaces d.says.entries es parts.rest parts.spaces parts.none
           (length-spaces d.text 0 0 d.says.entries) (size ∙ sym (length-map order (λ i. i.entry))))
-          ∙ ap (λ says. without_places (record says { entries = es })) (sym parts.whole);
+          ∙ ap (λ says. placeless (record says { entries = es })) (sym parts.whole);
       laid = said.laid;
     }
 

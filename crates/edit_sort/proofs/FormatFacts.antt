@@ -1,5 +1,5 @@
 -- A sorted text is in order after formatting.
-use Rattle.std.proofs.Common.{◌≡◌, ℕ, suc, ◌+◌, ◌-◌, ◌≤◌, Bool, true, false, cond, List, [], ◌∷◌, ◌++◌, Option, None, Some, length, drop, take, map, refl, sym, ap, ◌∙◌, subst, arith}
+use Rattle.std.proofs.Common.{◌≡◌, ℕ, suc, ◌+◌, ◌-◌, Bool, true, false, cond, List, [], ◌∷◌, Option, None, Some, length, map, refl, sym, ap, ◌∙◌, subst, arith}
 use Rattle.std.specs.Prelude.{◌==◌, ◌||◌}
 use Rattle.std.specs.Char.{is_ascii_whitespace}
 use Rattle.std.specs.List.{list_any}
@@ -7,27 +7,17 @@ use Rattle.std.specs.List.Sorted.{IsSorted}
 use Rattle.std.proofs.lemmas.Bool.{and_parts}
 use Rattle.std.proofs.lemmas.Bool.Decides.{nat_tests}
 use Rattle.std.proofs.lemmas.List.{length-map}
-use Rattle.bib_text.specs.Places.{Place, place, between}
-use Rattle.bib_text.proofs.PlaceFacts.{ahead_then, ahead_char, ahead_run}
-use Rattle.bib_syntax.specs.Reading.{EntryReading, FileReading, then}
-use Rattle.bib_syntax.specs.Kept.{entry_alone}
+use Rattle.bib_text.specs.Places.{place}
+use Rattle.bib_syntax.specs.Reading.{EntryReading, FileReading}
 use Rattle.bib_syntax.specs.Recovery.{has_byte}
-use Rattle.bib_syntax.specs.Grammar.{File, IsRawReading, longest}
-use Rattle.bib_syntax.specs.Grammar.{File as file}
-use Rattle.bib_syntax.proofs.FieldFacts.{ahead_fields, ahead_gap}
-use Rattle.bib_syntax.proofs.FileFacts.{ahead_head, file_same}
+use Rattle.bib_syntax.specs.Grammar.{IsRawReading}
+use Rattle.bib_syntax.proofs.FileFacts.{file_same}
 use Rattle.edit_entries.specs.Documents.{Document, IsDocument}
-use Rattle.edit_entries.proofs.EditFacts.{text_stands}
-use Rattle.edit_entries.proofs.MovedFacts.{body_within, char_within}
-use Rattle.edit_entries.proofs.SplitFacts.{ahead_file_before, joined_file}
-use Rattle.edit_format.specs.Formatted.{content, entry_content, entry_in_order, entry_in_style, gap_in_style, line_end_of, line_ends, rest_in_style, says_in_order, text_in_style}
+use Rattle.edit_format.specs.Formatted.{entry_content, entry_in_order, gap_in_style, line_end_of, line_ends, text_in_style}
 use Rattle.edit_format.specs.declared.style.Style.{Style}
-use Rattle.edit_format.proofs.EntryFacts.{entry_read}
-use Rattle.edit_format.proofs.FieldFacts.{IsLineEnd}
-use Rattle.edit_format.proofs.FileFacts.{file_read, line_end_is, text_read}
-use Rattle.edit_format.proofs.GapFacts.{are_blank, blank_ends, gap_read}
-use Rattle.edit_entries.proofs.ByEntriesFacts.{ByEntries, by_entries}
-use Rattle.edit_entries.proofs.StandsFacts.{Stands, between_stands, past}
+use Rattle.edit_format.proofs.FileFacts.{AreGapsInStyle, file_read, line_end_is}
+use Rattle.edit_format.proofs.GapFacts.{are_blank, blank_ends}
+use Rattle.edit_entries.proofs.ByEntriesFacts.{by_entries}
 use Rattle.edit_sort.specs.Sorted.{AreEntriesInOrder, IsSortedText, Item, entry_place, gap_before, item_cmp, items, place_at, rank, text_in_order}
 use Rattle.edit_sort.specs.Steps.{gaps_from, items_from, run_after}
 use Rattle.edit_sort.proofs.AlikeFacts.{PassAlike, content_keeps, head_same, order_keeps, rank_alike, rank_kept, rest_same}
@@ -66,93 +56,16 @@ SameSigns text at [] (gap ∷ gaps) = ⊥
 SameSigns text at (e ∷ es) [] = ⊥
 SameSigns text at (e ∷ es) (gap ∷ gaps) = (has_byte 64 (gap_before text at e) ≡ has_byte 64 gap) × SameSigns text (e.end + 1) es gaps
 
--- the rest of a formatted file parses, and each of its gaps contains an at sign exactly if the given gap at its index does
-record SignsThere (gaps : List (List ℕ)) (u : Place) : Type 0 where
-  reading : FileReading
-  file : File longest u reading
-  signs : SameSigns u.text u.at reading.entries gaps
-
-stands_here : (u : Place) (xs ys : List ℕ) → drop u.at u.text ≡ xs ++ ys → Stands u xs (past u xs)
-stands_here u xs ys here = record { same = refl; here = here ∙ ap (λ t. xs ++ t) (sym (text_stands u.text xs ys u.at here)); next = refl }
-
-no_entries : (reading : FileReading) (says : FileReading) → content reading ≡ content says → says.entries ≡ [] → reading.entries ≡ []
-no_entries reading says alike none = by_list reading.entries (ap (λ r. r.entries) alike ∙ ap (map entry_content) none)
-  where
-    by_list : (es : List EntryReading) → map entry_content es ≡ [] → es ≡ []
-    by_list [] is = refl
-    by_list (e ∷ es) is = absurd (cc)
-
-signs_there : (line_end : List ℕ) (style : Style) (blank_lines : Option ℕ) {a u : Place} {says : FileReading}
-    → IsLineEnd line_end → ByEntries a says → a.at ≤ length a.text → u.at ≤ length u.text
-    → drop u.at u.text ≡ rest_in_style line_end style blank_lines a.text a.at says.entries
-    → SignsThere (gaps_from a.text a.at says.entries) u
-signs_there line_end style blank_lines {a} {u} {says} ends (ByEntries.last x none) within within' here =
-    let r = file_read line_end style blank_lines {a = a} {u = u} {says = says} ends (ByEntries.last x none) within within' here in
-    record {
-      reading = r.reading;
-      file = r.file;
-      signs =
-          subst (λ gaps. SameSigns u.text u.at r.reading.entries gaps) (sym (ap (gaps_from a.text a.at) none))
-          (subst (λ es. SameSigns u.text u.at es [])
-          (sym
-          (no_entries r.reading (says_in_order style a.text says) r.alike (ap (map (entry_in_order style a.text)) none))) tt);
-    }
-signs_there line_end style blank_lines {a} {u} ends
-    (ByEntries.more {s = s} {v = v} {before = before} {rest = rest} {e = e} first none x file' others) within
-    within' here =
-    let to_start = ahead_file_before first in
-    let to_brace =
-    ahead_then (ahead_head x.head)
-    (ahead_then (ahead_run x.key.run)
-    (ahead_then (ahead_run x.white.run)
-    (ahead_then (ahead_char x.comma) (ahead_then (ahead_gap x.gap) (ahead_fields x.fields))))) in
-    let to_end = ahead_then to_brace (ahead_char x.closes) in
-    let end_text : v.text ≡ a.text = to_end.text ∙ to_start.text in
-    let end_within : v.at ≤ length v.text = char_within x.closes in
-    let next : v.at ≡ x.brace.at + 1 = x.closes.next in
-    let end_is : e.end + 1 ≡ v.at = omega (arith, x.ends) in
-    let entry_bytes = entry_in_style line_end style a.text e in
-    let rest_bytes = rest_in_style line_end style style.blank_lines a.text (e.end + 1) rest.entries in
-    let old : gap_before a.text a.at e ≡ between a s = ap (λ n. take (n - a.at) (drop a.at a.text)) x.starts in
-    let gap = gap_in_style line_end blank_lines (between a s) in
-    let whole : drop u.at u.text ≡ gap ++ (entry_bytes ++ rest_bytes) =
-    here ∙ ap (λ es. rest_in_style line_end style blank_lines a.text a.at (es ++ e ∷ rest.entries)) none
-    ∙ ap (λ n. gap_in_style line_end blank_lines (take (n - a.at) (drop a.at a.text)) ++ (entry_bytes ++ rest_bytes)) x.starts in
-    let p = past u gap in
-    let s0 = stands_here u gap (entry_bytes ++ rest_bytes) whole in
-    let here' : drop p.at p.text ≡ entry_bytes ++ rest_bytes = text_stands u.text gap (entry_bytes ++ rest_bytes) u.at whole in
-    let q = past p entry_bytes in
-    let s1 = stands_here p entry_bytes rest_bytes here' in
-    let entry = entry_read line_end style a.text ends to_start.text x s1 in
-    let here'' : drop q.at q.text ≡ rest_in_style line_end style style.blank_lines v.text v.at rest.entries =
-    text_stands p.text entry_bytes rest_bytes p.at here'
-    ∙ ap (λ n. rest_in_style line_end style style.blank_lines a.text n rest.entries) end_is
-    ∙ ap (λ t. rest_in_style line_end style style.blank_lines t v.at rest.entries) (sym end_text) in
-    let later =
-    signs_there line_end style style.blank_lines {a = v} {u = q} {says = rest} ends others end_within
-    (body_within entry.block.body) here'' in
-    let start_within : s.at ≤ length a.text = omega (arith, to_end.at, end_within, ap length end_text) in
-    let before' = gap_read line_end blank_lines ends.blank first none start_within x.head.sign s0 entry.block.head.sign in
-    let e' = entry.reading in
-    let new : gap_before u.text u.at e' ≡ gap =
-    ap (λ n. take (n - u.at) (drop u.at u.text)) entry.starts ∙ between_stands gap s0 in
-    let sign : has_byte 64 (gap_before u.text u.at e') ≡ has_byte 64 (gap_before a.text a.at e) =
-    ap (has_byte 64) new ∙ sign_in_style line_end blank_lines (between a s) ends.blank ∙ ap (has_byte 64) (sym old) in
-    let others_there : SameSigns u.text (e'.end + 1) later.reading.entries (gaps_from a.text (e.end + 1) rest.entries) =
-    subst (λ n. SameSigns u.text n later.reading.entries (gaps_from a.text (e.end + 1) rest.entries)) (sym entry.ends)
-    (subst (λ n. SameSigns u.text q.at later.reading.entries (gaps_from a.text n rest.entries)) (sym end_is)
-    (subst (λ t. SameSigns u.text q.at later.reading.entries (gaps_from t v.at rest.entries)) end_text later.signs)) in
-    record {
-      reading = then before'.reading (then (entry_alone e') later.reading);
-      file = joined_file before'.file (file.block entry.block later.file);
-      signs =
-          subst
-          (λ es.
-          SameSigns u.text u.at (es ++ e' ∷ later.reading.entries) (gaps_from a.text a.at (before.entries ++ e ∷ rest.entries)))
-          (sym before'.none)
-          (subst (λ es. SameSigns u.text u.at (e' ∷ later.reading.entries) (gaps_from a.text a.at (es ++ e ∷ rest.entries))) (sym none)
-          (sign, others_there));
-    }
+gaps_signed : (line_end : List ℕ) (style : Style) (blank_lines : Option ℕ) (new old : List ℕ) (m n : ℕ)
+    (es' es : List EntryReading) → are_blank line_end ≡ true → AreGapsInStyle line_end style blank_lines new old m n es' es
+    → SameSigns new m es' (gaps_from old n es)
+gaps_signed line_end style blank_lines new old m n [] [] ends styled = tt
+gaps_signed line_end style blank_lines new old m n [] (e ∷ es) ends styled = absurd styled
+gaps_signed line_end style blank_lines new old m n (e' ∷ es') [] ends styled = absurd styled
+gaps_signed line_end style blank_lines new old m n (e' ∷ es') (e ∷ es) ends styled = (
+  ap (has_byte 64) styled.0 ∙ sign_in_style line_end blank_lines (gap_before old n e) ends,
+  gaps_signed line_end style style.blank_lines new old (e'.end + 1) (e.end + 1) es' es ends styled.1,
+)
 
 -- ---- runs, ranks and places in two lists of items
 
@@ -224,16 +137,15 @@ in_style_in_order style d after places read read' is sorted =
     let all' = after.says.entries in
     let line_end = line_end_of d.text in
     let u = place after.text 0 in
+    let ends = line_end_is d.text in
     let there =
-    signs_there line_end style None {a = place d.text 0} {u = u} {says = d.says} (line_end_is d.text) (by_entries read)
-    (omega arith) (omega arith) is in
+    file_read line_end style None {a = place d.text 0} {u = u} {says = d.says} ends (by_entries read) (omega arith) (omega arith) is in
     let said : after.says ≡ there.reading = file_same read' there.file in
     let signs : SameSigns after.text 0 all' (gaps_from d.text 0 all) =
-    subst (λ r. SameSigns after.text 0 r.entries (gaps_from d.text 0 all)) (sym said) there.signs in
-    let laid = text_read style d.text d.says read in
-    let again : after.says ≡ laid.tells = file_same read' (subst (λ t. IsRawReading t laid.tells) (sym is) laid.read) in
+    subst (λ r. SameSigns after.text 0 r.entries (gaps_from d.text 0 all)) (sym said)
+    (gaps_signed line_end style None after.text d.text 0 0 there.reading.entries all ends.blank there.gaps) in
     let alike : map entry_content all' ≡ map entry_content (map (entry_in_order style d.text) all) =
-    ap (λ r. map entry_content r.entries) again ∙ ap (λ r. r.entries) laid.alike in
+    ap (λ r. map entry_content r.entries) said ∙ ap (λ r. r.entries) there.alike in
     let size : length all' ≡ length all =
     sym (length-map all' entry_content) ∙ ap length alike ∙ length-map (map (entry_in_order style d.text) all) entry_content
     ∙ length-map all (entry_in_order style d.text) in

@@ -21,7 +21,7 @@ gathered_more f old new x y rest all is same whole =
     ap (λ l. map f l ++ rest) is ∙ ap (λ l. l ++ rest) (map-append f old (x ∷ []))
     ∙ append_assoc (map f old) (f x ∷ []) rest ∙ ap (λ z. map f old ++ z ∷ rest) same ∙ whole
 
--- the text before a comment is the space of the gap
+-- the text from the start of a gap to its comment is the space of the gap
 pub space_is : (is_first : Bool) (text gap comment : List ℕ) (at start : ℕ) → gap ≡ take (start - at) (drop at text)
     → comment ≡ comment_in is_first gap → at ≤ start → start ≤ length text
     → take ((start - length comment) - at) (drop at text) ≡ space_in is_first (take (start - at) (drop at text))

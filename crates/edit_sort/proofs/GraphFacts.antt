@@ -7,6 +7,7 @@ use Rattle.std.proofs.lemmas.List.FromFn.{get_or-map-range_with_len, length-map-
 use Rattle.bib_collections.specs.Graph.{AreOnCycles, Graph, HasNoCycle, IsInRange, Leads, Solves, more, one, refs_of}
 use Rattle.bib_collections.specs.Search.{is_marked}
 use Rattle.bib_collections.proofs.Walks.{below_from_edge, map_agree, one_solution}
+use Rattle.bib_collections.proofs.LeadFacts.{first_edge}
 use Rattle.edit_sort.specs.Ranks.{AreCyclesCut, has_walk, length_by, longest, longest_chains, one_above}
 use Rattle.edit_sort.specs.Sorted.{greatest}
 use Rattle.edit_sort.proofs.GreatestFacts.{greatest_after, greatest_either, greatest_full, greatest_none, greatest_same, one_after}
@@ -63,10 +64,6 @@ longest_on_cycle graph most index cycle =
 
 no_edge : (r : ℕ) → Contains [] r → ⊥
 no_edge r edge = omega (arith, edge.1)
-
-first_edge : {graph : Graph} {a b : ℕ} → Leads graph a b → (r : ℕ) × Contains (refs_of graph a) r
-first_edge {b = b} (one edge) = (b, edge)
-first_edge (more {b = b} edge leads) = (b, edge)
 
 -- ---- without the references on cycles
 

@@ -1,10 +1,6 @@
 -- Lengths of chains, computed index by index.
-use Rattle.std.proofs.Common.{◌≡◌, inl, inr, ℕ, ◌+◌, ◌<◌, max, min, List, drop, get_or, length, map, sym, ap, ◌∙◌, arith}
-use Rattle.std.proofs.lemmas.Bool.{cases_lt, le-ltb}
+use Rattle.std.proofs.Common.{◌≡◌, ℕ, ◌+◌, ◌<◌, max, min, List, drop, get_or, length, map, sym, ap, ◌∙◌, arith}
 use Rattle.std.proofs.lemmas.List.{drop_more}
-use Rattle.std.proofs.lemmas.List.Elements.{Contains-get_or}
-use Rattle.bib_collections.specs.Graph.{Graph, IsTopologicalOrder}
-use Rattle.bib_collections.proofs.Work.{as_one, times_from_contains}
 use Rattle.edit_sort.specs.Ranks.{one_above}
 
 -- the greatest length before the first index is 0
@@ -24,14 +20,3 @@ above_more most f indices i found next within is =
 -- the greatest length after the last index is the result
 pub above_all : (found : ℕ) → max found 0 ≡ found
 above_all found = omega arith
-
--- each index of an order is one of the graph
-pub order_within : (graph : Graph) (order : List ℕ) (i : ℕ) → IsTopologicalOrder graph order → i < length order
-    → get_or order i 0 < length graph
-order_within graph order i is within =
-    let index : ℕ = get_or order i 0 in
-    let there = times_from_contains index order (Contains-get_or order i 0 within) in
-    elim (cases_lt index (length graph)) [
-      | inl below ↦ below
-      | inr above ↦ absurd (omega (arith, there, is.once index, as_one _ _ (le-ltb index (length graph) above)))
-    ]

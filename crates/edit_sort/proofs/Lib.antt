@@ -13,7 +13,6 @@ pub mod LineFacts
 pub mod OneOrderFacts
 pub mod OrderFacts
 pub mod ParentFacts
-pub mod PlacelessFacts
 pub mod PlainFacts
 pub mod RankFacts
 pub mod ReadFacts

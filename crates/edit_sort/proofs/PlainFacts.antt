@@ -1,11 +1,11 @@
 -- Plain text: it has no at sign and ends each of its line comments, so it parses to the empty reading wherever it occurs.
 use Rattle.std.proofs.Common.{◌≡◌, inl, inr, ℕ, ◌<◌, ◌≤◌, Bool, true, false, List, [], ◌∷◌, ◌++◌, length, refl, sym, ap, ◌∙◌, subst, arith}
-use Rattle.std.specs.Prelude.{◌==◌, ◌&&◌, ◌||◌, not}
+use Rattle.std.specs.Prelude.{◌==◌, ◌&&◌, not}
 use Rattle.std.specs.Char.{is_ascii_whitespace}
 use Rattle.std.specs.List.{list_all}
 use Rattle.std.proofs.lemmas.Bool.{cases_lt, eqb-true, not-false, and_parts}
-use Rattle.std.proofs.lemmas.Bool.Decides.{nat_tests}
 use Rattle.std.proofs.lemmas.List.Folds.{list_any-append}
+use Rattle.edit_format.proofs.GapFacts.{blank_small, blank_skipped}
 use Rattle.bib_text.specs.Places.{Place, CharAt, Run, between}
 use Rattle.bib_text.specs.Places.Run.{stop, step}
 use Rattle.bib_text.proofs.PlaceFacts.{Ahead, ahead_here, ahead_then, ahead_char, ahead_run, pass_clash, same_char, same_place, stops_at, test_clash}
@@ -15,6 +15,7 @@ use Rattle.bib_syntax.specs.Recovery.{has_byte}
 use Rattle.bib_syntax.proofs.FieldFacts.{ahead_identifier}
 use Rattle.bib_syntax.proofs.FileFacts.{ahead_body}
 use Rattle.bib_text.proofs.BoundaryFacts.{not_over}
+use Rattle.bib_text.proofs.BoolFacts.{or_false_right}
 use Rattle.edit_entries.proofs.SplitFacts.{FileBefore, ahead_file_before}
 use Rattle.edit_entries.proofs.ZoneFacts.{Frame, Zone, Inside, there, inside_between, char_there, run_there}
 use Rattle.edit_entries.proofs.CutFacts.{Stood, stood}
@@ -66,14 +67,10 @@ plain_there z iu iv (Plain.line_comment sign line feed rest) =
 
 -- ---- text before an at sign that contains none
 
-pub or_right : (x y : Bool) → (x || y) ≡ false → y ≡ false
-or_right true y is = absurd (cc)
-or_right false y is = is
-
 none_later : {u w s : Place} → Ahead u w → Ahead w s → s.at ≤ length u.text → has_byte 64 (between u s) ≡ false
     → has_byte 64 (between w s) ≡ false
 none_later {u} {w} {s} first rest within clear =
-    or_right (has_byte 64 (between u w)) (has_byte 64 (between w s))
+    or_false_right (has_byte 64 (between u w)) (has_byte 64 (between w s))
     (sym (list_any-append (λ b. b == 64) (between u w) (between w s))
     ∙ sym (ap (has_byte 64) (parted first rest within)) ∙ clear)
 
@@ -116,12 +113,6 @@ before_plain {u} {s} (FileBefore.block b others) sign within clear =
 
 -- ---- plain text that is cut after white space at its start
 
-white_small : (b : ℕ) → is_ascii_whitespace b ≡ true → b < 128
-white_small b is = grind (arith, nat_tests)
-
-white_skipped : (b : ℕ) → is_ascii_whitespace b ≡ true → (not (b == 64) && not (b == 37)) ≡ true
-white_skipped b is = grind (arith, nat_tests)
-
 pub white_split : {u m s : Place} (white : List ℕ) → list_all is_ascii_whitespace white ≡ true → Stands u white m
     → Plain u s → m.at ≤ s.at → Plain u m × Plain m s
 white_split {u} {m} {s} [] all stands plain below =
@@ -129,15 +120,15 @@ white_split {u} {m} {s} [] all stands plain below =
 white_split (b ∷ bs) all stands Plain.none below = absurd (omega (arith, stands.next))
 white_split {u} {m} {s} (b ∷ bs) all stands (Plain.skipped char passes rest) below =
     let is = and_parts (is_ascii_whitespace b) (list_all is_ascii_whitespace bs) all in
-    let here = ascii b (white_small b is.0) (first_part (b ∷ []) bs stands) in
+    let here = ascii b (blank_small b is.0) (first_part (b ∷ []) bs stands) in
     let same = same_char char here in
     let others =
     white_split {u = past u (b ∷ [])} {m = m} {s = s} bs is.1 (last_part (b ∷ []) bs stands)
     (subst (λ p. Plain p s) same.1 rest) below in
-    (Plain.skipped here (white_skipped b is.0) others.0, others.1)
+    (Plain.skipped here (blank_skipped b is.0) others.0, others.1)
 white_split {u} {m} {s} (b ∷ bs) all stands (Plain.line_comment sign line feed rest) below =
     let is = and_parts (is_ascii_whitespace b) (list_all is_ascii_whitespace bs) all in
-    let here = ascii b (white_small b is.0) (first_part (b ∷ []) bs stands) in
+    let here = ascii b (blank_small b is.0) (first_part (b ∷ []) bs stands) in
     let same : 37 ≡ b = (same_char sign here).0 in
     absurd (test_clash (is_ascii_whitespace b) is.0 (ap is_ascii_whitespace (sym same)))
 

@@ -1,32 +1,28 @@
 -- Texts that parse to the same reading wherever they occur.
-use Rattle.std.proofs.Common.{◌≡◌, inl, inr, ℕ, suc, ◌+◌, ◌-◌, ◌<◌, ◌≤◌, Bool, true, false, cond, List, [], ◌∷◌, ◌++◌, length, drop, take, refl, sym, ap, ◌∙◌, subst, arith, length-drop}
+use Rattle.std.proofs.Common.{◌≡◌, inl, inr, ℕ, suc, ◌+◌, ◌-◌, ◌≤◌, Bool, true, false, cond, List, [], ◌∷◌, ◌++◌, length, drop, take, refl, sym, ap, ◌∙◌, subst, arith, length-drop}
 use Rattle.std.specs.Prelude.{◌&&◌}
 use Rattle.std.specs.Char.{is_ascii_whitespace}
 use Rattle.std.specs.List.{list_all, prefix_len}
-use Rattle.std.proofs.lemmas.Bool.{cases_lt}
 use Rattle.std.proofs.lemmas.List.{length-take-le, take-append-drop, take-take}
 use Rattle.bib_text.specs.Places.{Place, CharAt, between}
-use Rattle.bib_text.proofs.PlaceFacts.{Ahead, ahead_then, ahead_char, ahead_run, same_char, same_place}
+use Rattle.bib_text.proofs.PlaceFacts.{Ahead, ahead_then, ahead_char}
+use Rattle.bib_text.proofs.BoolFacts.{or_false_right}
 use Rattle.bib_syntax.specs.Reading.{EntryReading, FileReading, empty_reading}
 use Rattle.bib_syntax.specs.Kept.{entry_alone}
 use Rattle.bib_syntax.specs.Recovery.{has_byte}
 use Rattle.bib_syntax.specs.Grammar.{Block, longest}
-use Rattle.bib_syntax.proofs.FieldFacts.{ahead_fields, ahead_gap}
-use Rattle.bib_syntax.proofs.FileFacts.{ahead_head}
-use Rattle.edit_entries.specs.Edits.{moved_entry, moved_file}
-use Rattle.bib_text.proofs.BoundaryFacts.{not_over}
-use Rattle.edit_entries.proofs.GrammarFacts.{block_there}
-use Rattle.edit_entries.proofs.MovedFacts.{char_within, file_before_there}
-use Rattle.edit_entries.proofs.SplitFacts.{EntryBlock, FileBefore, ahead_file_before, block_of}
+use Rattle.edit_entries.specs.Edits.{moved_entry, moved_file, placeless}
+use Rattle.edit_entries.proofs.MovedFacts.{file_before_there}
+use Rattle.edit_entries.proofs.SplitFacts.{EntryBlock, FileBefore, ahead_file_before}
 use Rattle.edit_entries.proofs.ZoneFacts.{there, char_there, inside_between}
 use Rattle.edit_entries.proofs.CutFacts.{Stood, stood}
-use Rattle.edit_entries.proofs.ElementFacts.{one_byte, parted}
-use Rattle.edit_entries.proofs.StandsFacts.{Stands, ahead_stands, ascii, between_stands, copied, copied_before, copy_frame, first_part, last_part, past, stands_between}
-use Rattle.edit_sort.specs.Sorted.{after_blank_line, begins_run, comment_in, has_block_sign, near_comment, without_places, space_in, without_white}
+use Rattle.edit_entries.proofs.EntryCopyFacts.{entry_copied}
+use Rattle.edit_entries.proofs.StandsFacts.{Stands, ahead_stands, ascii, between_stands, copied_before, copy_frame, first_part, last_part, past, stands_between}
+use Rattle.edit_sort.specs.Sorted.{after_blank_line, begins_run, comment_in, has_block_sign, near_comment, space_in, without_white}
 use Rattle.edit_sort.proofs.FeedFacts.{before_then, clear_of, feed_cut, file_before_inside}
 use Rattle.edit_sort.proofs.LineFacts.{AfterFeed, feed_before}
-use Rattle.edit_sort.proofs.PlacelessFacts.{entry_placeless, file_placeless}
-use Rattle.edit_sort.proofs.PlainFacts.{Plain, ahead_plain, before_plain, or_right, plain_read, plain_there, stood_plain, white_split}
+use Rattle.edit_entries.proofs.PlacelessFacts.{entry_placeless, file_placeless}
+use Rattle.edit_sort.proofs.PlainFacts.{Plain, ahead_plain, before_plain, plain_read, plain_there, stood_plain, white_split}
 
 -- ---- an entry
 
@@ -40,51 +36,15 @@ pub record EntryThere (e : EntryReading) (u v : Place) : Type 0 where
 
 pub entry_there : {a b u v : Place} {e : EntryReading} → EntryBlock a e b → Stands u (between a b) v → EntryThere e u v
 entry_there {a} {b} {u} {v} {e} x s =
-    let to_brace =
-    ahead_then (ahead_head x.head)
-    (ahead_then (ahead_run x.key.run)
-    (ahead_then (ahead_run x.white.run)
-    (ahead_then (ahead_char x.comma) (ahead_then (ahead_gap x.gap) (ahead_fields x.fields))))) in
-    let whole = ahead_then to_brace (ahead_char x.closes) in
-    let within : b.at ≤ length a.text = omega (arith, char_within x.closes, ap length whole.text) in
-    let cut : between a b ≡ between a x.brace ++ 125 ∷ [] =
-    parted to_brace (ahead_char x.closes) within ∙ ap (λ t. between a x.brace ++ t) (one_byte 125 (omega arith) x.closes) in
-    let s' : Stands u (between a x.brace ++ 125 ∷ []) v = subst (λ t. Stands u t v) cut s in
-    let brace = ascii 125 (omega arith) (last_part (between a x.brace) (125 ∷ []) s') in
-    let m = past u (between a x.brace) in
-    let next : v.at ≡ m.at + 1 = brace.next in
-    let over =
-    λ (p q : Place) (d : ℕ) (same : p.text ≡ u.text) (char : CharAt p d q) (low : p.at < v.at).
-    last_char m p q v same char brace low next in
-    let c = copied whole within s over in
+    let c = entry_copied x s in
     let move = λ (n : ℕ). n - a.at + u.at in
-    let last_next : b.at ≡ x.brace.at + 1 = x.closes.next in
-    let size : v.at + a.at ≡ b.at + u.at = omega (arith, c.end.moved, ap (λ p. p.at) c.goes_end) in
     record {
       reading = moved_entry move e;
-      block = subst (λ p. Block longest p (entry_alone (moved_entry move e)) v) c.goes_start
-          (subst (λ p. Block longest (there (copy_frame a b u) a) (entry_alone (moved_entry move e)) p) c.goes_end
-          (block_there c.zone c.start c.end (block_of x)));
+      block = c.block;
       alike = entry_placeless move e;
-      starts = omega (arith, x.starts);
-      ends = omega (arith, x.ends, last_next, size, to_brace.at);
+      starts = c.starts;
+      ends = c.ends;
     }
-  where
-    last_char : (m p q v : Place) {d : ℕ} → p.text ≡ m.text → CharAt p d q → CharAt m 125 v → p.at < v.at → v.at ≡ m.at + 1 → q.at ≤ v.at
-    last_char m p q v {d} same char brace low next =
-        elim (cases_lt p.at m.at) [
-          | inl before ↦ omega (
-            arith,
-            not_over m.text m.at
-                (inr (125, v, record { same = brace.same; here = brace.here; next = brace.next })) same char
-                before,
-            next,
-          )
-          | inr past_it ↦
-              let here : p ≡ m = same_place same (omega arith) in
-              let at : q ≡ v = (same_char char (subst (λ x. CharAt x 125 v) (sym here) brace)).1 in
-              omega (arith, ap (λ x. x.at) at)
-        ]
 
 -- a comment and the entry after it parse in another text
 pub record ItemThere (bytes : List ℕ) (e : EntryReading) (u v : Place) : Type 0 where
@@ -114,7 +74,7 @@ item_reads {m} {s} {b} {e} plain within x u v both =
 pub record BeforeThere (before : FileReading) (u v : Place) : Type 0 where
   pub reading : FileReading
   pub file : FileBefore u reading v
-  pub alike : without_places reading ≡ without_places before
+  pub alike : placeless reading ≡ placeless before
 
 -- a space parses to the same reading wherever it occurs before a character
 abbrev pub SpaceReads : List ℕ → FileReading → Type 0
@@ -295,7 +255,7 @@ comment_cut is_first {a} {s} {x} {before} first sign within = by_run (begins_run
 
     by_run : (c : Bool) → begins_run is_first gap ≡ c → BeforeCut (cond c (near_comment near) (without_white gap)) a s before
     by_run true is = by_sign (has_block_sign near) refl
-    by_run false is = plain_cut first sign within (or_right is_first (has_byte 64 gap) is)
+    by_run false is = plain_cut first sign within (or_false_right is_first (has_byte 64 gap) is)
 
 pub gap_cut : (is_first : Bool) {a s x : Place} {before : FileReading} → FileBefore a before s → CharAt s 64 x
     → s.at ≤ length a.text → GapCut is_first a s before

@@ -6,10 +6,10 @@ use Rattle.std.proofs.lemmas.Bool.{cases_lt, eq-eqb}
 use Rattle.std.proofs.lemmas.Bool.Decides.{eqb_tells}
 use Rattle.std.proofs.lemmas.List.{get_or-set_other, get_or-set_same, get_or-take, get_or_past, length-set, length-take-le, take_all}
 use Rattle.std.proofs.lemmas.List.Folds.{list_any-append}
+use Rattle.std.proofs.Math.Bool.{or-false}
 use Rattle.bib_collections.specs.Graph.{Graph, refs_of}
 use Rattle.bib_collections.specs.Search.{is_marked}
 use Rattle.edit_sort.specs.Ranks.{AreCyclesCut}
-use Rattle.edit_sort.proofs.SetFacts.{or_none}
 
 -- ---- one more child
 
@@ -23,13 +23,13 @@ child_added graph at child within test index =
           ap (λ n. list_any test (refs_of (set graph at (refs_of graph at ++ child ∷ [])) n)) (sym same.1)
           ∙ ap (list_any test) (get_or-set_same graph at (refs_of graph at ++ child ∷ []) [] within)
           ∙ list_any-append test (refs_of graph at) (child ∷ [])
-          ∙ ap (λ b. list_any test (refs_of graph at) || b) (or_none (test child))
+          ∙ ap (λ b. list_any test (refs_of graph at) || b) (or-false (test child))
           ∙ ap (λ n. list_any test (refs_of graph n) || test child) same.1
           ∙ ap (λ b. list_any test (refs_of graph index) || (b && test child)) (sym (eq-eqb at index same.1))
       | inr other ↦
           ap (list_any test)
           (get_or-set_other graph at index (refs_of graph at ++ child ∷ []) [] (λ is. other.1 (sym is)))
-          ∙ sym (or_none (list_any test (refs_of graph index)))
+          ∙ sym (or-false (list_any test (refs_of graph index)))
           ∙ ap (λ b. list_any test (refs_of graph index) || (b && test child)) (sym other.0)
     ]
 

@@ -4,18 +4,8 @@ use Rattle.std.specs.Prelude.{◌&&◌, ◌||◌}
 use Rattle.std.specs.List.{AllByRecursion, Contains, list_any}
 use Rattle.std.proofs.lemmas.List.{map-append, take_more}
 use Rattle.std.proofs.lemmas.List.Folds.{list_any-append, list_any_at}
-
-pub or_none : (b : Bool) → (b || false) ≡ b
-or_none true = refl
-or_none false = refl
-
-pub or_assoc : (a b c : Bool) → ((a || b) || c) ≡ (a || (b || c))
-or_assoc true b c = refl
-or_assoc false b c = refl
-
-pub or_later : (x y : Bool) → y ≡ true → (x || y) ≡ true
-or_later true y is = refl
-or_later false y is = is
+use Rattle.std.proofs.lemmas.Bool.{or_right}
+use Rattle.std.proofs.Math.Bool.{or-false}
 
 -- two tests have the same result if each passes when the other does
 pub same_tests : (a b : Bool) → (a ≡ true → b ≡ true) → (b ≡ true → a ≡ true) → a ≡ b
@@ -29,7 +19,7 @@ pub any_more : {A B : Type 0} (p : B → Bool) (f : A → B) (xs : List A) (i : 
 any_more p f xs i x within is =
     ap (λ l. list_any p (map f l)) (take_more xs i x within ∙ ap (λ e. take i xs ++ e ∷ []) (sym is))
     ∙ ap (list_any p) (map-append f (take i xs) (x ∷ []))
-    ∙ list_any-append p (map f (take i xs)) (f x ∷ []) ∙ ap (λ b. list_any p (map f (take i xs)) || b) (or_none (p (f x)))
+    ∙ list_any-append p (map f (take i xs)) (f x ∷ []) ∙ ap (λ b. list_any p (map f (take i xs)) || b) (or-false (p (f x)))
 
 -- if an item of a list passes, some item does
 pub any_contained : {A : Type 0} (p : A → Bool) (xs : List A) (x : A) → Contains xs x → p x ≡ true → list_any p xs ≡ true
@@ -44,7 +34,7 @@ any_both p q (x ∷ xs) both some = by_test (p x) refl some (any_both p q xs bot
     by_test : (b : Bool) → p x ≡ b → (b || list_any p xs) ≡ true → (list_any p xs ≡ true → list_any q xs ≡ true)
         → (q x || list_any q xs) ≡ true
     by_test true is some' later = ap (λ b. b || list_any q xs) (both x is)
-    by_test false is some' later = or_later (q x) (list_any q xs) (later some')
+    by_test false is some' later = or_right (q x) (list_any q xs) (later some')
 
 -- tests that agree on all items pass in the same lists
 pub any_same : {A : Type 0} (p q : A → Bool) (xs : List A) → ((x : A) → p x ≡ q x) → list_any p xs ≡ list_any q xs
@@ -62,12 +52,6 @@ any_where P p q (x ∷ xs) same all =
 pub any_through : {A : Type 0} (p : A → Bool) (g : A → A) (xs : List A) → ((x : A) → p (g x) ≡ p x) → list_any p (map g xs) ≡ list_any p xs
 any_through p g [] same = refl
 any_through p g (x ∷ xs) same = ap (λ b. b || list_any p (map g xs)) (same x) ∙ ap (λ b. p x || b) (any_through p g xs same)
-
--- the first `i + 1` items, mapped, are the first `i` and the next one
-pub taken_more : {A B : Type 0} (f : A → B) (xs : List A) (i : ℕ) (x : A) → i < length xs → x ≡ get_or xs i x
-    → map f (take (i + 1) xs) ≡ map f (take i xs) ++ f x ∷ []
-taken_more f xs i x within is =
-    ap (map f) (take_more xs i x within ∙ ap (λ e. take i xs ++ e ∷ []) (sym is)) ∙ map-append f (take i xs) (x ∷ [])
 
 -- disjunctions of tests with one more of them
 pub one_more_or : (a s o t : Bool) → ((a || (s && t)) || (o && t)) ≡ (a || ((s || o) && t))

@@ -13,6 +13,8 @@ use Rattle.std.proofs.lemmas.List.Elements.{All-contains_itself, All-from_recurs
 use Rattle.std.proofs.lemmas.List.Folds.{list_any-append}
 use Rattle.std.proofs.lemmas.List.Sorted.{All-permutation, IsPermutation-map, length_permutation, list_any-IsPermutation}
 use Rattle.std.proofs.Math.ListN.{get_or-map}
+use Rattle.std.proofs.Math.Bool.{or-false}
+use Rattle.bib_text.proofs.BoolFacts.{or_false_right}
 use Rattle.bib_syntax.specs.Grammar.{IsRawReading}
 use Rattle.bib_syntax.specs.Reading.{EntryReading, FileReading}
 use Rattle.bib_syntax.specs.Recovery.{has_byte}
@@ -27,9 +29,8 @@ use Rattle.edit_sort.proofs.FileFacts.{AreLaid, length-items, read_in_order}
 use Rattle.edit_sort.proofs.FirstFacts.{IsPlaced, keys_of, keys_of_items, keys_through, place_again, placed_items}
 use Rattle.edit_sort.proofs.OneOrderFacts.{IsNotAfter, starts_in_order, up_from}
 use Rattle.edit_sort.proofs.ParentFacts.{known_items, IsKnown}
-use Rattle.edit_sort.proofs.PlainFacts.{or_right}
 use Rattle.edit_sort.proofs.SameOrderFacts.{AreUp, same_order}
-use Rattle.edit_sort.proofs.SetFacts.{any_through, or_none}
+use Rattle.edit_sort.proofs.SetFacts.{any_through}
 use Rattle.edit_sort.proofs.StaysFacts.{gap_whole, in_order_stays, white_end}
 use Rattle.edit_sort.proofs.StepFacts.{items_are, listed, listed_order}
 
@@ -42,7 +43,7 @@ has-append xs ys = list_any-append (λ b. b == 64) xs ys
 white_clear : (bytes : List ℕ) → has_byte 64 bytes ≡ false → has_byte 64 (without_white bytes) ≡ false
 white_clear bytes clear =
     let end = white_end bytes in
-    or_right (has_byte 64 end.0) (has_byte 64 (without_white bytes))
+    or_false_right (has_byte 64 end.0) (has_byte 64 (without_white bytes))
     (sym (has-append end.0 (without_white bytes)) ∙ sym (ap (has_byte 64) end.1) ∙ clear)
 
 comment_clear : (is_first : Bool) (gap : List ℕ) → has_byte 64 (comment_in is_first gap) ≡ false
@@ -57,12 +58,12 @@ comment_clear is_first gap = by_run (begins_run is_first gap) refl
 
     by_run : (c : Bool) → begins_run is_first gap ≡ c → has_byte 64 (cond c (near_comment near) (without_white gap)) ≡ false
     by_run true is = by_sign (has_block_sign near) refl
-    by_run false is = white_clear gap (or_right is_first (has_byte 64 gap) is)
+    by_run false is = white_clear gap (or_false_right is_first (has_byte 64 gap) is)
 
 -- a comment after a space doesn't change the run
 run_of_space : (run : ℕ) (space comment : List ℕ) → has_byte 64 comment ≡ false → run_after run (space ++ comment) ≡ run_after run space
 run_of_space run space comment clear =
-    ap (λ b. cond b (run + 1) run) (has-append space comment ∙ ap (λ b. has_byte 64 space || b) clear ∙ or_none (has_byte 64 space))
+    ap (λ b. cond b (run + 1) run) (has-append space comment ∙ ap (λ b. has_byte 64 space || b) clear ∙ or-false (has_byte 64 space))
 
 abbrev AreRuns : ℕ → List (List ℕ) → List Item → Type 0
 AreRuns run [] [] = Unit {0}

@@ -6,7 +6,7 @@ use Rattle.bib_syntax.specs.Reading.{EntryReading}
 use Rattle.edit_entries.specs.Cuts.{CanBeCut}
 use Rattle.edit_sort.specs.Sorted.{Item, comment_in, gap_before}
 
--- the spans of the gap before an entry, of its comment and of the entry are in order, and their ends are character boundaries of a
+-- the spans of the gap before an entry, of its comment and of the entry are in order. Their ends are character boundaries of a
 -- text
 pub record IsItemCut (text : List ℕ) (index at : ℕ) (e : EntryReading) : Type 0 where
   pub gap : CanBeCut text at e.start

@@ -14,11 +14,11 @@ use Rattle.edit_sort.specs.Sorted as sorted
 use Rattle.edit_sort.specs.Sorted.{crossref, greatest}
 use Rattle.edit_sort.specs.declared.items.Item.{Item}
 
--- the key of an entry in lowercase
+-- the key of an entry in ASCII lowercase
 abbrev pub lower_key : EntryReading → List ℕ
 lower_key e = str_to_ascii_lowercase e.key.text
 
--- an entry of `all` that has a key in lowercase is at the index that the key points to
+-- the entry of `all` at the index that a key points to has this key in ASCII lowercase
 abbrev pub AreIndicesOf : List EntryReading → ByText ℕ → Type 0
 AreIndicesOf all names = (key : List ℕ) (k : ℕ) → get names key ≡ Some k → option_map lower_key (slice_get all k) ≡ Some key
 
@@ -31,7 +31,7 @@ abbrev pub AreFirstIndices : List EntryReading → ByText ℕ → Type 0
 AreFirstIndices all names =
     (key : List ℕ) (k j : ℕ) → get names key ≡ Some k → j < k → option_map lower_key (slice_get all j) ≡ Some key → ⊥
 
--- the keys of entries, in lowercase, point to the index of the first entry with that key
+-- the keys of entries, in ASCII lowercase, point to the index of the first entry with that key
 pub record AreKeyIndices (entries : List EntryReading) (names : ByText ℕ) : Type 0 where
   pub of_key : AreIndicesOf entries names
   pub first : AreFirstIndices entries names

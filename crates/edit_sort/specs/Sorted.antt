@@ -1,5 +1,5 @@
 -- Meaning: words of public contracts.
--- The text of a bibliography with its entries sorted. Each entry moves with the comment before it, and white space between entries stays.
+-- The text of a bibliography with its entries sorted. Each entry moves with the comment before it, and the white space before that stays.
 -- An at sign between two entries, such as that of an `@string`, begins a new run of entries. No entry leaves its run.
 use Rattle.std.specs.Prelude.{◌≡◌, ◌==◌, ◌&&◌, ◌||◌, ℕ, zero, suc, ◌+◌, ◌-◌, ◌^◌, Bool, true, false, List, [], ◌∷◌, ◌++◌, Option, Some, None, codes, cond, count_by, drop, length, map, reverse, slice_index, slice_index_or, take}
 use Rattle.std.specs.Char.{is_ascii_whitespace}
@@ -16,7 +16,7 @@ use Rattle.bib_syntax.specs.Reading.{Piece, FieldReading, EntryReading, FileRead
 use Rattle.bib_syntax.specs.Reading.Piece.{literal, abbreviation}
 use Rattle.bib_syntax.specs.Recovery.{has_byte}
 use Rattle.edit_entries.specs.Documents.{Document}
-use Rattle.edit_entries.specs.Edits.{moved_file}
+use Rattle.edit_entries.specs.Edits.{placeless}
 
 -- the greatest number up to a bound that passes a test, or 0 if none does
 abbrev pub greatest : (ℕ → Bool) → ℕ → ℕ
@@ -44,7 +44,7 @@ names_key key f = option_map_or (λ named. str_eq_ignore_ascii_case named key) (
 abbrev pub refers_to : List ℕ → EntryReading → Bool
 refers_to key e = list_any (names_key key) e.fields
 
--- a chain of this many references leads from the first entry to the second; each reference is from an entry to one whose key it names
+-- a chain of this many references leads from the first entry to the second. Each reference is from an entry to one whose key it names
 pub data IsChain (entries : List EntryReading) : ℕ → EntryReading → EntryReading → Type 0 where
   none : {e : EntryReading} → IsChain entries zero e e
   more : {n : ℕ} {first child parent : EntryReading} → IsChain entries n first child → Contains entries child
@@ -64,7 +64,7 @@ has_chain entries zero e = true
 has_chain entries (suc n) e = list_any (λ child. refers_to e.key.text child && has_chain entries n child) entries
 
 -- the rank of an entry: the length of the longest chain of references that leads to it. An entry on a cycle, or after one, has no
--- longest chain; its rank is the number of entries, so it comes last.
+-- longest chain. Its rank is the number of entries, so it comes last in its run.
 abbrev pub rank : List EntryReading → EntryReading → ℕ
 rank entries e = greatest (λ n. has_chain entries n e) (length entries)
 
@@ -117,17 +117,17 @@ begins_run is_first gap = is_first || has_byte char.at gap
 abbrev pub has_block_sign : List ℕ → Bool
 has_block_sign text = has_byte char.at text || has_byte char.close_brace text || has_byte char.quote text
 
--- the comment in the text after the last blank line of a gap at the start of a run: all of that text except white space at its start, or
--- nothing if a block may begin or end in it
+-- the comment in `near`, the text after the last blank line of a gap at the start of a run. It is all of that text except ASCII white
+-- space at its start, or empty if a block may begin or end in the text
 abbrev pub near_comment : List ℕ → List ℕ
 near_comment near = cond (has_block_sign near) [] (without_white near)
 
--- the comment of an entry, which moves with it: all of the gap except white space at its start. At the start of a run, only the
--- text after the last blank line can move.
+-- the comment of an entry, which moves with it: all of the gap except ASCII white space at its start. At the start of a run, only
+-- the text after the last blank line can move.
 abbrev pub comment_in : Bool → List ℕ → List ℕ
 comment_in is_first gap = cond (begins_run is_first gap) (near_comment (after_blank_line gap)) (without_white gap)
 
--- the rest of a gap, which stays
+-- the part of a gap before its comment, which keeps its position
 abbrev pub space_in : Bool → List ℕ → List ℕ
 space_in is_first gap = take (length gap - length (comment_in is_first gap)) gap
 
@@ -197,15 +197,11 @@ pub record AreEntriesInOrder (all order : List Item) : Type 0 where
   pub permutation : IsPermutation all order
   pub sorted : IsSorted item_cmp order
 
--- the text of a document with its entries in this order: before each entry, the space at this index of the file, and the comment of
--- the entry
+-- the text of a document with its entries in this order. Before each entry are the space at its new index, and the comment of the
+-- entry
 abbrev pub text_in_order : Document → List Item → List ℕ
 text_in_order d order =
     flat_map (λ x. x.0 ++ (x.1.comment ++ entry_bytes d.text x.1.entry)) (zip (spaces_of d) order) ++ rest_of d
-
--- a reading without spans
-abbrev pub without_places : FileReading → FileReading
-without_places says = moved_file (λ at. 0) says
 
 -- the reading of a document with its entries in this order
 abbrev pub says_sorted : Document → List Item → FileReading
@@ -223,4 +219,4 @@ pub record IsReadSorted (d : Document) (places new : List ℕ) : Type 0 where
   pub in_order : AreEntriesInOrder (items d places) order
   pub tells : FileReading
   pub read : IsRawReading new tells
-  pub alike : without_places tells ≡ without_places (says_sorted d order)
+  pub alike : placeless tells ≡ placeless (says_sorted d order)

@@ -42,7 +42,7 @@ fn crossref<'s>(field: &Pair<'s>) -> Option<&'s str>
     }
 }
 
-// Returns a key in lowercase.
+// Returns a key in ASCII lowercase.
 fn lowercase(alloc: Global, key: &str) -> Result<Text, AllocError>
     ensures { IfOk result (λ lower. lower ≡ str_to_ascii_lowercase key.now) }
 {
@@ -60,7 +60,7 @@ fn claim_first(names: &mut Claims, key: Text, index: usize) -> Result<(), AllocE
     }
 }
 
-// Returns the keys of entries in lowercase. Each points to the index of the first entry with that key.
+// Returns the keys of entries in ASCII lowercase. Each points to the index of the first entry with that key.
 pub(crate) fn key_indices(
     alloc: Global,
     entries: &[Spanned<RawEntry<'_>>],

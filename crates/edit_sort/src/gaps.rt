@@ -15,14 +15,14 @@ fn has_at_sign(gap: &str) -> bool
     gap.contains('@')
 }
 
-// Returns whether a text is only ASCII white space.
+// Returns whether a text is empty or ASCII white space.
 fn is_blank(text: &str) -> bool
     ensures { result ≡ list_all is_ascii_whitespace text.now }
 {
     text.trim_ascii_start().is_empty()
 }
 
-// Returns the text after a line if the line is blank, otherwise the text that was kept before.
+// Returns the text after a line if the line is empty or ASCII white space, otherwise the text that was kept before.
 fn kept_after<'s>(line: &str, after: &'s str, kept: &'s str) -> &'s str
     ensures { result.now ≡ steps.kept_after (list_all is_ascii_whitespace line.now) after.now kept.now }
 {
@@ -63,8 +63,8 @@ fn has_block_sign(text: &str) -> bool
     has_at_sign(text) || has_close_brace(text) || has_quote(text)
 }
 
-// Returns the comment in `near`, the text after the last blank line of a gap at the start of a run: all of it except white space at its
-// start, or an empty text if a block may begin or end in it.
+// Returns the comment in `near`, the text after the last blank line of a gap at the start of a run. It is all of that text except ASCII
+// white space at its start, or empty if a block may begin or end in the text.
 fn near_comment(near: &str) -> &str
     ensures { result.now ≡ sorted.near_comment near.now }
 {
@@ -82,7 +82,7 @@ fn begins_run(is_first: bool, gap: &str) -> bool
     is_first || has_at_sign(gap)
 }
 
-// Returns the end of a gap that moves with the entry.
+// Returns the comment of an entry: the last part of the gap before it, which moves with the entry.
 pub(crate) fn comment_in(is_first: bool, gap: &str) -> &str
     ensures { result.now ≡ sorted.comment_in is_first gap.now }
 {

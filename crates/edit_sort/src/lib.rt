@@ -5,12 +5,12 @@
 //! Entries with one key, in any ASCII case, keep their order, because each has the rank and the place of the first one.
 //!
 //! The rank of an entry is the length of the longest chain of `crossref`s that leads to it (`ranks`). Keys become indices, and all entries
-//! with one key, in any ASCII case, share one index. The references of indices on cycles are removed, so that the others have a topological
-//! order; in this order, the length at an index is one more than the greatest length at the indices of its children. This takes time linear
-//! in the number of references, apart from looking up keys.
+//! with one key, in any ASCII case, share one index. The references of indices on cycles are removed, so the indices have a topological
+//! order. In this order, the length at an index is 0, or one more than the greatest length at the indices of its children. This takes time
+//! linear in the number of entries and references, except for the lookups of keys.
 //!
 //! The new text isn't parsed. Its raw reading is proved from the file grammar. A comment, and a space without an at sign, are
-//! plain: they contain no at sign and end each of their line comments (`PlainFacts`), so they parse to the empty reading
+//! plain: they contain no at sign and end each of their line comments (`PlainFacts`). So they parse to the empty reading
 //! anywhere. Every other space is a zone of both texts, and so is each entry. Such a space extends to the at sign of an entry,
 //! or to plain text after a line feed. No block is open at that line feed, since it would have to end by a closing brace or a
 //! quote in the plain text (`FeedFacts`).

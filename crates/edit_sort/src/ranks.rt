@@ -35,8 +35,8 @@ fn one_above(lengths: &[usize], indices: &[usize], most: usize) -> usize
     found
 }
 
-// Returns the length of the longest chain that begins at an index, from the lengths at the indices that it refers to; `most` if the index
-// is on a cycle.
+// Returns the length of the longest chain that begins at an index, from the lengths at the indices that it refers to. Returns `most` if
+// the index is on a cycle.
 fn length_at(lengths: &[usize], indices: &[usize], is_on_cycle: bool, most: usize) -> usize
     requires { All (λ r. r < length lengths.now) indices.now }
     ensures { result ≡ (if is_on_cycle then most else ranks.one_above most (map (λ r. slice_index_or lengths.now r 0) indices.now)) }

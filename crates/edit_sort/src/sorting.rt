@@ -59,8 +59,8 @@ fn laid_out(
     Ok(new)
 }
 
-/// Returns the text of a document with its entries sorted by `places`, which has a number for each entry, at the index of the entry in the
-/// file. An entry with a smaller number comes first. Entries with equal numbers keep their order, and entries without a number come last.
+/// Returns the text of a document with its entries sorted by `places`, which has a number for each entry, at its index in the file. An
+/// entry with a smaller number comes first. Entries with equal numbers keep their order. An entry without a number has the greatest one.
 /// Entries with one key, in any ASCII case, keep their order: each of them counts with the number of the first one. BibTeX reads only the
 /// first entry with a key.
 ///
@@ -68,13 +68,13 @@ fn laid_out(
 ///
 /// - No entry moves over an at sign between entries, such as that of an `@string`. The entries between two of these are a run, and each run
 ///   is sorted by itself.
-/// - ASCII white space after an entry stays. The rest of the text before an entry, such as a comment, moves with the entry.
+/// - ASCII white space after an entry stays. The rest of the text before the next entry, such as a comment, moves with that entry.
 /// - Before the first entry of a run, only the text after the last blank line can move, without the white space at its start. It stays if
 ///   it contains an at sign, a closing brace or a quote, because a block could begin or end there.
 /// - BibTeX requires an entry before the entries that it names by `crossref`. So entries of a run are sorted by rank first. The rank of an
 ///   entry is the length of the longest chain of references that leads to it, and 0 if no entry names it. An entry on a cycle of
-///   references, or after one, comes last. A `crossref` names an entry if its value is one text that is the key of the entry, in any ASCII
-///   case, with or without white space at its ends.
+///   references, or after one, comes last in its run. A `crossref` names an entry if its value is one text: the key of the entry, in any
+///   ASCII case, with or without white space at its ends.
 ///
 /// Returns an error only if memory runs out.
 pub fn sort_entries(

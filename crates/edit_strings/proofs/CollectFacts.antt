@@ -5,7 +5,7 @@ use Rattle.std.specs.List.{AllByRecursion}
 use Rattle.std.specs.Option.{option_map, option_map_or}
 use Rattle.std.specs.Str.{IsUtf8}
 use Rattle.std.proofs.lemmas.Bool.{false≢true}
-use Rattle.std.proofs.lemmas.List.{append_cancel_left, map-append, take_all}
+use Rattle.std.proofs.lemmas.List.{append_cancel_left, map-append, take_all, nil_from_length}
 use Rattle.std.proofs.lemmas.Str.{encode_ascii}
 use Rattle.bib_text.specs.Places.{Place, place, CharAt, between}
 use Rattle.bib_text.proofs.PlaceFacts.{char_left, same_place}
@@ -20,7 +20,7 @@ use Rattle.edit_entries.specs.EditList.{AreEditsInOrder}
 use Rattle.edit_entries.specs.Edits.{Edit, edited, moved_field, moved_file, placeless}
 use Rattle.edit_entries.specs.Placed.{IsPlaced}
 use Rattle.edit_entries.proofs.AgreementFacts.{same_bytes}
-use Rattle.edit_entries.proofs.AllFacts.{OfFields, all_placed, all_weaker, fields_weaker}
+use Rattle.edit_entries.proofs.AllFacts.{OfFields, all_placed, fields_weaker}
 use Rattle.edit_entries.proofs.ChangesFacts.{values_placed}
 use Rattle.edit_entries.proofs.CutFacts.{cut_file, document_cut}
 use Rattle.edit_entries.proofs.EditFacts.{ascii_stands, front, new_bytes}
@@ -36,7 +36,7 @@ use Rattle.edit_strings.specs.Collecting.{collection_by}
 use Rattle.edit_strings.specs.Exchanged.{Exchange, exchanges}
 use Rattle.edit_strings.specs.Expanded.{Index, elements}
 use Rattle.edit_strings.specs.Tables.{entry_edits, AreAllFieldsCut, IsBelow, IsFieldCut}
-use Rattle.edit_strings.proofs.CutFacts.{definitions_can, edits_front, found_has, less_same, no_digit}
+use Rattle.edit_strings.proofs.CutFacts.{definitions_can, edits_front, less_same, no_digit}
 use Rattle.edit_strings.proofs.DistinctFacts.{those_alike, those_meet}
 use Rattle.edit_strings.proofs.ElementFacts.{IsElement, can_be_read, IsValue, file_stands, is_cut}
 use Rattle.edit_strings.proofs.ExchangedFacts.{CanBeExchanged, edits_are_changes, exchanged_read}
@@ -45,7 +45,7 @@ use Rattle.edit_strings.proofs.LineFacts.{after_definitions, line_end_by, lines_
 use Rattle.edit_strings.proofs.NamesFacts.{find_passes, known_definition, length-names}
 use Rattle.edit_strings.proofs.IndexFacts.{last_below}
 use Rattle.bib_syntax.proofs.FileFacts.{ahead_block}
-use Rattle.bib_text.proofs.ListFacts.{all_push}
+use Rattle.bib_text.proofs.ListFacts.{all_push, all_weaker, found_has}
 
 -- ---- names that can be read
 
@@ -372,10 +372,6 @@ module _ (d : Document) (read : IsDocument d) (utf8 : IsUtf8 d.text) (exchange :
 
 -- ---- a document with texts collected
 
-no_elements : {A : Type 0} (xs : List A) → length xs ≡ 0 → xs ≡ []
-no_elements [] none = refl
-no_elements (x ∷ xs) none = absurd (omega arith)
-
 none_chosen : (P : List ℕ → Type 0) {texts found : List (List ℕ)} → AreThoseThat P texts found → length texts ≡ 0 → found ≡ []
 none_chosen P AreThoseThat.none none = refl
 none_chosen P (AreThoseThat.kept text meets others) none = absurd (omega arith)
@@ -416,7 +412,7 @@ module _ (d : Document) (read : IsDocument d) (utf8 : IsUtf8 d.text) (fields tex
       with_lines_read d read utf8 exchange changed _ names texts
       (all_weaker IsReadAsName CanBeName (λ n x. x.can) names (names_read d read named))
       (all_weaker meets CanStandInBraces (λ t x. x.can) texts (those_meet meets chosen))
-      (λ none. no_elements names (as_many ∙ ap length none))
+      (λ none. nil_from_length names (as_many ∙ ap length none))
       (λ none. none_chosen meets chosen (no_names_texts fields d.says.entries none))
 
 -- the same texts are collected if the same names are known

@@ -1,7 +1,7 @@
 -- The start of a text, before edits; and names of definitions.
-use Rattle.std.proofs.Common.{◌≡◌, inl, ℕ, ◌<◌, ◌≤◌, Bool, true, false, cond, List, [], ◌∷◌, ◌++◌, length, take, drop, refl, sym, ap, ◌∙◌, subst, arith, append-nil, length-append, Some}
+use Rattle.std.proofs.Common.{◌≡◌, inl, ℕ, ◌<◌, ◌≤◌, true, false, List, [], ◌∷◌, ◌++◌, length, take, drop, refl, sym, ap, ◌∙◌, subst, arith, append-nil, length-append}
 use Rattle.std.specs.Char.{is_ascii_digit}
-use Rattle.std.specs.List.{AllByRecursion, find}
+use Rattle.std.specs.List.{AllByRecursion}
 use Rattle.std.proofs.lemmas.Bool.{false≢true}
 use Rattle.std.proofs.lemmas.Bool.Decides.{nat_tests}
 use Rattle.std.proofs.lemmas.Str.{encode_ascii}
@@ -56,7 +56,7 @@ edits_front text at (edit ∷ edits) within order =
 -- ---- names of definitions
 
 -- a name in a text is one by itself
-pub name_can : {a b : Place} {p : Part} → b.at ≤ length a.text → Identifier longest a p b → CanBeName (between a b)
+name_can : {a b : Place} {p : Part} → b.at ≤ length a.text → Identifier longest a p b → CanBeName (between a b)
 name_can {a} {b} {p} within i =
     let text : List ℕ = between a b in
     let u : Place = place text 0 in
@@ -85,7 +85,8 @@ name_can {a} {b} {p} within i =
       },
     )
 
-field_can : {u v : Place} {f : FieldReading} → Field longest u f v → CanBeName f.name.text
+-- the name of a field in a text can be a name
+pub field_can : {u v : Place} {f : FieldReading} → Field longest u f v → CanBeName f.name.text
 field_can field =
     let to_sign = ahead_then (ahead_identifier field.name) (ahead_run field.white.run) in
     subst CanBeName (sym (ap (λ p. p.text) field.name.reading))
@@ -113,15 +114,6 @@ definitions_can (file.block {first = first} {rest = rest} b x) =
     of_body (body.preamble quoted white closes is_brace) = tt
     of_body (body.strings fs closes) = fields_can fs
     of_body (body.entry key_end key white comma gap list closes) = tt
-
--- what all elements have, a found one has
-pub found_has : {A : Type 0} (P : A → Type 0) (test : A → Bool) (xs : List A) (x : A) → AllByRecursion P xs → find test xs ≡ Some x → P x
-found_has P test [] x all is = absurd (cc)
-found_has P test (y ∷ ys) x all is = by_case (test y) (found_has P test ys x all.1) is
-  where
-    by_case : (b : Bool) → (find test ys ≡ Some x → P x) → cond b (Some y) (find test ys) ≡ Some x → P x
-    by_case true later found = let same : y ≡ x = cc in subst P same all.0
-    by_case false later found = later found
 
 -- a name without a leading digit begins with no digit
 pub no_digit : (name : List ℕ) → has_digit_first name ≡ false → NoDigit (place name 0)

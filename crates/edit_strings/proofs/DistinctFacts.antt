@@ -2,9 +2,8 @@
 use Rattle.std.proofs.Common.{◌≡◌, ℕ, ◌||◌, Bool, true, false, cond, not, List, [], ◌∷◌, ◌++◌, refl, sym, ap, ◌∙◌, subst, append-nil}
 use Rattle.std.specs.Prelude.{bytes_eq, filter}
 use Rattle.std.specs.List.{AllByRecursion}
-use Rattle.std.proofs.lemmas.Bool.{false≢true}
 use Rattle.std.proofs.lemmas.List.Elements.{filter-append}
-use Rattle.std.proofs.lemmas.Slice.Eq.{bytes_eq-Decides}
+use Rattle.bib_text.proofs.BytesFacts.{bytes_turned}
 use Rattle.bib_queries.specs.Needed.{is_listed}
 use Rattle.edit_strings.specs.Collected.{AreThoseThat, distinct}
 use Rattle.edit_strings.specs.Collected.{AreThoseThat as those}
@@ -27,14 +26,6 @@ filter_one text x false = by_case (bytes_eq x text)
     by_case true = refl
     by_case false = refl
 
-bytes_swap : (x y : List ℕ) → bytes_eq x y ≡ bytes_eq y x
-bytes_swap x y = by_case (bytes_eq x y) (bytes_eq y x) refl refl
-  where
-    by_case : (a b : Bool) → bytes_eq x y ≡ a → bytes_eq y x ≡ b → bytes_eq x y ≡ bytes_eq y x
-    by_case true b is is' = is ∙ sym ((bytes_eq-Decides y x).1 (sym ((bytes_eq-Decides x y).0 is)))
-    by_case false true is is' = absurd (false≢true (sym is ∙ (bytes_eq-Decides x y).1 (sym ((bytes_eq-Decides y x).0 is'))))
-    by_case false false is is' = is ∙ sym is'
-
 -- the distinct texts after one more text
 pub distinct_push : (texts : List (List ℕ)) (x : List ℕ)
     → distinct (texts ++ x ∷ []) ≡ distinct texts ++ unless_listed (is_listed texts x) x
@@ -44,7 +35,7 @@ distinct_push (text ∷ texts) x =
     (ap (filter (λ other. not (bytes_eq other text))) (distinct_push texts x)
     ∙ filter-append (λ other. not (bytes_eq other text)) (distinct texts) (unless_listed (is_listed texts x) x)
     ∙ ap (λ l. filter (λ other. not (bytes_eq other text)) (distinct texts) ++ l)
-    (filter_one text x (is_listed texts x) ∙ ap (λ b. unless_listed (b || is_listed texts x) x) (bytes_swap x text)))
+    (filter_one text x (is_listed texts x) ∙ ap (λ b. unless_listed (b || is_listed texts x) x) (bytes_turned x text)))
 
 -- ---- one more text among those that meet a condition
 

@@ -7,9 +7,7 @@ use Rattle.bib_text.specs.Places.{Place, Stops, Longest, between}
 use Rattle.bib_text.specs.Places.Run.{stop, step}
 use Rattle.bib_text.proofs.PlaceFacts.{ahead_then, ahead_char, ahead_run, stops_at}
 use Rattle.bib_syntax.specs.Reading.{Piece, FieldReading, FileReading}
-use Rattle.bib_syntax.specs.Reading.Piece.{literal, abbreviation}
 use Rattle.bib_syntax.specs.Grammar.{Body, Element, Elements, Field, Fields, File, longest}
-use Rattle.bib_syntax.specs.Grammar.{Element as element}
 use Rattle.bib_syntax.specs.Grammar.{Elements as elements}
 use Rattle.bib_syntax.specs.Grammar.{Fields as fields}
 use Rattle.bib_syntax.specs.Grammar.{Body as body}
@@ -23,15 +21,15 @@ use Rattle.edit_entries.specs.Cuts.{IsPieceCut}
 use Rattle.edit_format.specs.Delimited.{piece_as_written}
 use Rattle.edit_format.specs.Formatted.{value_laid_out}
 use Rattle.edit_format.specs.declared.style.Delimiters.TheVariants.{Keep}
-use Rattle.edit_entries.proofs.CutFacts.{cut_stood, stood, stood_parts, stood_quoted}
+use Rattle.edit_entries.proofs.CutFacts.{element_cut}
 use Rattle.edit_entries.proofs.ElementFacts.{Ending, NotOpened}
 use Rattle.edit_entries.proofs.StandsFacts.{Stands, ascii, first_part, last_part}
 use Rattle.edit_format.proofs.ValueFacts.{not_opened_run, not_opened_sign}
-use Rattle.bib_syntax.specs.Grammar.{Number as number}
 use Rattle.edit_strings.specs.Expanded.{elements as elements_of, laid_out}
 use Rattle.edit_entries.proofs.ElementStandsFacts.{element_stands}
 use Rattle.edit_strings.proofs.StandingFacts.{element_written}
 use Rattle.edit_entries.proofs.NewValueFacts.{AreRead, CanBeRead}
+use Rattle.edit_entries.proofs.NewFieldFacts.{piece_placeless}
 use Rattle.bib_text.proofs.ListFacts.{all_append}
 
 -- a piece occurs somewhere in a text, after neither a brace nor a quote
@@ -45,15 +43,6 @@ pub record IsElement (text : List ℕ) (e : Piece) : Type 0 where
 
 -- ---- literals begin at character boundaries
 
-element_cut : (text : List ℕ) {u v : Place} {e : Piece} → u.text ≡ text → Element longest u e v → IsPieceCut text e
-element_cut text same (element.number (number.whole char digit digits ends)) = cut_stood text same (stood char)
-element_cut text same (element.number (number.broken char digit digits point others ends)) = cut_stood text same (stood char)
-element_cut text same (element.named none i) = _
-element_cut text same (element.braced b) =
-    subst (λ p. IsPieceCut text (literal p)) (sym b.reading) (cut_stood text (b.opens.same ∙ same) (stood_parts b.parts (stood b.closes)))
-element_cut text same (element.quoted q) =
-    subst (λ p. IsPieceCut text (literal p)) (sym q.reading) (cut_stood text (q.opens.same ∙ same) (stood_quoted q.parts (stood q.closes)))
-
 pub is_cut : (text : List ℕ) (e : Piece) → IsElement text e → IsPieceCut text e
 is_cut text e x = element_cut text x.same x.stands
 
@@ -63,10 +52,6 @@ is_cut text e x = element_cut text x.same x.stands
 abbrev laid_out_more : List ℕ → List Piece → List ℕ
 laid_out_more text es = value_laid_out (codes " # ") (codes " # ") (map (piece_as_written Keep text) es)
 
-placeless : (move : ℕ → ℕ) (e : Piece) → moved_piece (λ n. 0) (moved_piece move e) ≡ moved_piece (λ n. 0) e
-placeless move (literal p) = refl
-placeless move (abbreviation p) = refl
-
 -- a piece of a text parses wherever its bytes occur before an ending
 element_read : (text : List ℕ) (e : Piece) {u v : Place} → IsElement text e → Stands u (piece_as_written Keep text e) v
     → Ending v → (e' : Piece) × Element longest u e' v × (moved_piece (λ n. 0) e' ≡ moved_piece (λ n. 0) e)
@@ -74,7 +59,7 @@ element_read text e {u} {v} x s ending =
     let written : piece_as_written Keep text e ≡ between x.start x.end =
     ap (λ t. piece_as_written Keep t e) (sym x.same) ∙ element_written x.stands x.opened in
     let move = λ (n : ℕ). n - x.start.at + u.at in
-    (moved_piece move e, element_stands x.stands x.within (subst (λ t. Stands u t v) written s) ending, placeless move e)
+    (moved_piece move e, element_stands x.stands x.within (subst (λ t. Stands u t v) written s) ending, piece_placeless move e)
 
 pub elements_read : (text : List ℕ) (e : Piece) (es : List Piece) (u v w : Place) → IsElement text e
     → AllByRecursion (IsElement text) es → Stands u (piece_as_written Keep text e ++ laid_out_more text es) v → Ending v

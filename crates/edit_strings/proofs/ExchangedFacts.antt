@@ -2,11 +2,11 @@
 use Rattle.std.proofs.Common.{◌≡◌, ℕ, List, [], ◌∷◌, ◌++◌, map, refl, sym, ap, ◌∙◌, subst, Option, Some, None}
 use Rattle.std.specs.List.{AllByRecursion}
 use Rattle.std.specs.Str.{IsUtf8}
+use Rattle.bib_text.proofs.ListFacts.{all_weaker}
 use Rattle.bib_syntax.specs.Reading.{FieldReading, EntryReading}
 use Rattle.edit_entries.specs.Changes.{IsReadPlaceless, NewValue, edits_of_entries, edits_of_field, edits_of_fields, file_changed, text_changed}
 use Rattle.edit_entries.specs.Documents.{Document, IsDocument}
 use Rattle.edit_entries.specs.EditList.{AreEditsInOrder}
-use Rattle.edit_entries.proofs.AllFacts.{all_weaker}
 use Rattle.edit_entries.proofs.ChangesFacts.{CanChange, CanEntryChange, CanFieldsChange, changed_read, changes_in_order}
 use Rattle.edit_entries.proofs.NewValueFacts.{CanBeRead}
 use Rattle.edit_strings.specs.Exchanged.{Exchange, exchanges, exchange_change}

@@ -3,6 +3,7 @@ use Rattle.std.proofs.Common.{◌≡◌, ℕ, Bool, true, false, cond, List, len
 use Rattle.std.specs.List.{AllByRecursion}
 use Rattle.std.specs.Str.{IsUtf8}
 use Rattle.std.proofs.lemmas.List.{length-map}
+use Rattle.bib_text.proofs.ListFacts.{all_weaker}
 use Rattle.bib_syntax.specs.Reading.{Piece, FieldReading, EntryReading}
 use Rattle.bib_syntax.specs.Views.{field_of}
 use Rattle.bib_syntax.specs.declared.raw.Pair.{Pair}
@@ -12,7 +13,7 @@ use Rattle.edit_entries.specs.Placed.{IsPlaced}
 use Rattle.edit_entries.specs.EditList.{AreEditsInOrder}
 use Rattle.edit_entries.specs.Cuts.{IsPieceCut}
 use Rattle.edit_entries.specs.Changes.{file_changed, text_changed, IsReadPlaceless, NewValue}
-use Rattle.edit_entries.proofs.AllFacts.{all_both, all_placed, all_weaker}
+use Rattle.edit_entries.proofs.AllFacts.{all_both, all_placed}
 use Rattle.edit_entries.proofs.NewValueFacts.{CanBeRead}
 use Rattle.edit_strings.specs.Exchanged.{Exchange, exchanges}
 use Rattle.edit_strings.specs.Expanded.{IsExpanded, WritesOut, count_before, elements, has_defined, index_before, laid_out}

@@ -69,8 +69,3 @@ learned_first (Some name) now own f text unknown is = is ∙ by_case (bytes_eq o
 pub no_name : {A B : Type 0} (view : A → B) (o : Option A) → is_some o ≡ false → option_map view o ≡ None
 no_name view None none = refl
 no_name view (Some x) none = absurd (cc)
-
-pub name_of_cond : {A B : Type 0} (view : A → B) (b : Bool) (x : A) (o : Option A)
-    → option_map view (cond b (Some x) o) ≡ cond b (Some (view x)) (option_map view o)
-name_of_cond view true x o = refl
-name_of_cond view false x o = refl

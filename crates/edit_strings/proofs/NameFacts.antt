@@ -16,6 +16,7 @@ use Rattle.std.proofs.lemmas.Slice.Eq.{bytes_eq-Decides}
 use Rattle.bib_text.specs.Places.{place, CharAt, Run}
 use Rattle.bib_text.specs.Places.Run.{stop, step}
 use Rattle.bib_text.proofs.PlaceFacts.{no_char_at_end, same_char}
+use Rattle.bib_text.proofs.DigitFacts.{lower_digit}
 use Rattle.bib_tables.specs.Months.{is_abbreviated, month_abbreviation, month_of_abbreviation, year_months}
 use Rattle.bib_tables.specs.declared.months.Month.{Month}
 use Rattle.bib_tables.specs.declared.months.Month.TheVariants.{January, February, March, April, May, June, July, August, September, October, November, December}
@@ -97,13 +98,10 @@ numbered_plain (b ∷ bs) n small is =
 
 -- ---- no name with a digit is a month's abbreviation
 
-same_digit : (c : ℕ) → is_ascii_digit (to_ascii_lowercase c) ≡ is_ascii_digit c
-same_digit c = grind (arith, nat_tests)
-
 same_digits : (bs : List ℕ) → list_any is_ascii_digit (str_to_ascii_lowercase bs) ≡ list_any is_ascii_digit bs
 same_digits [] = refl
 same_digits (b ∷ bs) =
-    ap (λ x. x || list_any is_ascii_digit (str_to_ascii_lowercase bs)) (same_digit b)
+    ap (λ x. x || list_any is_ascii_digit (str_to_ascii_lowercase bs)) (lower_digit b)
     ∙ ap (λ x. is_ascii_digit b || x) (same_digits bs)
 
 no_word : (name word : List ℕ) → list_any is_ascii_digit name ≡ true → list_any is_ascii_digit word ≡ false → is_word name word ≡ false

@@ -5,7 +5,7 @@ use Rattle.std.specs.BTreeMap.{BTreeMap, get_by_text}
 use Rattle.std.specs.Global.{Global}
 use Rattle.std.specs.List.{find, flat_map}
 use Rattle.std.specs.Option.{option_map, unwrap_or}
-use Rattle.std.proofs.lemmas.Bool.{cases_lt}
+use Rattle.std.proofs.lemmas.Bool.{cases_lt, or_right}
 use Rattle.std.proofs.lemmas.List.Folds.{list_any-append}
 use Rattle.std.proofs.lemmas.Slice.Eq.{bytes_eq-Decides}
 use Rattle.bib_syntax.specs.Grammar.{is_word}
@@ -18,10 +18,6 @@ use Rattle.edit_strings.proofs.NameFacts.{plain_can}
 use Rattle.edit_strings.proofs.TextFacts.{any_push, or_assoc}
 
 -- ---- used names stay used
-
-or_right : (a b : Bool) → b ≡ true → (a || b) ≡ true
-or_right true b held = refl
-or_right false b held = held
 
 still_used : (old new : Taken) (name : List ℕ)
     → ((other : List ℕ) → is_taken new other ≡ (is_word name other || is_taken old other)) → (other : List ℕ)

@@ -16,9 +16,12 @@ use Rattle.bib_syntax.proofs.FileFacts.{ahead_block, ahead_head, ahead_line_comm
 use Rattle.edit_entries.proofs.CutFacts.{document_cut}
 use Rattle.edit_entries.specs.Cuts.{AreEntriesCut}
 use Rattle.edit_entries.specs.Documents.{Document, IsDocument}
-use Rattle.edit_strings.specs.Expanded.{count_before}
-use Rattle.edit_strings.specs.Tables.{BeginBetween, AreFrom, BeginBefore, IsNextAfter, start_at}
-use Rattle.edit_strings.proofs.IndexFacts.{count_is}
+use Rattle.std.specs.Prelude.{String}
+use Rattle.std.specs.BTreeMap.{BTreeMap}
+use Rattle.std.specs.Global.{Global}
+use Rattle.edit_strings.specs.Expanded.{count_before, index_before}
+use Rattle.edit_strings.specs.Tables.{AreFrom, AreIndices, BeginBefore, BeginBetween, IsNextAfter, lowercase_index_in, start_at}
+use Rattle.edit_strings.proofs.IndexFacts.{count_is, indices_are}
 
 -- ---- definitions
 
@@ -126,3 +129,15 @@ ahead_step definitions end between from next e es ahead within before after = (
       | inl below ↦ omega (arith, ahead.passed i below, ahead.chain.0)
       | inr past ↦ before i past less
     ]
+
+-- the indices are those before an entry, and the definitions before the next entry
+pub indices_step : (xs : List Pair) (end : ℕ) → BeginBetween 0 end (map field_of xs) → (from next : ℕ) (e : EntryReading)
+    (es : List EntryReading) (indices : BTreeMap (String Global) ℕ) → IsAhead (map field_of xs) from (e ∷ es) → next ≤ length xs
+    → BeginBefore (map field_of xs) e.start from next → IsNextAfter (map field_of xs) e.start next
+    → AreIndices indices (map field_of xs) next
+    → (lowercase_index_in indices ≡ index_before (map field_of xs) (count_before (map field_of xs) e)) × IsAhead (map field_of xs) next es
+indices_step xs end between from next e es indices ahead within before after known =
+    let defined : List FieldReading = map field_of xs in
+    let step =
+    ahead_step defined end between from next e es ahead (omega (arith, within, length-map xs field_of)) before after in
+    (indices_are defined next indices known ∙ ap (index_before defined) (sym step.0), step.1)

@@ -1,5 +1,5 @@
 -- Lists of texts in loops: one more text, one more line, one more name.
-use Rattle.std.proofs.Common.{◌≡◌, ℕ, ◌+◌, ◌<◌, ◌||◌, Bool, true, false, cond, not, List, [], ◌∷◌, ◌++◌, length, take, map, get_or, refl, sym, ap, ◌∙◌, arith, append_assoc, append-nil, Option, Some}
+use Rattle.std.proofs.Common.{◌≡◌, ℕ, ◌+◌, ◌<◌, ◌||◌, Bool, true, false, cond, List, [], ◌∷◌, ◌++◌, length, take, map, get_or, refl, sym, ap, ◌∙◌, arith, append_assoc, append-nil, Option, Some}
 use Rattle.std.specs.Prelude.{MatchBool, bytes_eq, is_some}
 use Rattle.std.proofs.lemmas.Bool.{false≢true}
 use Rattle.std.specs.List.{list_any}
@@ -48,10 +48,6 @@ lines_push says line_end (n ∷ ns) (t ∷ ts) name text same =
 
 -- ---- names among names
 
-pub or_cond : (b x : Bool) → cond b true x ≡ (b || x)
-or_cond true x = refl
-or_cond false x = refl
-
 pub any_push : {A : Type 0} (test : A → Bool) (xs : List A) (x : A) → list_any test (xs ++ x ∷ []) ≡ (test x || list_any test xs)
 any_push test xs x =
     let last : (list_any test xs || list_any test (x ∷ [])) ≡ (test x || list_any test xs) = by_case (list_any test xs) (test x) in
@@ -65,14 +61,6 @@ any_push test xs x =
 
 pub listed_push : (xs : List (List ℕ)) (x name : List ℕ) → is_listed (xs ++ x ∷ []) name ≡ (bytes_eq x name || is_listed xs name)
 listed_push xs x name = any_push (λ one. bytes_eq one name) xs x
-
-pub not_true : (b : Bool) → not b ≡ true → b ≡ false
-not_true true is = absurd (false≢true is)
-not_true false is = refl
-
-pub not_false : (b : Bool) → not b ≡ false → b ≡ true
-not_false true is = refl
-not_false false is = absurd (false≢true (sym is))
 
 pub match_true : (b : Bool) (P Q : Type 0) → MatchBool b P Q → b ≡ true → P
 match_true true P Q holds is = holds

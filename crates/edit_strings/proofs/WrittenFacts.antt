@@ -7,11 +7,10 @@ use Rattle.std.specs.List.{AllByRecursion, flat_map, list_any}
 use Rattle.std.proofs.lemmas.Bool.{cases_lt}
 use Rattle.std.proofs.lemmas.Grind.{flat_map-append}
 use Rattle.std.proofs.lemmas.List.{get_or-map, get_or_append_left, get_or-append_right, length-append, map-append, length-map, reverse-append, reverse-reverse}
-use Rattle.bib_text.proofs.ListFacts.{all_append}
+use Rattle.bib_text.proofs.ListFacts.{all_append, all_weaker}
 use Rattle.bib_syntax.specs.Reading.{Piece, FieldReading}
 use Rattle.bib_syntax.specs.Views.{field_of, piece_of}
 use Rattle.bib_syntax.specs.declared.raw.Pair.{Pair}
-use Rattle.edit_entries.proofs.AllFacts.{all_weaker}
 use Rattle.edit_strings.specs.Expanded.{Index, WritesOut, elements, elements_at, index_before, is_early, is_early_use, name_at, piece_index}
 use Rattle.edit_strings.specs.Expanded.{WritesOut as writes}
 use Rattle.edit_strings.specs.Tables.{AreIndices, AreOrdered, AreRows, IndexedPiece, IsBelow, IsIndexBelow, all_visits, lowercase_index_in, indexed_back, indexed_of, row_at, rows_of, staying, visits, with_index}
@@ -37,7 +36,7 @@ below_weaker : (m n : ℕ) → m ≤ n → (x : IndexedPiece) → IsIndexBelow m
 below_weaker m n le (indexed p None) below = tt
 below_weaker m n le (indexed p (Some i)) below = omega arith
 
--- pieces with the indices of names have indices below a number
+-- if each index of a name is less than a number, so is each index of a piece
 pub indexed_below : (size : ℕ) (index : Index) → IsBelow size index → (ps : List Piece)
     → AllByRecursion (IsIndexBelow size) (map (with_index index) ps)
 indexed_below size index below [] = tt

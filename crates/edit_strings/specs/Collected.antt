@@ -1,5 +1,5 @@
 -- Meaning: words of public contracts.
--- Texts of fields that repeat, replaced by abbreviations. The name of an abbreviation is one that the file defines already, or a new one.
+-- Repeated texts of fields, replaced by abbreviations. The name of an abbreviation is one that the file defines already, or a new one.
 use Rattle.std.specs.Prelude.{◌≡◌, ◌==◌, ◌&&◌, ◌||◌, ℕ, ◌≤◌, ◌<◌, Bool, true, false, not, List, [], ◌∷◌, ◌++◌, Option, Some, None, bytes_eq, chars, codes, cond, count_by, encode_utf8_all, filter, if◌then◌else◌, is_some, length, map, max, nat_lt, slice_index_or, take}
 use Rattle.std.specs.Char.{is_ascii_alphabetic, is_ascii_digit, is_whitespace, to_ascii_lowercase}
 use Rattle.std.specs.Fmt.{decimal}
@@ -98,18 +98,18 @@ abbrev pub first_entry_start : List EntryReading → ℕ
 first_entry_start [] = 0
 first_entry_start (e ∷ es) = e.start
 
--- whether a definition is before a byte offset
+-- whether a definition begins before a byte offset
 abbrev pub is_before : ℕ → FieldReading → Bool
 is_before at f = nat_lt f.name.start at
 
--- whether a name can be reused: it is not a month's abbreviation, it has no leading digit, and the file has one definition of it in any
--- ASCII case
+-- whether a name can be reused: it isn't a month's abbreviation, has no leading digit, and has one definition in the file, in any ASCII
+-- case
 abbrev pub is_reusable_name : FileReading → List ℕ → Bool
 is_reusable_name says name =
     not (is_month name) && not (has_digit_first name) && (count_by (has_name name) says.abbreviations == 1)
 
--- the text for which a definition can be reused: its value, if it is one literal, the definition is before the first entry, and its name
--- can be reused. BibTeX reads a file from top to bottom, so a definition after an entry doesn't count in this entry.
+-- the text for which a definition can be reused: its value, if this is one literal. The definition must be before the first entry, and its
+-- name reusable. BibTeX reads a file from top to bottom, so a definition after an entry doesn't count in this entry.
 abbrev pub reusable_text : FileReading → FieldReading → Option (List ℕ)
 reusable_text says f =
     cond (is_before (first_entry_start says.entries) f && is_reusable_name says f.name.text) (single_text (elements f)) None
@@ -178,7 +178,7 @@ pub data AreNames (says : FileReading) : List (List ℕ) → List (List ℕ) →
 abbrev pub is_longer_than_name : List ℕ → Bool
 is_longer_than_name text = nat_lt (length (letters_or_s (name_letters text))) (length (chars text))
 
--- a text can be collected: it occurs at least `least` times in a list of texts, and has a known name or is longer than its new name. It can
+-- a text can be collected: it occurs at least `least` times in a list of texts. It has a known name or is longer than its new name. It can
 -- be written between braces, also for BibTeX, which counts a brace after a backslash.
 pub record CanBeCollected (known : List ℕ → Option (List ℕ)) (least : ℕ) (texts : List (List ℕ)) (text : List ℕ) : Type 0 where
   pub often : least ≤ times_of text texts
@@ -221,8 +221,8 @@ abbrev pub text_value : Index → List (List ℕ) → Option (List ℕ) → Opti
 text_value index names None = None
 text_value index names (Some text) = option_map (λ i. name_value (slice_index_or names i [])) (index text)
 
--- the replacement of each value that is one of these texts, in a field with one of these names, by the name at the index of the
--- text
+-- the replacement of each value that is one of these texts by the name at the index of the text. The field must have one of the names
+-- `fields`
 abbrev pub collection : List (List ℕ) → List (List ℕ) → List (List ℕ) → Exchange
 collection fields texts names f = text_value (text_index texts) names (named_text fields f)
 
@@ -251,7 +251,7 @@ line_readings says (name ∷ names) [] = []
 line_readings says (name ∷ names) (text ∷ texts) =
     cond (is_some (known_name says text)) [] (line_reading name text ∷ []) ++ line_readings says names texts
 
--- the text of a document with these lines before the first entry
+-- a text with these lines at the byte offset of a document's first entry, or at its start if there is no entry
 abbrev pub with_lines : Document → List ℕ → List ℕ → List ℕ
 with_lines d lines text =
     edited (record { start = first_entry_start d.says.entries; end = first_entry_start d.says.entries; bytes = lines }) text

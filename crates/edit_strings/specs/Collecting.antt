@@ -28,7 +28,7 @@ lent_texts items = map (λ t. t.now) items
 abbrev pub count_in : BTreeMap (Bor (List ℕ)) ℕ → List ℕ → ℕ
 count_in counts text = option_map_or (λ n. n) (get_by (λ k. slice_cmp nat_cmp text k.now) counts) 0
 
--- whether a name, which is in lowercase, is taken
+-- whether a name, which is in ASCII lowercase, is taken
 abbrev pub has_lowercase : Taken → List ℕ → Bool
 has_lowercase taken lowercase = contains_text taken.names lowercase
 
@@ -55,7 +55,7 @@ string_texts names = map string_bytes names
 
 -- ---- definitions that can be reused
 
--- the count that a map has for a name in lowercase, and 0 for a name that isn't in it
+-- the count that a map has for a name in ASCII lowercase, and 0 for a name that isn't in it
 abbrev pub name_count_in : BTreeMap (String Global) ℕ → List ℕ → ℕ
 name_count_in counts lowercase = option_map_or (λ n. n) (get_by_text counts lowercase) 0
 

@@ -118,12 +118,12 @@ pub record IsFirstEarlyUse (definitions : List FieldReading) (index : ℕ) : Typ
   pub early : is_early definitions index ≡ true
   pub first : (earlier : ℕ) → earlier < index → is_early definitions earlier ≡ false
 
--- why an expansion fails: the definition at this index is the first that uses its own name, or a name before the name's first
--- definition, or memory ran out
+-- the conditions of an error: the definition at this index is the first that uses its own name, or a name before the name's first
+-- definition. Memory may always run out
 abbrev pub IsExpandError : List FieldReading → ExpandError → Type 0
 IsExpandError definitions (EarlyUse index) = IsFirstEarlyUse definitions index
 IsExpandError definitions OutOfMemory = Unit {0}
 
--- why the expansion of a document fails
+-- the conditions under which the expansion of a document fails
 abbrev pub ExpandIsRefused : Document → ExpandError → Type 0
 ExpandIsRefused d e = IsExpandError d.says.abbreviations e

@@ -1,5 +1,5 @@
 -- Meaning: words of public contracts.
--- References that stay as they are when entries get new keys, although they name such an entry: their values aren't one literal.
+-- References that stay as they are when entries get new keys, although they refer to such an entry: their values aren't one literal.
 use Rattle.std.specs.Prelude.{◌≡◌, ◌&&◌, ℕ, Bool, if◌then◌else◌, is_some, not, List, [], ◌∷◌, Option, Some, None}
 use Rattle.std.specs.List.{flat_map}
 use Rattle.bib_syntax.specs.Reading.{EntryReading, FieldReading, FileReading, Piece}
@@ -22,18 +22,19 @@ expansion_text pieces = flat_map expanded_text pieces
 abbrev pub is_joined_reference : FieldReading → Bool
 is_joined_reference f = is_reference_field f.name.text && not (is_some (single_text (elements f)))
 
--- the first name in such a field that would get a new one, but stays; `written` is the expansion of the value
+-- the first key in such a field that refers to an entry with a new key. `written` is the expansion of the value, and `names` returns the
+-- new key for a key in a field
 abbrev pub left_name : (List ℕ → List ℕ → Option (List ℕ)) → FieldReading → List Piece → Option (List ℕ)
 left_name names f written =
     if is_joined_reference f then first_renamed (names f.name.text) (expansion_text written) else None
 
--- a reference that stays: its entry, its field, and the first name that would get a new one
+-- a reference that stays: its entry, its field, and the first key in it that refers to an entry with a new key
 pub record Left : Type 0 where
   pub entry : EntryReading
   pub field : FieldReading
   pub name : List ℕ
 
--- the reference in a field, if a name stays
+-- the reference in a field, if it has such a key
 abbrev pub left_at : EntryReading → FieldReading → Option (List ℕ) → List Left
 left_at e f None = []
 left_at e f (Some name) = record { entry = e; field = f; name = name } ∷ []

@@ -107,8 +107,8 @@ IsIndexBelow size (IndexedPiece.indexed piece index) = IfSome index (λ i. i < s
 abbrev pub AreOrdered : List (List IndexedPiece) → Type 0
 AreOrdered rows = (i : ℕ) → i < length rows → AllByRecursion (IsIndexBelow i) (slice_index_or rows i [])
 
--- the visits of the expansion of a piece, down to a depth: one for the piece, which contains the piece if it stays, and then
--- those of the row of its definition
+-- the visits of the expansion of a piece, down to a depth. The visit of a piece without a definition contains it. A piece with a
+-- definition has an empty visit, and then those of the row of its definition
 abbrev pub visits : List (List IndexedPiece) → ℕ → IndexedPiece → List (Option Piece)
 visits rows depth (IndexedPiece.indexed piece None) = Some piece ∷ []
 visits rows zero (IndexedPiece.indexed piece (Some i)) = []
@@ -157,7 +157,7 @@ pub record IsExpansionCut (text : List ℕ) (rows : List (List IndexedPiece)) (i
   pub placed : IsPlaced text f
   pub pieces : AllByRecursion (IsPieceCut text) (field_expanded rows index f)
 
--- each field of some entries meets `IsExpansionCut`, given the definitions before its entry
+-- each field of some entries meets `IsExpansionCut` with the definitions before its entry
 abbrev pub AreExpansionsCut : List ℕ → List FieldReading → List (List IndexedPiece) → List EntryReading → Type 0
 AreExpansionsCut text definitions rows entries =
     AllByRecursion
@@ -165,12 +165,12 @@ AreExpansionsCut text definitions rows entries =
 
 -- ---- the order of definitions and entries
 
--- the definitions begin one after the other, between two byte offsets
+-- the definitions begin in order, not before the first byte offset and not after the second
 abbrev pub BeginBetween : ℕ → ℕ → List FieldReading → Type 0
 BeginBetween at end [] = at ≤ end
 BeginBetween at end (f ∷ fs) = (at ≤ f.name.start) × BeginBetween f.name.start end fs
 
--- the entries begin one after the other, from a byte offset on
+-- the entries begin in order, not before a byte offset
 abbrev pub AreFrom : ℕ → List EntryReading → Type 0
 AreFrom at [] = ⊤
 AreFrom at (e ∷ es) = (at ≤ e.start) × AreFrom e.start es
@@ -179,7 +179,7 @@ AreFrom at (e ∷ es) = (at ≤ e.start) × AreFrom e.start es
 abbrev pub start_at : List FieldReading → ℕ → ℕ
 start_at definitions i = slice_index_or (map (λ f. f.name.start) definitions) i 0
 
--- the definitions from an index up to the next one begin before a byte offset
+-- the definitions from the index `from` on and before the index `next` begin before a byte offset
 abbrev pub BeginBefore : List FieldReading → ℕ → ℕ → ℕ → Type 0
 BeginBefore definitions start from next = (i : ℕ) → from ≤ i → i < next → start_at definitions i < start
 

@@ -5,10 +5,10 @@ ghost use Rattle.edit_strings.specs.Collected as spec;
 ghost use Rattle.edit_strings.specs.Collected.{AreThoseThat, CanBeCollected, distinct, times_of};
 ghost use Rattle.edit_strings.specs.Collecting.{count_in, known_in, lent_texts};
 
-use crate::braces::can_stand_in_braces;
 use crate::naming::is_longer_than_name;
 use crate::texts::count_of;
 use edit_entries::balance::is_balanced;
+use edit_entries::braces::can_stand_in_braces;
 use std::alloc::{AllocError, Global};
 use std::collections::{BTreeMap, BTreeSet};
 
@@ -22,8 +22,8 @@ fn is_shortened(alloc: Global, known: &BTreeMap<&str, &str>, text: &str) -> Resu
     is_longer_than_name(alloc, text)
 }
 
-// Returns whether `text` was counted at least `least` times, has a name in `known` or is longer than its new name, and can be written
-// between braces, also for BibTeX.
+// Returns whether `text` was counted at least `least` times, and can be written between braces, also for BibTeX. It must also have a name
+// in `known` or be longer than its new name.
 fn is_collected(
     alloc: Global,
     known: &BTreeMap<&str, &str>,

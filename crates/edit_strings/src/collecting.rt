@@ -48,7 +48,7 @@ fn indices<'s>(alloc: Global, texts: &[&'s str]) -> Result<BTreeMap<&'s str, usi
     Ok(indices)
 }
 
-// If the text of `field` is collected, appends the edit that replaces its value by the new name.
+// If the text of `field` is collected, appends the edit that replaces its value by the name of the text.
 fn push_edit(
     edits: &mut Vec<Edit>,
     alloc: Global,
@@ -237,12 +237,13 @@ fn with_collection(
 ///
 /// A text gets the name of the first definition that can be reused for it, as the name is written there. Such a definition is
 /// before the first entry, and its value is the text as one literal. Its name has no other definition in any ASCII case and no
-/// leading digit, and isn't a month's abbreviation. Each other text gets a new name: the first ASCII letters of its words in
-/// lowercase, up to 8 letters of a single word, or `s` if there are none. The least number from 2 on is added if this name is a
-/// month's abbreviation, or is defined or used in the file in any ASCII case, or is the name of an earlier text.
+/// leading digit, and isn't a month's abbreviation. Each other text gets a new name in lowercase: the first ASCII letter of each
+/// word, or the first 8 ASCII letters of a single word. If there are none, it is `s`. Unless this name is new, the least number
+/// from 2 on that makes it new is added. A new name isn't a month's abbreviation, isn't defined or used in the file in any ASCII
+/// case, and isn't the name of an earlier text.
 ///
-/// The definitions of new names are directly before the first entry, one line `@string{name = {text}}` for each, in the order of
-/// the first occurrences of the texts. Their line ends are CR LF if the first line of the text ends so, and LF otherwise. Everything
+/// The definitions of new names are directly before the first entry, in the order of the first occurrences of the texts. Each is
+/// `@string{name = {text}}` and a line end. Their line ends are CR LF if the first line of the text ends so, and LF otherwise. Everything
 /// else is unchanged. Returns an error only if memory runs out.
 pub fn collect(
     alloc: Global,

@@ -13,7 +13,7 @@ use bib_text::spanned::Spanned;
 use std::alloc::{AllocError, Global};
 use std::collections::BTreeMap;
 
-// Indices of definitions, by their names in lowercase.
+// Indices of definitions, by their names in ASCII lowercase.
 pub(crate) type Indices = BTreeMap<String, usize>;
 
 // Sets the index of the name of `definition`.

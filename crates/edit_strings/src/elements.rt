@@ -14,8 +14,8 @@ use bib_syntax::raw::RawChunk;
 use bib_text::spanned::Spanned;
 use std::alloc::{AllocError, Global};
 
-// Appends the literal `content` with its delimiters in the file: those of the brace or quote at the end of `before`, the text
-// before it, or none if there is no such character.
+// Appends the literal `content` with its delimiters in the file. The text before it, `before`, ends with the opening delimiter. A
+// number has none.
 fn push_literal(new: &mut String, before: &str, content: &str) -> Result<(), AllocError>
     ensures { OnOk result (string_bytes new.new ≡ string_bytes new.old ++ delimited Keep before.now content.now) }
 {

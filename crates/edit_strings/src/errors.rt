@@ -18,7 +18,8 @@ pub enum ExpandError {
 }
 
 impl ExpandError {
-    /// Returns the index of the definition that uses its own name, or one that is defined later, or an `AllocError` for `OutOfMemory`.
+    /// Returns the index of the definition that uses its own name, or one that is only defined later. For `OutOfMemory`, returns an
+    /// `AllocError`.
     pub fn unless_out_of_memory(self) -> Result<usize, AllocError>
         ensures early_use { IfOk result (λ index. self ≡ EarlyUse index) }
         ensures no_memory { OnErr result (self ≡ OutOfMemory) }

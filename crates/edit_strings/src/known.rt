@@ -25,7 +25,7 @@ pub(crate) fn first_entry_start(entries: &[Spanned<RawEntry<'_>>]) -> usize
     }
 }
 
-// Returns how often `lowercase`, a name in lowercase, was counted.
+// Returns how often `lowercase`, a name in ASCII lowercase, was counted.
 fn name_count(counts: &BTreeMap<String, usize>, lowercase: &str) -> usize
     ensures { result ≡ name_count_in counts.now lowercase.now }
 {
@@ -61,7 +61,7 @@ fn has_digit_first(name: &str) -> bool
     }
 }
 
-// Returns whether `name` is no month's abbreviation, begins with no digit, and was counted once. `lowercase` is `name` in lowercase.
+// Returns whether `name` is no month's abbreviation, begins with no digit, and was counted once. `lowercase` is `name` in ASCII lowercase.
 fn is_counted_once(counts: &BTreeMap<String, usize>, name: &str, lowercase: &str) -> bool
     ensures { result ≡ (not (spec.is_month name.now) && not (spec.has_digit_first name.now)
         && (name_count_in counts.now lowercase.now == 1)) }
@@ -83,8 +83,8 @@ fn is_reusable_name(
     Ok(is)
 }
 
-// Returns the text for which `definition` can be reused: its value, if it is one literal, the definition is before the byte
-// offset `start`, and its name can be reused.
+// Returns the text for which `definition` can be reused: its value, if this is one literal. The definition must begin before the
+// byte offset `start`, and its name must be reusable.
 fn reusable_text<'s>(
     alloc: Global,
     counts: &BTreeMap<String, usize>,

@@ -1,4 +1,4 @@
-//! References that stay as they are when entries get new keys, although they name such an entry by an abbreviation or in parts.
+//! References that stay as they are when entries get new keys, although they refer to such an entry by an abbreviation or in parts.
 
 ghost use Rattle.std.specs.Prelude.{◌≡◌, ◌++◌, ℕ, IfOk, OnOk, is_some, length, map};
 ghost use Rattle.std.specs.List.{flat_map};
@@ -24,18 +24,18 @@ use edit_entries::references::first_renamed;
 use std::alloc::{AllocError, Global};
 use std::collections::BTreeMap;
 
-/// A reference that stays as it is when entries get new keys, although it names such an entry.
+/// A reference that stays as it is when entries get new keys, although it refers to such an entry.
 #[derive(Drop)]
 pub struct LeftReference<'a, 's> {
     /// The entry with the reference.
     pub entry: &'a Spanned<RawEntry<'s>>,
     /// The field of the reference.
     pub field: &'a Pair<'s>,
-    /// The first name in the reference that would get a new one.
+    /// The first key in the reference that refers to an entry with a new key.
     pub name: Text,
 }
 
-// The pieces of each definition of a file, and the names of its entries.
+// The pieces of each definition of a file, and the new keys of its entries by their names.
 #[derive(Drop)]
 struct Known<'a, 'k, 's> {
     rows: Vec<Vec<Indexed<'a, 's>>>,
@@ -97,7 +97,7 @@ fn is_joined_reference(field: &Pair<'_>) -> bool
     is_reference_field(field.key.v) && !is_literal(&field.value.v)
 }
 
-// Returns the first name in a field that would get a new one, but stays.
+// Returns the first key in a field that refers to an entry with a new key, if the field is a reference whose value isn't one literal.
 fn left_name<'a, 's>(
     alloc: Global,
     known: &Known<'a, '_, 's>,
@@ -119,7 +119,7 @@ fn left_name<'a, 's>(
     }
 }
 
-// Appends the reference in a field, if a name in it stays.
+// Appends the reference in a field, if `name` is a key in it that refers to an entry with a new key.
 fn push_left<'a, 's>(
     left: &mut Vec<LeftReference<'a, 's>>,
     entry: &'a Spanned<RawEntry<'s>>,
@@ -180,7 +180,7 @@ fn left_in_entries<'a, 's>(
     Ok(left)
 }
 
-/// Returns the references of a document that stay as they are when entries get new keys, although they name such an entry: their values
+/// Returns the references of a document that stay as they are when entries get new keys, although they refer to such an entry. Their values
 /// aren't one literal, but an abbreviation or several pieces. Such a value is the texts of its pieces, one after another. An abbreviation
 /// has the text of its last definition before the entry, in any ASCII case, and an empty text without one.
 pub fn left_references<'a, 's>(

@@ -8,12 +8,11 @@
 //! lines are written before the first entry.
 //!
 //! Each replaced value is one edit of the text. All edits are applied in one pass, and the new text isn't parsed again. The
-//! proof that the new text parses to the expected entries takes the edits from the last to the first (`ExchangedFacts`), with
-//! the lemmas of `edit_entries` about one edit of a field. A copied piece was parsed at some place of the file. It parses in
+//! proof of its reading takes the edits from the last to the first (`ExchangedFacts`), with the lemmas of `edit_entries` about
+//! one edit of a field. A copied piece was parsed at some place of the file. It parses in
 //! the same way wherever its bytes occur before a character that can't continue a name or a number (`ElementFacts`).
 #![tactic(auto)]
 
-mod braces;
 mod collected;
 pub mod collecting;
 mod definitions;

@@ -43,7 +43,7 @@ fn is_met_after(is_met: bool, c: char) -> bool
     !c.is_whitespace() && (is_met || c.is_ascii_alphabetic())
 }
 
-// Appends `c` in lowercase if it is the first letter of a word.
+// Appends `c` in lowercase if it is the first ASCII letter of a word.
 fn push_initial(initials: &mut String, is_met: bool, c: char) -> Result<(), AllocError>
     ensures { OnOk result (string_bytes initials.new ≡ string_bytes initials.old ++ letter_at is_met c) }
 {
@@ -122,7 +122,7 @@ fn numbered(alloc: Global, base: &str, number: u64) -> Result<String, AllocError
     }
 }
 
-// Returns whether `name`, in lowercase, can't be a new name: it is the abbreviation of a month, or is taken.
+// Returns whether `name`, in ASCII lowercase, can't be a new name: it is the abbreviation of a month, or is taken.
 fn is_used(taken: &Taken, name: &str) -> bool
     ensures { result ≡ (spec.is_month name.now || has_lowercase taken.now name.now) }
 {
@@ -130,7 +130,7 @@ fn is_used(taken: &Taken, name: &str) -> bool
 }
 
 // Returns the first number from `from` on that makes `base` a new name, and this name. Each number below `from` makes a name that is
-// used. No number from 2 on makes a month's abbreviation, so a number is only skipped for a taken name: the loop finds a new name
+// used. No number from 2 on makes a month's abbreviation, so a number is only skipped for a taken name. So the loop finds a new name
 // before its end.
 fn fresh(alloc: Global, taken: &Taken, base: &str, from: u64) -> Result<(u64, String), AllocError>
     requires plain { is_plain_name base.now ≡ true }

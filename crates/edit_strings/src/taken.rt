@@ -13,14 +13,14 @@ use bib_text::spanned::Spanned;
 use std::alloc::{AllocError, Global};
 use std::collections::BTreeSet;
 
-// Taken names in lowercase.
+// Taken names in ASCII lowercase.
 #[derive(Drop)]
 pub(crate) struct Taken {
     names: BTreeSet<String>,
 }
 
 impl Taken {
-    // Returns whether `lowercase`, a name in lowercase, is taken.
+    // Returns whether `lowercase`, a name in ASCII lowercase, is taken.
     pub(crate) fn has(&self, lowercase: &str) -> bool
         ensures { result ≡ has_lowercase self.now lowercase.now }
     {
@@ -35,7 +35,7 @@ impl Taken {
         self.names.len()
     }
 
-    // Adds `name` in lowercase to the taken names.
+    // Adds `name` in ASCII lowercase to the taken names.
     pub(crate) fn take(&mut self, alloc: Global, name: &str) -> Result<(), AllocError>
         ensures { OnOk result ((other : List ℕ) → is_taken self.new other ≡ (is_word name.now other || is_taken self.old other)) }
     {

@@ -18,7 +18,7 @@ fn found(alloc: Global, file: &str) -> Result<Vec<Finding>, AllocError> {
         origins,
         mut errors,
     } = keep(alloc, &raw)?;
-    let between = between(alloc, &skipped, &said, &origins, &names, &entries)?;
+    let between = between(alloc, file, &skipped, &said, &origins, &names, &entries)?;
     let mut unresolved = resolve_readable(alloc, &spans, &names, &mut entries)?;
     errors.append(&mut unresolved)?;
     findings_in(alloc, &skipped, &names, &errors, &said, &origins, &entries, between)

@@ -231,7 +231,7 @@ fn cut_chunk(
     parts.add(copy(chunk)?)
 }
 
-// Splits a list at each such separator.
+// Splits a list at each occurrence of `separator` in a normal chunk.
 fn list_parts(
     alloc: Global,
     chunks: ChunksRef<'_>,
@@ -291,9 +291,9 @@ fn trimmed_ends(alloc: Global, chunks: ChunksRef<'_>) -> Result<Chunks, AllocErr
     Ok(all)
 }
 
-/// Splits an `and` list into its parts, at each word `and` that has white space right before and after it inside one
-/// normal chunk. The white space next to such a word in that chunk is removed. So is white space at the start of the
-/// first chunk and at the end of the last one, if they are normal. If `chunks` is empty, the result is one empty part.
+/// Splits an `and` list into its parts. First removes white space at the start of the first chunk and at the end of the last
+/// one, if they are normal. Then splits at each word `and` that has white space right before and after it inside one normal
+/// chunk. Removes the white space next to such a word in that chunk. If `chunks` is empty, the result is one empty part.
 ///
 /// A piece of a chunk has the span of its text, counted in bytes from the start of the chunk. A piece that is the whole
 /// chunk keeps the span of the chunk. The only error is out of memory.

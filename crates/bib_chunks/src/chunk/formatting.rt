@@ -34,7 +34,7 @@ fn ends_in_space(text: &str, empty: bool) -> bool
     c.is_whitespace()
 }
 
-// Writes a space for a line break, or nothing after white space.
+// Writes a space for a line break, or nothing if `space`.
 fn write_break(out: &mut String, space: bool) -> Result<(), AllocError>
     ensures { OnOk result (Writes out.old out.new (if space then [] else char.space ∷ [])) }
 {
@@ -44,8 +44,8 @@ fn write_break(out: &mut String, space: bool) -> Result<(), AllocError>
     Ok(())
 }
 
-// Writes a normal text on one line. `space` says whether the last character before it is white space. Returns the same
-// for the next text.
+// Writes a normal text on one line. `space` says whether a line break at its start is dropped. Returns the same for the
+// next text.
 fn write_flowing(out: &mut String, text: &str, space: bool) -> Result<bool, AllocError>
     ensures written { OnOk result (Writes out.old out.new (flowing space (chars text.now))) }
     ensures following { IfOk result (λ after. after ≡
@@ -65,8 +65,8 @@ fn write_flowing(out: &mut String, text: &str, space: bool) -> Result<bool, Allo
     }
 }
 
-// Writes a chunk. `space` says whether the last character before it is white space. Returns the same for the next text;
-// math leaves it unchanged, and it is false after an empty verbatim text.
+// Writes a chunk. `space` says whether a line break at its start is dropped. Returns the same for the next text; math
+// leaves it unchanged, and it is false after an empty verbatim text.
 fn write_chunk(out: &mut String, chunk: &Chunk, space: bool) -> Result<bool, AllocError>
     ensures written { OnOk result (Writes out.old out.new
         (formatted_chunk (λ cs. cs) space chunk.now)) }
@@ -137,7 +137,8 @@ pub fn format_styled(alloc: Global, chunks: ChunksRef<'_>) -> Result<String, All
     Ok(out)
 }
 
-// Returns the character that replaces `c` on one line, if any. `space` says whether white space comes before it.
+// Returns the character that replaces `c` on one line: a space for a line break, or none if `space`. Any other character is
+// kept.
 fn char_on_line(c: char, space: bool) -> Option<char>
     ensures { option_to_list result ≡ char_on_line space c }
 {
@@ -182,7 +183,7 @@ fn write_cased(out: &mut String, c: char, begins: bool) -> Result<(), AllocError
 }
 
 // Writes a normal text on one line in sentence case. `begins` says whether the text begins the sentence, `space`
-// whether the last character before it is white space. Returns the same as `space` for the next text.
+// whether a line break at its start is dropped. Returns the same as `space` for the next text.
 fn write_sentence_text(
     out: &mut String,
     text: &str,

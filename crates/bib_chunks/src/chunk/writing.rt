@@ -1,4 +1,4 @@
-//! Writes values as a file has them.
+//! Writes values as they are written in a file.
 
 ghost use Rattle.std.specs.Prelude.{◌≡◌, ◌∷◌, [], ◌++◌, false, OnOk, IfOk, string_bytes, encode_utf8_all};
 ghost use Rattle.std.specs.Str.{chars};
@@ -92,7 +92,8 @@ fn write_text(out: &mut String, is_verbatim: bool, text: &str) -> Result<(), All
     }
 }
 
-// Returns the text before a chunk. `is_open` says whether the braces around verbatim chunks are open.
+// Returns the text directly before a chunk. `is_open` says whether the braces around verbatim chunks are open. Normal text closes
+// them, and verbatim text opens them. Before math it is a dollar sign.
 fn lead(chunk: &Chunk, is_open: bool) -> &'static str
     ensures { result.now ≡ lead is_open chunk.now }
 {
@@ -113,7 +114,7 @@ fn lead(chunk: &Chunk, is_open: bool) -> &'static str
     }
 }
 
-// Returns the text after a chunk.
+// Returns the text directly after a chunk: a dollar sign after math, and nothing after other chunks.
 fn trail(chunk: &Chunk) -> &'static str
     ensures { result.now ≡ trail chunk.now }
 {
@@ -196,7 +197,7 @@ pub(super) fn chunk_text(
     Ok(out)
 }
 
-/// Appends a value to `out` as a file has it, in braces. `is_verbatim` says whether the field is a verbatim one.
+/// Appends a value to `out` as it is written in a file, in braces. `is_verbatim` says whether the field is a verbatim one.
 ///
 /// The only error is out of memory. `out` may then end with a part of the value.
 pub fn write_value(
@@ -213,7 +214,7 @@ pub fn write_value(
     Ok(())
 }
 
-/// Returns a value as a file has it, in braces. `is_verbatim` says whether the field is a verbatim one.
+/// Returns a value as it is written in a file, in braces. `is_verbatim` says whether the field is a verbatim one.
 ///
 /// The only error is out of memory.
 pub fn value_text(

@@ -60,7 +60,7 @@ impl Entry {
         }
     }
 
-    // Returns whether the entry has editors in any role.
+    // Returns whether the entry has one of the four fields of editors.
     fn has_editor(&self) -> bool
         ensures { result ≡ has_editor self.now }
     {

@@ -109,8 +109,7 @@ fn cut_person(
     Ok(person(name, given, prefix, suffix))
 }
 
-// Returns the person of a name with a comma, given the chunks before the comma, the chunks of the given name and the
-// suffix.
+// Returns the person of a name with a comma. `first` is the chunks before the comma, and `second` is those of the given name.
 fn with_comma(
     alloc: Global,
     first: ChunksRef<'_>,

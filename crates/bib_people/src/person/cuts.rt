@@ -64,7 +64,7 @@ fn through_last(words: &[Word<'_>], kind: Kind) -> usize
     end
 }
 
-// Returns where a name without a comma is cut.
+// Returns the cuts of a name without a comma.
 #[tactic(auto, unfolding(crate::specs::Names::whole_name))]
 pub(crate) fn whole_name(words: &[Word<'_>]) -> Cuts
     ensures value { cuts_of result ≡ whole_name words.now }
@@ -91,7 +91,7 @@ pub(crate) fn whole_name(words: &[Word<'_>]) -> Cuts
     }
 }
 
-// Returns where the words before a comma are cut.
+// Returns the cuts of the words before a comma.
 #[tactic(auto, unfolding(crate::specs::Names::before_comma))]
 pub(crate) fn before_comma(words: &[Word<'_>]) -> Cuts
     ensures value { cuts_of result ≡ before_comma words.now }

@@ -13,7 +13,8 @@ use crate::raw::words::{begins_identifier, error, expect, key};
 use crate::raw::{ParseError, ParseErrorKind, Token};
 use std::alloc::Global;
 
-// Parses fields up to the closing brace of their block. Appends the offset of each field to `starts` before parsing it.
+// Parses fields up to the closing brace of their block. Appends the offset of each field to `starts` before parsing it. Stops
+// at a field whose error is known, without appending its offset.
 fn add_starts(
     s: &mut Reader<'_, '_>,
     alloc: Global,
@@ -41,7 +42,7 @@ fn add_starts(
     Ok(())
 }
 
-// Parses the key of an entry, the comma after it and its fields. Appends the offset of each field to `starts` before parsing it.
+// Parses the key of an entry, the comma after it and its fields. Appends offsets of fields to `starts` as `add_starts` does.
 fn add_entry_starts(
     s: &mut Reader<'_, '_>,
     alloc: Global,
@@ -58,8 +59,8 @@ fn add_entry_starts(
     Ok(())
 }
 
-// Parses the fields of the block at this at sign, and appends the offset of each to `starts` before parsing it. If that fails,
-// parsing fields from each of these offsets fails with the same error.
+// Parses the fields of the block at this at sign, and appends offsets of fields to `starts` as `add_starts` does. If that fails
+// and memory didn't run out, parsing fields from each of these offsets fails with the same error.
 pub(crate) fn failing_fields(
     s: &mut Reader<'_, '_>,
     alloc: Global,

@@ -70,7 +70,7 @@ pub(crate) fn field<'s>(s: &mut Reader<'s, '_>, alloc: Global) -> Result<Pair<'s
     Ok(Pair::new(name, Spanned::new(pieces, start..s.cursor())))
 }
 
-// Moves past white space to the closing brace after fields. No name may begin here.
+// Moves past white space to the closing brace after fields. Must not be called at an identifier.
 pub(crate) fn closing_brace(s: &mut Reader<'_, '_>) -> Result<(), ParseError>
     requires { Stops is_id_start s.old }
     ensures found { OnOk result (Longest is_whitespace s.old s.new ×

@@ -58,7 +58,7 @@ pub(crate) enum Item<'s> {
     Entry(Spanned<RawEntry<'s>>),
 }
 
-// Parses the head of a block: its at sign, its name, a brace or a quote, and white space.
+// Parses the head of a block: its at sign, its name, white space, an opening brace or a quote, and white space. Returns the name.
 pub(crate) fn head<'s>(s: &mut Reader<'s, '_>) -> Result<Spanned<&'s str>, ParseError>
     requires { (v : Place) × CharAt s.old char.at v }
     ensures found { IfOk result (λ kind. Head longest s.old (part_of kind) s.new) }

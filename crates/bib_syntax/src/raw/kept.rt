@@ -21,14 +21,14 @@ use bib_text::scanner::Scanner;
 use bib_text::spanned::{Span, Spanned};
 use std::alloc::{AllocError, Global};
 
-// Returns whether `c` opens a block: a brace, a quote or a parenthesis.
+// Returns whether `c` opens a block: an opening brace, a quote or an opening parenthesis.
 fn opens_block(c: char) -> bool
     ensures { result ≡ spec.opens_block c }
 {
     matches!(c, '{' | '"' | '(')
 }
 
-// Returns whether a brace, a quote or a parenthesis is here.
+// Returns whether a character that opens a block is here.
 fn begins_bracket(s: &Reader<'_, '_>) -> bool
     ensures { MatchBool result
         ((c : ℕ) × (v : Place) × CharAt s.now c v × (spec.opens_block c ≡ true))
@@ -93,7 +93,7 @@ fn complete_field<'s>(s: &mut Reader<'s, '_>, alloc: Global) -> Result<Option<Pa
     }
 }
 
-// Parses fields up to the first that isn't complete, or up to one without a comma after it.
+// Parses the complete fields from here on, until no complete field begins or no comma follows one.
 fn complete_fields<'s>(s: &mut Reader<'s, '_>, alloc: Global) -> Result<Vec<Pair<'s>>, AllocError>
     ensures { IfOk result (λ pairs. CompleteFields s.old (map field_of pairs.items) s.new) }
 {
@@ -127,7 +127,7 @@ fn key_alone<'s>(
 }
 
 // Parses the key of an entry and its complete fields. `start` is the offset of the entry. If no comma follows the key, the
-// entry has no fields.
+// entry has no fields, or nothing is kept if the key is empty.
 fn kept_entry<'s>(
     s: &mut Reader<'s, '_>,
     alloc: Global,

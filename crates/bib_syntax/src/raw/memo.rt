@@ -8,7 +8,8 @@ use crate::raw::failures::Failures;
 use crate::raw::stretches::{Stretch, lines, tail};
 use std::alloc::{AllocError, Global};
 
-// Where the braces of a text close, its lines, the stretch after its last closing brace, and fields that can't be parsed.
+// Where the braces of a text close, its lines, the stretch after its last closing brace, and offsets from which parsing fields
+// fails.
 #[derive(Drop)]
 pub(crate) struct Memo {
     pub(crate) closings: Vec<Closing>,
@@ -18,7 +19,7 @@ pub(crate) struct Memo {
 }
 
 impl Memo {
-    // Returns the memo of `text`, without failures of fields.
+    // Returns the memo of `text`, without failures.
     pub(crate) fn new(alloc: Global, text: &str) -> Result<Self, AllocError>
         ensures { IfOk result (IsMemoOf text.now) }
     {

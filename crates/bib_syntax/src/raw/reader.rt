@@ -199,7 +199,7 @@ impl<'s, 'm> Reader<'s, 'm> {
     }
 
     // Returns the offset of the brace that closes the text from here, if it is known. Returns `Some(None)` if no brace closes
-    // the text, and `None` if this isn't known. It is known only for places after an opening brace.
+    // the text, and `None` if this isn't known. It is known only directly after an opening brace.
     pub(crate) fn known_close(&self) -> Option<Option<usize>>
         ensures { IfSome result (IsCloseOf self.now) }
     {

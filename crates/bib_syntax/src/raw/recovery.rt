@@ -118,7 +118,7 @@ fn remember(memo: &mut Option<Memo>, starts: &[usize], error: &ParseError) -> Re
     }
 }
 
-// If there is a memo, adds to it the offsets in the block at this at sign from which parsing fields fails.
+// If there is a memo, adds to it the offsets of the fields of the block at this at sign from which parsing fields fails.
 fn remember_failures(
     s: &Reader<'_, '_>,
     alloc: Global,
@@ -190,8 +190,8 @@ impl<'s> RawRecovery<'s> {
         Ok(())
     }
 
-    // Parses the block at this at sign. If that fails, skips the block, and adds its failed fields to the memo if there is
-    // one.
+    // Parses the block at this at sign. If the grammar rejects it, skips the block, and adds the offsets of its fields to the memo
+    // if there is one.
     fn add_block(
         &mut self,
         s: &mut Reader<'s, '_>,

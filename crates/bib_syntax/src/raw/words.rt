@@ -32,7 +32,7 @@ pub(crate) fn error(s: &Reader<'_, '_>, kind: ParseErrorKind) -> ParseError
     }
 }
 
-// Moves past the next character if it is `c`, and otherwise reports that `token` was expected.
+// Moves past the next character if it is `c`, and otherwise returns the error that `token` was expected.
 pub(crate) fn expect(s: &mut Reader<'_, '_>, c: char, token: Token) -> Result<(), ParseError>
     ensures found { OnOk result (CharAt s.old c s.new) }
     ensures none { OnErr result ((v : Place) → CharAt s.old c v → ⊥) }
@@ -45,7 +45,7 @@ pub(crate) fn expect(s: &mut Reader<'_, '_>, c: char, token: Token) -> Result<()
     Ok(())
 }
 
-// Moves past the next character if it is the brace `c` or a quote, and otherwise reports that `token` was expected.
+// Moves past the next character if it is the brace `c` or a quote, and otherwise returns the error that `token` was expected.
 pub(crate) fn brace(s: &mut Reader<'_, '_>, c: char, token: Token) -> Result<(), ParseError>
     ensures found { OnOk result ((d : ℕ) × CharAt s.old d s.new × (d == c || d == char.quote ≡ true)) }
     ensures none { OnErr result ((d : ℕ) (v : Place) → CharAt s.old d v →
@@ -71,7 +71,7 @@ pub(crate) fn begins_identifier(s: &Reader<'_, '_>) -> bool
     }
 }
 
-// Parses an identifier: an entry type, or the name of a field or an abbreviation.
+// Parses an identifier: the name of a block, a field or an abbreviation.
 pub(crate) fn identifier<'s>(s: &mut Reader<'s, '_>) -> Result<Spanned<&'s str>, ParseError>
     ensures found { IfOk result (λ name. Identifier longest s.old (part_of name) s.new) }
     ensures fails { IfErr result (Reports (IdentifierFails s.old)) }

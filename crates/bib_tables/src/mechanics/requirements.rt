@@ -28,7 +28,7 @@ pub enum AuthorMode {
 }
 
 impl AuthorMode {
-    /// Returns those of the two fields that an entry with this rule can inherit.
+    /// Returns those of the two fields that this rule requires or allows; none for `NoneRequired`.
     pub fn possible(self) -> &'static [&'static str]
         ensures { texts result.now ≡ author_names self }
     {
@@ -62,7 +62,7 @@ pub enum PagesChapterMode {
 }
 
 impl PagesChapterMode {
-    /// Returns those of the two fields that an entry with this rule can inherit.
+    /// Returns those of the two fields that this rule requires or allows; none for `None`.
     pub fn possible(self) -> &'static [&'static str]
         ensures { texts result.now ≡ page_names self }
     {
@@ -74,7 +74,8 @@ impl PagesChapterMode {
     }
 }
 
-/// The required, optional and forbidden fields of an entry type.
+/// The required, optional and forbidden fields of an entry type. The lists lack `author`, `editor`, `pages`, `chapter`, `date`
+/// and `year`, which have rules of their own.
 #[derive(Debug, Clone, Drop)]
 pub struct Requirements {
     /// Required fields.

@@ -1,4 +1,4 @@
-//! The languages of BibLaTeX.
+//! Languages of BibLaTeX: those that the Rust crate `biblatex` lists.
 
 ghost use Rattle.std.specs.Prelude.{◌≡◌, Some, Option};
 ghost use Rattle.std.specs.Option.{ok_or};

@@ -80,7 +80,7 @@ pub enum Takes {
 
 /// An argument of a command.
 pub struct Argument {
-    /// The name: without hyphens for an option.
+    /// The name; for an option without `--` before it.
     pub name: &'static str,
     /// Its values.
     pub takes: Takes,
@@ -128,7 +128,7 @@ static DELIMITERS: [&str; 3] = ["keep", "braces", "quotes"];
 // The values of `--to`.
 static TARGETS: [&str; 5] = ["csl", "json", "ris", "biblatex", "bibtex"];
 
-// The values of `--from`.
+// The values of `--from` of `convert`.
 static SOURCES: [&str; 2] = ["bib", "csl"];
 
 /// Returns the argument for the files that a command reads.

@@ -111,15 +111,22 @@ const CONVERT: [Argument; 3] = [
 // The text at the end of the help of `resolve`.
 const RESOLVE_HELP: &str = "\
 Replaces the references of each entry (crossref, xdata) by the fields that it inherits by BibLaTeX's rules, with their text from the file.
-Keeps references to unknown keys, the entries that are referred to, and all other text.
+Keeps references to unknown keys, the entries that are referred to, and all other text. --not-inherited prints a note for each entry that
+is referred to and has fields that aren't inherited, such as options, if the entry with the reference lacks them.
 
-Example:
+Examples:
   bibkit resolve --write refs.bib
+  bibkit resolve --not-inherited refs.bib >resolved.bib
 
 Status: 0 done, 1 a file has errors, 2 wrong usage, or a file or the output failed, 3 out of memory";
 
 // The arguments of `resolve`.
-const RESOLVE: [Argument; 2] = [
+const RESOLVE: [Argument; 3] = [
+    Argument {
+        name: "not-inherited",
+        takes: Takes::Nothing,
+        help: "Report the fields that entries don't inherit from the entries they refer to",
+    },
     Argument {
         name: "write",
         takes: Takes::Nothing,

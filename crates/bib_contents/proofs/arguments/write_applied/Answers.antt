@@ -3,12 +3,13 @@ use Rattle.std.specs.Prelude.{encode_utf8_all, string_bytes}
 use Rattle.std.specs.Str.{chars}
 use Rattle.std.proofs.lemmas.Result.{err_from_is_err_and}
 use Rattle.std.proofs.lemmas.Str.{IsUtf8-string_bytes}
+use Rattle.std.proofs.lemmas.List.{nil_from_length}
 use Rattle.bib_contents.specs.Arguments.{argument_written}
 use Rattle.bib_contents.specs.Effects.{before_argument}
 use Rattle.bib_contents.specs.Progress.{left}
 use Rattle.bib_contents.proofs.ArgumentReading.{name_plain}
 use Rattle.bib_contents.proofs.EffectFacts.{wrote_from}
-use Rattle.bib_contents.proofs.StackFacts.{reversed_push, no_elements}
+use Rattle.bib_contents.proofs.StackFacts.{reversed_push}
 use Rattle.bib_contents.proofs.FrameFacts.{weight, begun_here, begun_on, read_begun, reading_first, reading_on, reading_follows, reading_below, reading_done, stays_wider, fails_up}
 use Rattle.bib_contents.proofs.arguments.write_applied.Goals as goal
 
@@ -74,7 +75,7 @@ end-requires c =
 
 pub returns-in_default-clause-read : goal.returns-in_default-clause-read
 returns-in_default-clause-read c =
-    let none = no_elements c.units.frames.items (omega (arith, c.in_default.ensures.cases.0, c.units.frames.ok.0)) in
+    let none = nil_from_length c.units.frames.items (omega (arith, c.in_default.ensures.cases.0, c.units.frames.ok.0)) in
     let inv = rw none at c.units.invariant in
     let read =
     rw c.in-End.is at

@@ -1,4 +1,4 @@
-use Rattle.bib_dates.proofs.Cuts.{after_digits}
+use Rattle.bib_text.proofs.DigitFacts.{after_digits}
 use Rattle.bib_csl.proofs.dates.after_digits.Goals as goal
 
 pub split_at-requires : goal.split_at-requires

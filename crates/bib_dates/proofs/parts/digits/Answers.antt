@@ -1,5 +1,4 @@
-use Rattle.bib_dates.proofs.Cuts.{after_digits}
-use Rattle.bib_dates.proofs.Digits.{run_digits}
+use Rattle.bib_text.proofs.DigitFacts.{run_digits, after_digits}
 use Rattle.bib_dates.proofs.parts.digits.Goals as goal
 
 pub split_at-requires : goal.split_at-requires

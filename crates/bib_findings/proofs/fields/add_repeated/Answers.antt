@@ -5,6 +5,7 @@ use Rattle.std.proofs.lemmas.List.{map_more, take_all}
 use Rattle.std.proofs.lemmas.Map.Text.{btree_set_updates_text}
 use Rattle.bib_syntax.specs.Views.{field_of}
 use Rattle.bib_findings.specs.After.{each_after}
+use Rattle.bib_findings.specs.Counted.{lowercase_name}
 use Rattle.bib_findings.specs.Fields.{repeated_after}
 use Rattle.bib_findings.proofs.RepeatedFacts.{AreSeen, repeated_next, seen_more}
 use Rattle.bib_findings.proofs.fields.add_repeated.Goals as goal
@@ -23,8 +24,8 @@ fields-preserved c =
     record {
       seen =
           subst (AreSeen (contains_text c.insert.new.self)) (sym next)
-          (seen_more (contains_text c.fields.seen) (contains_text c.insert.new.self) (map field_of (take index fields)) (field_of field)
-          name c.in_ok-name.ensures.ok c.fields.invariant.seen
+          (seen_more lowercase_name (contains_text c.fields.seen) (contains_text c.insert.new.self) (map field_of (take index fields))
+          (field_of field) name c.in_ok-name.ensures.ok c.fields.invariant.seen
           (btree_set_updates_text name c.fields.seen c.insert.new.self true c.in_ok-is_new.ensures.updates));
       found =
           repeated_next c.args.said.now.v.key.v.now (map field_of (take (index + 1) fields)) (map field_of (take index fields))

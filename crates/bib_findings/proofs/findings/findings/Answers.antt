@@ -59,7 +59,7 @@ returns c =
     let resolved = subst (λ p. AreRecovered p names own entries of_references) c.deref-5.ensures.value
     (subst (λ es. AreRecovered c.deref-5.result.now names es entries of_references) c.deref_mut.ensures.value
     c.in_ok-unresolved.ensures.recovered) in
-    let are_between = between_of c.deref.result.now skipped names (entries_said c.deref-2.result.now) says.entries
+    let are_between = between_of c.args.text.now c.deref.result.now skipped names (entries_said c.deref-2.result.now) says.entries
     c.deref-3.result.now origins c.deref-4.result.now own linked
     c.deref.ensures.value (ap (map entry_reading_of) c.deref-2.ensures.value) c.deref-3.ensures.value c.deref-4.ensures.value
     c.in_ok-linked.ensures in

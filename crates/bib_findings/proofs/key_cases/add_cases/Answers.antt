@@ -3,7 +3,8 @@ use Rattle.std.specs.BTreeMap.{get_by_text}
 use Rattle.bib_syntax.specs.Views.{entry_reading_of}
 use Rattle.bib_findings.specs.Duplicates.{entries_at}
 use Rattle.bib_findings.specs.FirstKeys.{AreFirstKeys}
-use Rattle.bib_findings.proofs.KeyFacts.{case_next}
+use Rattle.bib_findings.specs.KeyCases.{case_after}
+use Rattle.bib_findings.proofs.AfterFacts.{appended_next}
 use Rattle.bib_findings.proofs.SeenFacts.{entries_next}
 use Rattle.bib_findings.proofs.key_cases.add_cases.Goals as goal
 
@@ -21,7 +22,7 @@ origins-preserved c =
           subst (AreFirstKeys (get_by_text c.add_case.new.firsts)) (sym next)
           (c.in_ok-add_case.ensures.firsts earlier c.origins.invariant.firsts);
       found =
-          case_next (entries_at said (take (index + 1) origins)) earlier one c.args.found.now.items c.origins.found.items
+          appended_next case_after (entries_at said (take (index + 1) origins)) earlier one c.args.found.now.items c.origins.found.items
           c.add_case.new.found.items next c.origins.invariant.found
           (c.in_ok-add_case.ensures.added earlier c.origins.invariant.firsts);
     }

@@ -7,12 +7,13 @@ use Rattle.bib_collections.specs.Rows.{rows}
 use Rattle.bib_collections.specs.Solving.{IsSolvedTo}
 use Rattle.bib_collections.proofs.Rows.{length-rows, row_at, row_in}
 use Rattle.bib_collections.proofs.Solving.{solved_all}
+use Rattle.bib_collections.proofs.LeadFacts.{turn_within}
 use Rattle.bib_inheritance.specs.EntryTexts.{no_entry}
 use Rattle.bib_inheritance.specs.Resolving.{rule_by, texts_of_entries, texts_of_entry}
 use Rattle.bib_inheritance.specs.Turning.{AreDates}
 use Rattle.bib_inheritance.proofs.DateFacts.{after_more, dates_kept, none_read, turn_unread}
 use Rattle.bib_inheritance.proofs.FlagFacts.{skipped}
-use Rattle.bib_inheritance.proofs.TurnFacts.{no_indices, turn_within, turned_chunks, turned_more, turned_none}
+use Rattle.bib_inheritance.proofs.TurnFacts.{no_indices, turned_chunks, turned_more, turned_none}
 use Rattle.bib_inheritance.proofs.turning.take_turns.Goals as goal
 
 pub order-init : goal.order-init

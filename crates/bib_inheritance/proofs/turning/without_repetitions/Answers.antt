@@ -1,16 +1,13 @@
-use Rattle.std.proofs.Common.{map, ◌≡◌, ◌+◌, ◌∷◌, [], ◌∙◌, ℕ, Bool, true, false, not, refl, ap, sym, subst, get_or, eqb, take}
+use Rattle.std.proofs.Common.{map, ◌≡◌, ◌+◌, ◌∷◌, [], ◌∙◌, ℕ, true, ap, sym, subst, get_or, eqb, take}
 use Rattle.std.specs.BTreeSet.{contains}
 use Rattle.std.specs.List.{All, Contains, list_any}
 use Rattle.std.specs.Ordering.{nat_cmp}
 use Rattle.std.proofs.lemmas.List.Elements.{All-append, All-cons, All-contains_itself, All-nil, Contains-get_or}
+use Rattle.bib_text.proofs.BoolFacts.{true_from_not}
 use Rattle.bib_inheritance.specs.Inherited.{inherited_field}
 use Rattle.bib_inheritance.proofs.TurnFacts.{GivesSame, gives_again, gives_more, seen_more}
 use Rattle.bib_inheritance.proofs.turning.without_repetitions.Goals as goal
 use Rattle.bib_inheritance.proofs.turning.without_repetitions.Goals.{then-branch+in_ok-push, else-branch}
-
-not_false : (b : Bool) → false ≡ not b → b ≡ true
-not_false true e = refl
-not_false false e = e
 
 pub indices-preserved : goal.indices-preserved
 indices-preserved c =
@@ -36,7 +33,7 @@ indices-preserved c =
           let kept = ap (λ v. v.items) w.first-is in
           let again : list_any (λ x. eqb x p) (take i indices) ≡ true =
           sym (c.indices.invariant.seen p)
-          ∙ not_false (contains nat_cmp c.indices.seen p) (sym w.if-branch.false ∙ c.in_ok-insert.ensures.added) in
+          ∙ true_from_not (contains nat_cmp c.indices.seen p) (sym w.if-branch.false ∙ c.in_ok-insert.ensures.added) in
           record {
             among = subst (All (Contains indices)) (sym kept) c.indices.invariant.among;
             seen = λ q.

@@ -2,12 +2,12 @@ use Rattle.std.proofs.Common.{List, ℕ, rules, tests, sym, ◌∙◌}
 use Rattle.std.specs.Str.{str_eq_ignore_ascii_case}
 use Rattle.std.proofs.lemmas.Iterator.{YieldsList-from_slice}
 use Rattle.std.proofs.lemmas.Iterator.Search.{any_from_yields_List}
+use Rattle.bib_text.proofs.ListFacts.{any_mapped}
 use denote.Ref.{Bor}
-use Rattle.bib_keys.proofs.WordFacts.{any_of_map}
 use Rattle.bib_keys.proofs.titles.is_among.Goals as goal
 
 pub returns : goal.returns
 returns c =
     any_from_yields_List (λ (known : Bor (List ℕ)). str_eq_ignore_ascii_case known.now c.args.word.now) _ _ _
     c.any.ensures.ran (YieldsList-from_slice c.args.words.now cc) (λ x b q k. search (rules, tests))
-    ∙ sym (any_of_map (λ (known : Bor (List ℕ)). known.now) (λ known. str_eq_ignore_ascii_case known c.args.word.now) c.args.words.now)
+    ∙ sym (any_mapped (λ (known : Bor (List ℕ)). known.now) (λ known. str_eq_ignore_ascii_case known c.args.word.now) c.args.words.now)

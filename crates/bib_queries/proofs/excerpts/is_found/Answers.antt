@@ -1,8 +1,8 @@
 use Rattle.std.proofs.Common.{◌∙◌, ◌&&◌, map, ap, sym}
 use Rattle.std.specs.List.{list_any}
+use Rattle.bib_text.proofs.ListFacts.{any_mapped}
 use Rattle.bib_syntax.specs.Views.{piece_of}
 use Rattle.bib_queries.specs.Answers.{has_part, piece_text}
-use Rattle.bib_queries.proofs.ExcerptFacts.{any_mapped}
 use Rattle.bib_queries.proofs.excerpts.is_found.Goals as goal
 
 pub returns-then-is_name : goal.returns-then-is_name

@@ -1,8 +1,8 @@
 use Rattle.std.proofs.Common.{◌∙◌, ap, sym}
 use Rattle.std.specs.List.{list_any}
+use Rattle.bib_text.proofs.ListFacts.{any_mapped}
 use Rattle.bib_syntax.specs.Views.{field_of}
 use Rattle.bib_queries.specs.Answers.{is_found}
-use Rattle.bib_queries.proofs.ExcerptFacts.{any_mapped}
 use Rattle.bib_queries.proofs.excerpts.is_found_in.Goals as goal
 
 pub returns : goal.returns

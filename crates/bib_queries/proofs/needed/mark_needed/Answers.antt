@@ -1,10 +1,10 @@
 use Rattle.std.proofs.Common.{◌≡◌, ◌<◌, ◌∙◌, [], ℕ, List, false, length, map, replicate, ap, sym, subst, rules, arith}
 use Rattle.std.specs.List.{All}
-use Rattle.std.proofs.lemmas.List.{with_items_is, length-map}
+use Rattle.std.proofs.lemmas.List.{with_items_is, length-map, nil_from_length}
 use Rattle.bib_queries.specs.Needed.{AreMarks, IsNeeded, Node}
 use Rattle.bib_queries.specs.Searching.{holders_in}
 use Rattle.bib_queries.specs.Texts.{node_of}
-use Rattle.bib_queries.proofs.SearchFacts.{IsSearch, holders_below, empty, search_all, search_start, search_step, start_bounded, waiting_below}
+use Rattle.bib_queries.proofs.SearchFacts.{IsSearch, holders_below, search_all, search_start, search_step, start_bounded, waiting_below}
 use Rattle.bib_queries.proofs.needed.mark_needed.Goals as goal
 
 pub mark_names-requires : goal.mark_names-requires
@@ -75,7 +75,7 @@ returns c =
     let names : List (List ℕ) = map (λ n. n.now) c.args.names.now in
     let nodes : List Node = map node_of c.args.links.now in
     let none : c.search.pending.items ≡ [] =
-    empty c.search.pending.items (omega (arith, c.in_default.ensures.cases.0, c.search.pending.ok.0)) in
+    nil_from_length c.search.pending.items (omega (arith, c.in_default.ensures.cases.0, c.search.pending.ok.0)) in
     subst (λ n. AreMarks (IsNeeded names nodes) n c.search.marks.items) (length-map c.args.links.now node_of)
     (search_all names nodes c.search.holders c.search.marks.items
     (subst (λ l. IsSearch names nodes c.search.holders c.search.marks.items l) none c.search.invariant))

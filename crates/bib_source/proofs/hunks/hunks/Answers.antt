@@ -1,13 +1,14 @@
 use Rattle.std.proofs.Common.{◌≡◌, ◌-◌, ◌++◌, [], map, take, drop, ap, sym, ◌∙◌, subst, arith, refl}
 use Rattle.std.specs.List.{AllByRecursion}
 use Rattle.std.proofs.lemmas.List.{append-nil, length-take, map-append, take_all}
+use Rattle.std.proofs.lemmas.Bool.{false_from_ne_true}
 use Rattle.bib_source.specs.Comparison.{new_side, old_side}
 use Rattle.bib_source.specs.Hunks.{IsNarrow, Make}
 use Rattle.bib_source.specs.Hunks.{Make as make}
 use Rattle.bib_source.specs.Visible.{IsCutOut, hunk_of}
 use Rattle.bib_source.proofs.CutFacts.{cut_of, new_up_to, old_up_to, skipped_new, skipped_old}
 use Rattle.bib_source.proofs.HunkFacts.{last_lines, next_hunk}
-use Rattle.bib_source.proofs.NarrowFacts.{narrow_run, not_shown, shown_after}
+use Rattle.bib_source.proofs.NarrowFacts.{narrow_run, shown_after}
 use Rattle.bib_source.proofs.hunks.hunks.Goals as goal
 use Rattle.bib_text.proofs.ListFacts.{all_push}
 
@@ -31,7 +32,7 @@ hunks-preserved-in-Continue-1 c = record {
       (shown_after c.args.lines.now c.hunks.at c.run_end-start.result c.run_end-end.result c.run_end-start.ensures.after
       (omega arith) c.run_end-end.ensures.within c.run_end-start.ensures.same c.hunks.invariant.ended
       (c.run_end-end.ensures.same c.run_end-start.result (omega arith) (omega arith)))
-      (λ inside. not_shown _ (c.run_end-end.ensures.ended inside))));
+      (λ inside. false_from_ne_true _ (c.run_end-end.ensures.ended inside))));
   cut = subst (AllByRecursion (IsCutOut c.args.lines.now))
       (sym (ap (map hunk_of) c.in_ok-push.ensures.items ∙ map-append hunk_of c.hunks.hunks.items _))
       (all_push (IsCutOut c.args.lines.now) (map hunk_of c.hunks.hunks.items) _ c.hunks.invariant.cut
@@ -43,7 +44,7 @@ hunks-preserved-in-Continue-1 c = record {
       (shown_after c.args.lines.now c.hunks.at c.run_end-start.result c.run_end-end.result c.run_end-start.ensures.after
       (omega arith) c.run_end-end.ensures.within c.run_end-start.ensures.same c.hunks.invariant.ended
       (c.run_end-end.ensures.same c.run_end-start.result (omega arith) (omega arith)))
-      (λ inside. not_shown _ (c.run_end-end.ensures.ended inside))));
+      (λ inside. false_from_ne_true _ (c.run_end-end.ensures.ended inside))));
   old_is =
       omega (
         arith,
@@ -60,7 +61,7 @@ hunks-preserved-in-Continue-1 c = record {
         c.new_count.ensures.is,
         new_up_to c.args.lines.now c.run_end-start.result c.run_end-end.result c.run_end-end.ensures.after,
       );
-  ended = λ some inside. not_shown _ (c.run_end-end.ensures.ended inside);
+  ended = λ some inside. false_from_ne_true _ (c.run_end-end.ensures.ended inside);
   within = c.run_end-end.ensures.within;
   old_within =
       omega (
@@ -108,7 +109,7 @@ hunks-preserved c = record {
         c.new_count.ensures.is,
         new_up_to c.args.lines.now c.run_end-start.result c.run_end-end.result c.run_end-end.ensures.after,
       );
-  ended = λ some inside. not_shown _ (c.run_end-end.ensures.ended inside);
+  ended = λ some inside. false_from_ne_true _ (c.run_end-end.ensures.ended inside);
   within = c.run_end-end.ensures.within;
   old_within =
       omega (

@@ -2,7 +2,7 @@
 
 use super::{AuthorMode, PagesChapterMode, Row};
 
-/// The optional fields of nearly every type.
+/// Fields that are optional for most types.
 const BASE: [&str; 13] = [
     "note",
     "location",
@@ -34,7 +34,7 @@ const CORE: [&str; 11] = [
     "addendum",
 ];
 
-/// People who annotated or translated a work, its original language, and texts added to it.
+/// The people who annotated or translated a work, or wrote an afterword, a foreword or an introduction to it, and its original language.
 const ANNOTATORS: [&str; 7] = [
     "annotator",
     "commentator",

@@ -1,11 +1,12 @@
 use Rattle.std.proofs.Common.{◌∷◌, [], map, take, ap, sym, subst, ◌∙◌}
 use Rattle.std.specs.Str.{str_to_ascii_lowercase}
 use Rattle.std.proofs.lemmas.List.{map-append}
+use Rattle.bib_text.proofs.ListFacts.{mapped_more}
 use Rattle.bib_syntax.specs.Reading.{FieldReading}
 use Rattle.bib_syntax.specs.Views.{field_of}
 use Rattle.bibkit_core.specs.Stats.{lowercase_names}
 use Rattle.bibkit_core.specs.Totals.{AddsNames}
-use Rattle.bibkit_core.proofs.CountFacts.{adds_more_names, adds_no_names, mapped_more}
+use Rattle.bibkit_core.proofs.CountFacts.{adds_more_names, adds_no_names}
 use Rattle.bibkit_core.proofs.counting.count_fields.Goals as goal
 
 pub fields-init : goal.fields-init

@@ -1,9 +1,9 @@
-use Rattle.std.proofs.Common.{ℕ, ◌≤◌, ◌<◌, ◌^◌, ◌+◌, zero, length, arith, ap, add-one}
+use Rattle.std.proofs.Common.{ℕ, ◌≤◌, ◌<◌, ◌^◌, ◌+◌, zero, arith, add-one}
 use Rattle.std.specs.Char.{len_utf8}
 use Rattle.std.proofs.lemmas.Str.{len_utf8_bounds}
 use Rattle.bib_text.specs.Places.{Place, CharAt, Longest}
 use Rattle.bib_text.specs.Braces.{is_plain}
-use Rattle.bib_text.proofs.PlaceFacts.{Ahead, ahead_then, ahead_char, ahead_run, ahead_same, ahead_taken, boundary_ahead, left_smaller, char_left, ahead_here}
+use Rattle.bib_text.proofs.PlaceFacts.{Ahead, ahead_then, ahead_char, ahead_run, ahead_same, ahead_taken, boundary_ahead, left_smaller, ahead_here, after_char_small}
 use Rattle.bib_syntax.proofs.BraceFacts.{braced_then, braced_run, braced_open, braced_hidden, braced_same, braced_less, braced_stuck, found_parts}
 use Rattle.bib_syntax.proofs.ReadingFacts.{taken_if, not_after}
 use Rattle.bib_syntax.specs.OpenBraces.{SameBraced}
@@ -27,14 +27,11 @@ deeper {u} {v} {w} {n} {k} depth run char =
     let width : 1 ≤ len_utf8 k = (len_utf8_bounds k).0 in
     omega (arith, char.next, run.at)
 
-below : {s u w : Place} {k : ℕ} → length s.text < 2 ^ 63 → Ahead s u → CharAt u k w → w.at < 2 ^ 64
-below {s} {u} {w} {k} fits ahead char = omega (arith, char_left char, ap length ahead.text, char.next)
-
 pub overflow_add-depth : goal.overflow_add-depth
 overflow_add-depth c =
     let at = (goal.at.overflow_add-depth c).After-eat_while in
     let others : c.parts.depth + 1 ≤ c.eat_if.new.self.at = deeper c.parts.invariant.depth (ahead_run (run at).run) c.if-eat_if.ensures in
-    let fits : c.eat_if.new.self.at < 2 ^ 64 = below c.cursor-start.ensures.fits (passed at) c.if-eat_if.ensures in
+    let fits : c.eat_if.new.self.at < 2 ^ 64 = after_char_small c.cursor-start.ensures.fits (passed at) c.if-eat_if.ensures in
     omega arith
 
 pub parts-preserved-then-eat_if : goal.parts-preserved-then-eat_if

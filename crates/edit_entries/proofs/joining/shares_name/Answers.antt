@@ -1,11 +1,12 @@
 use Rattle.std.proofs.Common.{◌≡◌, ◌++◌, ◌∷◌, [], ◌∙◌, true, false, map, take, sym, ap, subst, arith, append_assoc}
 use Rattle.std.specs.BTreeSet.{contains_text}
 use Rattle.std.proofs.lemmas.List.{length-map, take-map}
+use Rattle.bib_text.proofs.ListFacts.{mapped_more}
 use Rattle.bib_syntax.specs.Reading.{EntryReading}
 use Rattle.bib_syntax.specs.Views.{entry_reading_of}
 use Rattle.edit_entries.specs.NameSets.{AreNamesOf}
 use Rattle.edit_entries.specs.NewNames.{shares_name}
-use Rattle.edit_entries.proofs.NameSetFacts.{names_more, seen_more, shared}
+use Rattle.edit_entries.proofs.NameSetFacts.{names_more, shared}
 use Rattle.edit_entries.proofs.PositionFacts.{slice_get-map}
 use Rattle.edit_entries.proofs.TakenFacts.{each_more, within_of}
 use Rattle.edit_entries.proofs.joining.shares_name.Goals as goal
@@ -35,7 +36,7 @@ others-preserved c =
     let before = entries ++ map entry_reading_of (take i c.args.others.now) in
     let names = ap (map (λ n. n.now)) c.deref.ensures.value ∙ c.in_ok-names.ensures in
     let names' = ap (map (λ n. n.now)) c.deref-in-others.ensures.value ∙ c.in_ok-names.ensures in
-    let more = seen_more entry_reading_of c.args.others.now i c.entry-item.result c.others-test.true c.entry-item.is in
+    let more = mapped_more entry_reading_of c.args.others.now i c.entry-item.result c.others-test.true c.entry-item.is in
     let shares =
     shared before e (map (λ n. n.now) c.deref.result.now) (contains_text c.others.set) names c.others.invariant.0 in (
       subst (λ l. AreNamesOf l (contains_text c.insert_names.new.set))

@@ -1,15 +1,12 @@
-use Rattle.std.proofs.Common.{◌≡◌, Bool, true, false, ℕ, ◌<◌, List, Option, None, Some, codes, cond, length, refl, sym, ap, ◌∙◌, arith}
-use Rattle.std.specs.Prelude.{◌&&◌, MatchOption, nat_lt}
+use Rattle.std.proofs.Common.{◌≡◌, Bool, false, ℕ, ◌<◌, List, Option, None, Some, codes, cond, length, sym, ap, ◌∙◌, arith}
+use Rattle.std.specs.Prelude.{MatchOption, nat_lt}
 use Rattle.std.specs.Borrow.{Bor}
 use Rattle.edit_entries.specs.LineEnds.{line_end_of}
 use lib.Dec.{eqb}
 use Rattle.std.specs.List.{after_first, before_first, ends_with, position_or_len}
 use Rattle.std.proofs.lemmas.Str.Pattern.{ends_text, split_once_first}
+use Rattle.std.proofs.lemmas.Bool.{and_right}
 use Rattle.edit_entries.proofs.line_ends.line_end.Goals as goal
-
-and_false : (b c : Bool) → c ≡ false → (b && c) ≡ false
-and_false true c is = is
-and_false false c is = refl
 
 -- the line end is a line feed if the first line doesn't end with a carriage return
 ends_alone : (text line : List ℕ) (r : Bool) → line ≡ before_first (λ b. eqb b 10) text
@@ -17,7 +14,7 @@ ends_alone : (text line : List ℕ) (r : Bool) → line ≡ before_first (λ b. 
 ends_alone text line r is tests none =
     let alone : ends_with eqb (before_first (λ b. eqb b 10) text) (codes "\r") ≡ false =
     ap (λ l. ends_with eqb l (codes "\r")) (sym is) ∙ sym tests ∙ none in
-    ap (λ b. cond b (codes "\r\n") (codes "\n")) (and_false (nat_lt (position_or_len (λ b. eqb b 10) text) (length text)) _ alone)
+    ap (λ b. cond b (codes "\r\n") (codes "\n")) (and_right (nat_lt (position_or_len (λ b. eqb b 10) text) (length text)) _ alone)
 
 found : (text : List ℕ) (r : Option (Bor (List ℕ) × Bor (List ℕ))) (x : Bor (List ℕ) × Bor (List ℕ)) → r ≡ Some x
     → MatchOption r (position_or_len (λ b. eqb b 10) text ≡ length text)

@@ -4,9 +4,9 @@ use Rattle.std.specs.BTreeSet.{contains_text}
 use Rattle.std.specs.Str.{str_to_ascii_lowercase}
 use Rattle.std.specs.String.{string_bytes}
 use Rattle.std.proofs.lemmas.Map.Text.{btree_set_updates_text}
+use Rattle.bib_text.proofs.BoolFacts.{or_cond}
 use Rattle.bib_syntax.specs.Grammar.{is_word}
 use Rattle.edit_entries.specs.NameSets.{holds_name}
-use Rattle.edit_entries.proofs.NameSetFacts.{or_cond}
 use Rattle.edit_entries.proofs.taken.insert_key.Goals as goal
 
 pub returns-clause-inserted : goal.returns-clause-inserted

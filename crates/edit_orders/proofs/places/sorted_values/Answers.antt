@@ -1,10 +1,10 @@
 use Rattle.std.proofs.Common.{List, Option, Bool, rules, is_lt, Bor}
 use Rattle.std.proofs.lemmas.Fn.{always_returns_same}
 use Rattle.std.proofs.lemmas.List.Sorted.{IsPermutation-map, ranks_by}
+use Rattle.bib_text.proofs.ListFacts.{sorted_map}
 use Rattle.edit_orders.specs.Values.{values_cmp}
 use Rattle.edit_orders.specs.declared.order.SortBy.{SortBy}
 use Rattle.edit_orders.specs.declared.values.SortValue.{SortValue}
-use Rattle.edit_orders.proofs.PlaceFacts.{sorted_map}
 use Rattle.edit_orders.proofs.TotalFacts.{values_total}
 use Rattle.edit_orders.proofs.places.sorted_values.Goals as goal
 

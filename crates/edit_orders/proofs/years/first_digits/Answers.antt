@@ -1,4 +1,4 @@
-use Rattle.edit_orders.proofs.YearFacts.{after_digits, run_digits}
+use Rattle.bib_text.proofs.DigitFacts.{run_digits, after_digits}
 use Rattle.edit_orders.proofs.years.first_digits.Goals as goal
 
 pub split_at-requires : goal.split_at-requires

@@ -1,12 +1,13 @@
 use Rattle.std.proofs.Common.{◌≡◌, ◌<◌, ◌∙◌, ℕ, suc, ap, arith, length, map, subst, sym}
 use Rattle.std.specs.List.{All, AllByRecursion, find}
 use Rattle.std.proofs.lemmas.List.{get_or-map, length-map}
+use Rattle.bib_text.proofs.ListFacts.{all_weaker}
 use Rattle.bib_syntax.specs.Reading.{EntryReading}
 use Rattle.bib_syntax.specs.Views.{entry_reading_of}
 use Rattle.edit_entries.specs.Changes.{edits_of_entries, edits_of_entry}
 use Rattle.edit_entries.specs.Cuts.{ArePiecesCut}
 use Rattle.edit_entries.specs.EditList.{edit_of}
-use Rattle.edit_entries.proofs.AllFacts.{OfFields, all_weaker}
+use Rattle.edit_entries.proofs.AllFacts.{OfFields}
 use Rattle.edit_strings.proofs.ListFacts.{all_step, flat_step}
 use Rattle.edit_resolve.specs.Inheritance.{read_name}
 use Rattle.edit_resolve.specs.Parents.{entry_at, no_reading, parents}

@@ -2,13 +2,13 @@ use Rattle.std.proofs.Common.{◌≡◌, ◌∙◌, ap, List, length, map, subst
 use Rattle.std.specs.List.{AllByRecursion}
 use Rattle.std.specs.Prelude.{OnOk, ◌++◌}
 use Rattle.std.proofs.lemmas.List.{length-map}
+use Rattle.bib_text.proofs.ListFacts.{all_weaker}
 use Rattle.bib_syntax.specs.Reading.{EntryReading}
 use Rattle.bib_syntax.specs.Views.{entry_reading_of, field_of}
 use Rattle.edit_entries.specs.Changes.{edits_of_fields}
 use Rattle.edit_entries.specs.Cuts.{ArePiecesCut}
 use Rattle.edit_entries.specs.EditList.{edit_of}
 use Rattle.edit_entries.specs.Edits.{Edit}
-use Rattle.edit_entries.proofs.AllFacts.{all_weaker}
 use Rattle.edit_resolve.specs.Parents.{is_resolved, parents}
 use Rattle.edit_resolve.specs.Resolved.{Named, all_fields, field_resolutions, given_fields_by, in_place, inherited, replacement}
 use Rattle.edit_resolve.specs.Working.{IsNamedCut, instead_at, named_of, readings}

@@ -1,11 +1,11 @@
 use Rattle.std.proofs.Common.{◌++◌, ◌∙◌, ◌∷◌, [], ap, map, sym, take}
 use Rattle.std.specs.Prelude.{unwrap_or}
 use Rattle.std.proofs.lemmas.List.{map-append}
+use Rattle.bib_text.proofs.ListFacts.{mapped_more}
 use Rattle.bib_syntax.specs.Reading.{FieldReading}
 use Rattle.bib_syntax.specs.Views.{field_of}
 use Rattle.edit_resolve.specs.Resolved.{Named, as_itself}
 use Rattle.edit_resolve.specs.Working.{instead_at, named_of}
-use Rattle.edit_resolve.proofs.ListFacts.{seen_more}
 use Rattle.edit_resolve.proofs.gathering.own_fields.Goals as goal
 
 pub fields-preserved : goal.fields-preserved
@@ -18,5 +18,5 @@ fields-preserved c =
     ∙ ap (λ l. l ++ named_of c.in_ok-own_field.field-0 ∷ []) c.fields.invariant
     ∙ ap (λ y. map own (map field_of (take i xs)) ++ y ∷ []) c.in_ok-own_field.ensures
     ∙ sym
-    (ap (map own) (seen_more field_of xs i x c.fields-test.true c.field-item.is)
+    (ap (map own) (mapped_more field_of xs i x c.fields-test.true c.field-item.is)
     ∙ map-append own (map field_of (take i xs)) (field_of x ∷ []))

@@ -8,7 +8,7 @@ use Rattle.edit_resolve.specs.Inheritance.{read_name}
 use Rattle.edit_resolve.specs.Parents.{entry_at, no_reading, type_of}
 use Rattle.edit_resolve.specs.Resolved.{Named, as_itself, given_fields_by, in_place, new_fields, offers}
 use Rattle.edit_resolve.specs.Working.{fields_at, instead_at, offered_at, readings}
-use Rattle.edit_resolve.proofs.FileFacts.{kind_found}
+use Rattle.edit_resolve.proofs.FileFacts.{type_found}
 use Rattle.edit_resolve.proofs.GatheringFacts.{offered_is}
 use Rattle.edit_resolve.proofs.ListFacts.{map_same}
 use Rattle.edit_resolve.proofs.gathering.with_inherited.Goals as goal
@@ -29,13 +29,13 @@ returns c =
     let read = λ (fs : List FieldReading). map (λ f. read_name f.name.text) fs in
     let fields = fields_at c.args.found.now in
     let offered : List Named = offered_at c.deref-3.result.now c.index.result.now fields c.args.parents.now in
-    let kind_is : c.index.result.now ≡ type_of e =
-    kind_found es c.args.file.now.kinds.items i c.index.result.now c.requires.known.kinds within c.index.ensures in
+    let type_is : c.index.result.now ≡ type_of e =
+    type_found es c.args.file.now.types.items i c.index.result.now c.requires.known.types within c.index.ensures in
     let all = λ (child : EntryType).
     flat_map (λ p. offers p.link (type_of (entry_at es p.index)) child (fields p.index)) c.args.parents.now in
     let offered_are : offered ≡ all (type_of e) =
-    offered_is es c.deref-3.result.now c.index.result.now fields c.args.parents.now (c.deref-3.ensures.value ∙ c.requires.known.kinds)
-    ∙ ap all kind_is in
+    offered_is es c.deref-3.result.now c.index.result.now fields c.args.parents.now (c.deref-3.ensures.value ∙ c.requires.known.types)
+    ∙ ap all type_is in
     let own_name : FieldReading → Named = λ f. unwrap_or (instead_at c.in_ok-given.given f) (as_itself f) in
     let gives : List Named = given_fields_by fields c.args.parents.now in
     let placed : map own_name same ≡ map (in_place gives) same =

@@ -6,11 +6,11 @@ use Rattle.std.specs.Option.{option_map_or}
 use Rattle.std.specs.Str.{str_to_ascii_lowercase}
 use Rattle.std.specs.declared.alloc.Global.{Global}
 use Rattle.std.proofs.lemmas.List.{map-set}
+use Rattle.std.proofs.Math.Bool.{or-false}
 use Rattle.bib_collections.specs.Graph.{refs_of}
 use Rattle.bib_collections.specs.Rows.{rows}
 use Rattle.bib_collections.proofs.Rows.{length-rows, row_at}
 use Rattle.edit_sort.proofs.RowFacts.{child_added}
-use Rattle.edit_sort.proofs.SetFacts.{or_none}
 use Rattle.edit_sort.proofs.crossrefs.add_child.Goals as goal
 
 pub index_mut-requires : goal.index_mut-requires
@@ -36,5 +36,5 @@ returns-in_ok-push-in-Some-clause-rows c = λ test at.
 pub returns-in-None-clause-rows : goal.returns-in-None-clause-rows
 returns-in-None-clause-rows c = λ test at.
     let old = list_any test (refs_of (rows c.args.children.now.items) at) in
-    sym (or_none old)
+    sym (or-false old)
     ∙ ap (λ o. old || (option_map_or (λ k. k == at) o false && test c.args.child)) (sym c.in-None.is ∙ c.in_ok-index.ensures)

@@ -1,18 +1,19 @@
 use Rattle.std.proofs.Common.{map, take, refl, sym, ap, ◌∙◌, subst}
 use Rattle.std.specs.Prelude.{◌&&◌, ◌||◌}
 use Rattle.std.specs.List.{list_any}
+use Rattle.std.proofs.Math.Bool.{or-false}
 use Rattle.bib_collections.specs.Graph.{refs_of}
 use Rattle.bib_collections.specs.Names.{AreIndicesBelow}
 use Rattle.bib_collections.specs.Rows.{rows}
 use Rattle.bib_syntax.specs.Views.{field_of}
 use Rattle.edit_sort.specs.Ranks.{names_index}
-use Rattle.edit_sort.proofs.SetFacts.{any_more, one_more_or, or_none}
+use Rattle.edit_sort.proofs.SetFacts.{any_more, one_more_or}
 use Rattle.edit_sort.proofs.crossrefs.add_references.Goals as goal
 
 pub fields-init : goal.fields-init
 fields-init c = record {
   same_length = refl;
-  more = λ test index. sym (or_none (list_any test (refs_of (rows c.args.children.now.items) index)));
+  more = λ test index. sym (or-false (list_any test (refs_of (rows c.args.children.now.items) index)));
 }
 
 pub add_reference-requires : goal.add_reference-requires

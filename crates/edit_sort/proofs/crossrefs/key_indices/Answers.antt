@@ -3,10 +3,10 @@ use Rattle.std.specs.FinMap.{get, insert}
 use Rattle.std.proofs.lemmas.List.{length-map, take-map, take_all}
 use Rattle.std.proofs.lemmas.List.Elements.{All-nil}
 use Rattle.std.proofs.lemmas.Option.{slice_get-map, slice_get_read}
+use Rattle.bib_text.proofs.ListFacts.{mapped_more}
 use Rattle.bib_syntax.specs.Views.{entry_reading_of}
 use Rattle.edit_sort.specs.Ranks.{HaveIndices}
 use Rattle.edit_sort.proofs.RankFacts.{AreFirstKeys, HasIndex, first_none, indices_none, keys_more}
-use Rattle.edit_sort.proofs.SetFacts.{taken_more}
 use Rattle.edit_sort.proofs.crossrefs.key_indices.Goals as goal
 
 pub entries-init : goal.entries-init
@@ -32,7 +32,7 @@ entries-preserved c =
     subst (AreFirstKeys all c.claim_first.new.names)
     (sym
     (take-map entry_reading_of (index + 1) entries
-    ∙ taken_more entry_reading_of entries index c.index-entries-index.result c.entries-test.true c.index-entries-index.is
+    ∙ mapped_more entry_reading_of entries index c.index-entries-index.result c.entries-test.true c.index-entries-index.is
     ∙ ap (λ l. l ++ e ∷ []) (sym (take-map entry_reading_of index entries))))
     (keys_more all c.entries.names c.claim_first.new.names e index here is c.entries.invariant)
 

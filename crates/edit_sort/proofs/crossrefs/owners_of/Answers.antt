@@ -1,8 +1,8 @@
 use Rattle.std.proofs.Common.{[], ◌∷◌, ◌++◌, map, take, unwrap_or, sym, ap, ◌∙◌}
 use Rattle.std.proofs.lemmas.List.{map-append}
+use Rattle.bib_text.proofs.ListFacts.{mapped_more}
 use Rattle.bib_syntax.specs.Views.{entry_reading_of}
 use Rattle.edit_sort.specs.Ranks.{owner}
-use Rattle.edit_sort.proofs.SetFacts.{taken_more}
 use Rattle.edit_sort.proofs.crossrefs.owners_of.Goals as goal
 
 pub entries-preserved : goal.entries-preserved
@@ -15,5 +15,5 @@ entries-preserved c =
     ∙ ap (λ n. c.entries.owners.items ++ n ∷ []) (c.unwrap_or.ensures ∙ ap (λ o. unwrap_or o 0) c.in_ok-index.ensures)
     ∙ ap (λ l. l ++ own e ∷ []) c.entries.invariant
     ∙ sym
-    (ap (map own) (taken_more entry_reading_of c.args.entries.now index c.entry-item.result c.entries-test.true c.entry-item.is)
+    (ap (map own) (mapped_more entry_reading_of c.args.entries.now index c.entry-item.result c.entries-test.true c.entry-item.is)
     ∙ map-append own done (e ∷ []))

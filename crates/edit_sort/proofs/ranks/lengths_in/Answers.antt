@@ -6,8 +6,8 @@ use Rattle.bib_collections.specs.Rows.{rows}
 use Rattle.bib_collections.specs.Solving.{IsSolvedTo}
 use Rattle.bib_collections.proofs.Rows.{length-rows, row_at, row_in}
 use Rattle.bib_collections.proofs.Solving.{solved_all, solved_more, solved_none}
+use Rattle.bib_collections.proofs.LeadFacts.{turn_within}
 use Rattle.edit_sort.specs.Ranks.{length_by}
-use Rattle.edit_sort.proofs.LengthFacts.{order_within}
 use Rattle.edit_sort.proofs.ranks.lengths_in.Goals as goal
 
 pub order-init : goal.order-init
@@ -22,25 +22,25 @@ order-init c =
 pub offset_bounds-graph-index : goal.offset_bounds-graph-index
 offset_bounds-graph-index c =
     let index : ℕ = get_or c.args.order.now c.order.index-index 0 in
-    let within = order_within (rows c.args.graph.now) c.args.order.now c.order.index-index c.requires.order c.order-test.true in
+    let within = turn_within (rows c.args.graph.now) c.args.order.now c.order.index-index c.requires.order c.order-test.true in
     let h : index < length c.args.graph.now = omega (arith, within, length-rows c.args.graph.now) in
     search rules
 
 pub bounds-graph-index : goal.bounds-graph-index
 bounds-graph-index c =
-    let within = order_within (rows c.args.graph.now) c.args.order.now c.order.index-index c.requires.order c.order-test.true in
+    let within = turn_within (rows c.args.graph.now) c.args.order.now c.order.index-index c.requires.order c.order-test.true in
     omega (arith, within, length-rows c.args.graph.now)
 
 pub bounds-marks-index : goal.bounds-marks-index
 bounds-marks-index c =
-    let within = order_within (rows c.args.graph.now) c.args.order.now c.order.index-index c.requires.order c.order-test.true in
+    let within = turn_within (rows c.args.graph.now) c.args.order.now c.order.index-index c.requires.order c.order-test.true in
     omega (arith, within, length-rows c.args.graph.now, c.requires.marks)
 
 pub length_at-requires : goal.length_at-requires
 length_at-requires c =
     let refs = c.args.graph.now in
     let index : ℕ = get_or c.args.order.now c.order.index-index 0 in
-    let within = order_within (rows refs) c.args.order.now c.order.index-index c.requires.order c.order-test.true in
+    let within = turn_within (rows refs) c.args.order.now c.order.index-index c.requires.order c.order-test.true in
     let row =
     row_in refs index c.index-graph-index.result c.requires.in_range (omega (arith, within, length-rows refs))
     c.index-graph-index.is in
@@ -52,7 +52,7 @@ length_at-requires c =
 pub index_mut-requires : goal.index_mut-requires
 index_mut-requires c =
     let refs = c.args.graph.now in
-    let within = order_within (rows refs) c.args.order.now c.order.index-index c.requires.order c.order-test.true in
+    let within = turn_within (rows refs) c.args.order.now c.order.index-index c.requires.order c.order-test.true in
     omega (
       arith,
       within,
@@ -69,7 +69,7 @@ order-preserved c =
     let most = length refs in
     let index : ℕ = get_or c.args.order.now c.order.index-index 0 in
     let values = c.order.lengths.items in
-    let within = order_within (rows refs) c.args.order.now c.order.index-index c.requires.order c.order-test.true in
+    let within = turn_within (rows refs) c.args.order.now c.order.index-index c.requires.order c.order-test.true in
     let row : c.deref-in-order.result.now ≡ refs_of (rows refs) index =
     c.deref-in-order.ensures.value
     ∙ sym (row_at refs index c.index-graph-index.result (omega (arith, within, length-rows refs)) c.index-graph-index.is) in

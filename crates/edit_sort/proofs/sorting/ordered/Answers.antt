@@ -2,10 +2,11 @@ use Rattle.std.proofs.Common.{rules, Bool}
 use Rattle.std.specs.Ordering.{is_lt}
 use Rattle.std.proofs.lemmas.Fn.{always_returns_same}
 use Rattle.std.proofs.lemmas.List.Sorted.{IsPermutation-map, ranks_by}
+use Rattle.bib_text.proofs.ListFacts.{sorted_map}
 use Rattle.edit_sort.specs.Ranks.{item_reading_of}
 use Rattle.edit_sort.specs.Sorted.{item_cmp}
 use Rattle.edit_sort.specs.declared.items.Item.{Item}
-use Rattle.edit_sort.proofs.OrderFacts.{item_total, sorted_map}
+use Rattle.edit_sort.proofs.OrderFacts.{item_total}
 use Rattle.edit_sort.proofs.sorting.ordered.Goals as goal
 
 before : Item → Item → Bool

@@ -15,6 +15,7 @@ use Rattle.edit_sort.proofs.FileFacts.{as_many, document_parts, end_cut, order_c
 use Rattle.edit_sort.proofs.FirstFacts.{owners_are_first}
 use Rattle.edit_sort.proofs.StepFacts.{items_are, text_is}
 use Rattle.edit_sort.proofs.sorting.sort_entries.Goals as goal
+use Rattle.edit_sort.proofs.sorting.sort_entries.Goals.{After-deref-5, After-deref-9}
 
 -- ---- the variables of the code, given the document
 
@@ -59,15 +60,44 @@ read_is bytes (Err error) d places order new read in_order is all = _
 read_is bytes (Ok s) d places order new read in_order is all =
     subst (IsReadSorted d places) (sym (all ∙ is)) (text_read d places order read in_order)
 
+-- ---- the entries, their order and the new text
+
+listed : (c : After-deref-5) → map entry_reading_of c.deref-5.result.now ≡ c.args.document.now.says.entries
+listed c = ap (map entry_reading_of) c.deref-5.ensures.value ∙ ap (λ f. f.entries) c.raw.ensures.says
+
+in_order : (c : After-deref-9)
+    → AreEntriesInOrder (items c.args.document.now c.args.places.now) (map item_reading_of c.deref-9.result.now)
+in_order c =
+    order_is c.args.document.now c.args.places.now c.text-text.result.now (map entry_reading_of c.deref-5.result.now)
+    (map item_reading_of c.in_ok-gathered.gathered.items.items) (map item_reading_of c.in_ok-order.order.items)
+    (map item_reading_of c.deref-9.result.now) c.text-text.ensures
+    (ap (map entry_reading_of) c.deref-5.ensures.value ∙ ap (λ f. f.entries) c.raw.ensures.says)
+    c.in_ok-gathered.ensures.items (ap (map item_reading_of) c.deref-9.ensures.value) c.in_ok-order.ensures
+
+spaces : (c : After-deref-9)
+    → map (λ s. s.now) c.deref-8.result.now ≡ spaces_from c.args.document.now.text 0 0 c.args.document.now.says.entries
+spaces c =
+    ap (map (λ s. s.now)) c.deref-8.ensures.value ∙ c.in_ok-gathered.ensures.spaces
+    ∙ spaces_are c.args.document.now c.text-text.result.now (map entry_reading_of c.deref-5.result.now) c.text-text.ensures
+    (ap (map entry_reading_of) c.deref-5.ensures.value ∙ ap (λ f. f.entries) c.raw.ensures.says)
+
+written : (c : After-deref-9) → items_laid_out c.text-text.result.now (map (λ s. s.now) c.deref-8.result.now)
+    (map item_reading_of c.deref-9.result.now) (drop c.in_ok-gathered.gathered.end c.text-text.result.now)
+    ≡ text_in_order c.args.document.now (map item_reading_of c.deref-9.result.now)
+written c =
+    written_is c.args.document.now c.text-text.result.now (map (λ s. s.now) c.deref-8.result.now)
+    (map item_reading_of c.deref-9.result.now) c.in_ok-gathered.gathered.end c.text-text.ensures (spaces c)
+    (c.in_ok-gathered.ensures.end
+    ∙ ap (place_after 0) (ap (map entry_reading_of) c.deref-5.ensures.value ∙ ap (λ f. f.entries) c.raw.ensures.says))
+
 -- ---- the goals
 
 pub gather-requires-clause-cut : goal.gather-requires-clause-cut
 gather-requires-clause-cut c =
     let d = c.args.document.now in
-    let listed : map entry_reading_of c.deref-5.result.now ≡ d.says.entries =
-    ap (map entry_reading_of) c.deref-5.ensures.value ∙ ap (λ f. f.entries) c.raw.ensures.says in
     subst (λ t. AreItemsCut t 0 0 (map entry_reading_of c.deref-5.result.now)) (sym c.text-text.ensures)
-    (subst (λ es. AreItemsCut d.text 0 0 es) (sym listed) (document_parts d c.raw.ensures.read).cut)
+    (subst (λ es. AreItemsCut d.text 0 0 es) (sym (listed ((goal.at.gather-requires-clause-cut c).After-deref-5)))
+    (document_parts d c.raw.ensures.read).cut)
 
 pub gather-requires-clause-ranks : goal.gather-requires-clause-ranks
 gather-requires-clause-ranks c =
@@ -88,76 +118,36 @@ gather-requires-clause-owners c =
 
 pub laid_out-requires-clause-as_many : goal.laid_out-requires-clause-as_many
 laid_out-requires-clause-as_many c =
-    let d = c.args.document.now in
-    let places = c.args.places.now in
-    let entries = map entry_reading_of c.deref-5.result.now in
-    let listed : entries ≡ d.says.entries = ap (map entry_reading_of) c.deref-5.ensures.value ∙ ap (λ f. f.entries) c.raw.ensures.says in
-    let in_order = order_is d places c.text-text.result.now entries
-    (map item_reading_of c.in_ok-gathered.gathered.items.items) (map item_reading_of c.in_ok-order.order.items)
-    (map item_reading_of c.deref-9.result.now) c.text-text.ensures listed
-    c.in_ok-gathered.ensures.items (ap (map item_reading_of) c.deref-9.ensures.value) c.in_ok-order.ensures in
-    as_many_are (λ s. s.now) item_reading_of c.deref-8.result.now c.deref-9.result.now d places
-    (ap (map (λ s. s.now)) c.deref-8.ensures.value ∙ c.in_ok-gathered.ensures.spaces
-    ∙ spaces_are d c.text-text.result.now entries c.text-text.ensures listed) in_order
+    let k = (goal.at.laid_out-requires-clause-as_many c).After-deref-9 in
+    as_many_are (λ s. s.now) item_reading_of c.deref-8.result.now c.deref-9.result.now c.args.document.now c.args.places.now
+    (spaces k) (in_order k)
 
 pub laid_out-requires-clause-cut : goal.laid_out-requires-clause-cut
 laid_out-requires-clause-cut c =
-    let d = c.args.document.now in
-    let places = c.args.places.now in
-    let entries = map entry_reading_of c.deref-5.result.now in
-    let listed : entries ≡ d.says.entries = ap (map entry_reading_of) c.deref-5.ensures.value ∙ ap (λ f. f.entries) c.raw.ensures.says in
-    let in_order = order_is d places c.text-text.result.now entries
-    (map item_reading_of c.in_ok-gathered.gathered.items.items) (map item_reading_of c.in_ok-order.order.items)
-    (map item_reading_of c.deref-9.result.now) c.text-text.ensures listed
-    c.in_ok-gathered.ensures.items (ap (map item_reading_of) c.deref-9.ensures.value) c.in_ok-order.ensures in
     subst (λ t. AllByRecursion (IsEntryOfItemCut t) (map item_reading_of c.deref-9.result.now))
     (sym c.text-text.ensures)
-    (order_cut d places (map item_reading_of c.deref-9.result.now) c.raw.ensures.read in_order)
+    (order_cut c.args.document.now c.args.places.now (map item_reading_of c.deref-9.result.now) c.raw.ensures.read
+    (in_order ((goal.at.laid_out-requires-clause-cut c).After-deref-9)))
 
 pub laid_out-requires-clause-end : goal.laid_out-requires-clause-end
 laid_out-requires-clause-end c =
     let d = c.args.document.now in
-    let listed : map entry_reading_of c.deref-5.result.now ≡ d.says.entries =
-    ap (map entry_reading_of) c.deref-5.ensures.value ∙ ap (λ f. f.entries) c.raw.ensures.says in
+    let all = listed ((goal.at.laid_out-requires-clause-end c).After-deref-5) in
     subst (λ t. IsCharBoundary t c.in_ok-gathered.gathered.end) (sym c.text-text.ensures)
-    (subst (λ n. IsCharBoundary d.text n) (sym (c.in_ok-gathered.ensures.end ∙ ap (place_after 0) listed)) (end_cut d c.raw.ensures.read))
+    (subst (λ n. IsCharBoundary d.text n) (sym (c.in_ok-gathered.ensures.end ∙ ap (place_after 0) all)) (end_cut d c.raw.ensures.read))
 
 pub returns-clause-text : goal.returns-clause-text
 returns-clause-text c =
-    let d = c.args.document.now in
-    let places = c.args.places.now in
-    let entries = map entry_reading_of c.deref-5.result.now in
+    let k = (goal.at.returns-clause-text c).After-deref-9 in
     let order = map item_reading_of c.deref-9.result.now in
-    let listed : entries ≡ d.says.entries = ap (map entry_reading_of) c.deref-5.ensures.value ∙ ap (λ f. f.entries) c.raw.ensures.says in
-    let in_order = order_is d places c.text-text.result.now entries
-    (map item_reading_of c.in_ok-gathered.gathered.items.items) (map item_reading_of c.in_ok-order.order.items)
-    order c.text-text.ensures listed
-    c.in_ok-gathered.ensures.items (ap (map item_reading_of) c.deref-9.ensures.value) c.in_ok-order.ensures in
-    let spaces =
-    ap (map (λ s. s.now)) c.deref-8.ensures.value ∙ c.in_ok-gathered.ensures.spaces
-    ∙ spaces_are d c.text-text.result.now entries c.text-text.ensures listed in
-    sorted_is string_bytes c.laid_out.result d places order
+    sorted_is string_bytes c.laid_out.result c.args.document.now c.args.places.now order
     (items_laid_out c.text-text.result.now (map (λ s. s.now) c.deref-8.result.now) order
-    (drop c.in_ok-gathered.gathered.end c.text-text.result.now)) in_order
-    (written_is d c.text-text.result.now (map (λ s. s.now) c.deref-8.result.now) order c.in_ok-gathered.gathered.end
-    c.text-text.ensures spaces (c.in_ok-gathered.ensures.end ∙ ap (place_after 0) listed)) c.laid_out.ensures
+    (drop c.in_ok-gathered.gathered.end c.text-text.result.now)) (in_order k) (written k) c.laid_out.ensures
 
 pub returns-clause-read : goal.returns-clause-read
 returns-clause-read c =
-    let d = c.args.document.now in
-    let places = c.args.places.now in
-    let entries = map entry_reading_of c.deref-5.result.now in
+    let k = (goal.at.returns-clause-read c).After-deref-9 in
     let order = map item_reading_of c.deref-9.result.now in
-    let listed : entries ≡ d.says.entries = ap (map entry_reading_of) c.deref-5.ensures.value ∙ ap (λ f. f.entries) c.raw.ensures.says in
-    let in_order = order_is d places c.text-text.result.now entries
-    (map item_reading_of c.in_ok-gathered.gathered.items.items) (map item_reading_of c.in_ok-order.order.items)
-    order c.text-text.ensures listed
-    c.in_ok-gathered.ensures.items (ap (map item_reading_of) c.deref-9.ensures.value) c.in_ok-order.ensures in
-    let spaces =
-    ap (map (λ s. s.now)) c.deref-8.ensures.value ∙ c.in_ok-gathered.ensures.spaces
-    ∙ spaces_are d c.text-text.result.now entries c.text-text.ensures listed in
-    read_is string_bytes c.laid_out.result d places order
+    read_is string_bytes c.laid_out.result c.args.document.now c.args.places.now order
     (items_laid_out c.text-text.result.now (map (λ s. s.now) c.deref-8.result.now) order
-    (drop c.in_ok-gathered.gathered.end c.text-text.result.now)) c.raw.ensures.read in_order
-    (written_is d c.text-text.result.now (map (λ s. s.now) c.deref-8.result.now) order c.in_ok-gathered.gathered.end
-    c.text-text.ensures spaces (c.in_ok-gathered.ensures.end ∙ ap (place_after 0) listed)) c.laid_out.ensures
+    (drop c.in_ok-gathered.gathered.end c.text-text.result.now)) c.raw.ensures.read (in_order k) (written k) c.laid_out.ensures

@@ -3,12 +3,14 @@ use Rattle.std.specs.Prelude.{bytes_eq}
 use Rattle.std.specs.Borrow.{Bor}
 use Rattle.std.proofs.lemmas.List.{get_or_default, map-append}
 use Rattle.std.proofs.lemmas.Map.Text.{is_eq-slice_cmp}
+use Rattle.std.proofs.lemmas.Bool.{not-false, not-true}
+use Rattle.bib_text.proofs.BoolFacts.{or_cond}
 use Rattle.bib_queries.specs.Needed.{is_listed}
 use Rattle.bib_queries.specs.Sets.{is_in_set}
 use Rattle.edit_strings.specs.Collected.{AreThoseThat, CanBeCollected, distinct}
 use Rattle.edit_strings.specs.Collecting.{known_in, lent_texts}
 use Rattle.edit_strings.proofs.DistinctFacts.{new_kept, new_left, old_stays}
-use Rattle.edit_strings.proofs.TextFacts.{listed_push, match_false, match_true, not_false, not_true, one_more, or_cond}
+use Rattle.edit_strings.proofs.TextFacts.{listed_push, match_false, match_true, one_more}
 use Rattle.edit_strings.proofs.collected.collected_texts.Goals as goal
 use Rattle.edit_strings.proofs.collected.collected_texts.Goals.{then-branch+in_ok-is_collected+then-branch-2+in_ok-push, then-branch+in_ok-is_collected+else-branch-2, else-branch}
 
@@ -41,19 +43,19 @@ texts-preserved c =
             ∙ map-append (λ t. t.now) c.texts.found.items (x ∷ []) in
             subst (AreThoseThat P (distinct (so_far ++ x.now ∷ []))) (sym items)
             (new_kept P so_far old x.now
-            (sym was ∙ not_true (is_in_set c.texts.met x.now) (sym added ∙ w.if-branch.true))
+            (sym was ∙ not-true (is_in_set c.texts.met x.now) (sym added ∙ w.if-branch.true))
             (match_true _ _ _ (w.in_ok-is_collected.ensures (lent_texts c.args.texts.now) (c.requires x.now))
             w.if-branch-2.true) c.texts.invariant.found)
         | then-branch+in_ok-is_collected+else-branch-2 w ↦
             subst (λ l. AreThoseThat P (distinct (so_far ++ x.now ∷ [])) (lent_texts l.items)) (sym w.found-is)
             (new_left P so_far old x.now
-            (sym was ∙ not_true (is_in_set c.texts.met x.now) (sym added ∙ w.if-branch.true))
+            (sym was ∙ not-true (is_in_set c.texts.met x.now) (sym added ∙ w.if-branch.true))
             (match_false _ _ _ (w.in_ok-is_collected.ensures (lent_texts c.args.texts.now) (c.requires x.now))
             w.if-branch-2.false) c.texts.invariant.found)
         | else-branch w ↦
             subst (λ l. AreThoseThat P (distinct (so_far ++ x.now ∷ [])) (lent_texts l.items)) (sym w.found-is)
             (old_stays P so_far old x.now
-            (sym was ∙ not_false (is_in_set c.texts.met x.now) (sym added ∙ w.if-branch.false)) c.texts.invariant.found)
+            (sym was ∙ not-false (is_in_set c.texts.met x.now) (sym added ∙ w.if-branch.false)) c.texts.invariant.found)
       ]);
       met = λ text.
           let one : Bor (List ℕ) = record { ref_ptr = (0, 0); now = text } in

@@ -1,14 +1,13 @@
-use Rattle.std.proofs.Common.{◌≡◌, List, ◌+◌, ◌++◌, drop, length, map, sym, ap, ◌∙◌, subst, arith}
+use Rattle.std.proofs.Common.{List, ◌+◌, ◌++◌, drop, length, map, sym, ap, ◌∙◌, subst, arith}
 use Rattle.std.proofs.lemmas.List.{length-map}
-use Rattle.bib_syntax.specs.Reading.{EntryReading, FieldReading}
+use Rattle.bib_syntax.specs.Reading.{FieldReading}
 use Rattle.bib_syntax.specs.Views.{entry_reading_of, field_of}
 use Rattle.edit_entries.specs.NewKeys.{name_for}
-use Rattle.edit_strings.specs.Expanded.{count_before, index_before}
 use Rattle.edit_strings.specs.Left.{left_in}
-use Rattle.edit_strings.specs.Tables.{AreRows, field_expanded, indexed_back, lent_left, lowercase_index_in, rows_of, written_by}
+use Rattle.edit_strings.specs.Tables.{AreRows, field_expanded, indexed_back, lent_left, rows_of, written_by}
 use Rattle.edit_strings.proofs.ListFacts.{flat_step, left}
-use Rattle.edit_strings.proofs.OrderFacts.{IsAhead, ahead_step}
-use Rattle.edit_strings.proofs.IndexFacts.{indices_are, indices_below}
+use Rattle.edit_strings.proofs.OrderFacts.{IsAhead, indices_step}
+use Rattle.edit_strings.proofs.IndexFacts.{indices_below}
 use Rattle.edit_strings.proofs.WrittenFacts.{rows_ordered}
 use Rattle.edit_strings.proofs.left_references.left_in_entries.Goals as goal
 
@@ -35,17 +34,15 @@ entries-preserved c =
     let es = c.args.entries.now in
     let i = c.entries.entry-index in
     let x = c.entry-item.result in
-    let rest : List EntryReading = map entry_reading_of (drop (i + 1) es) in
     let step =
-    ahead_step defined c.requires.definitions.0 c.requires.definitions.1 c.entries.next c.in_ok-next.next (entry_reading_of x) rest
+    indices_step xs c.requires.definitions.0 c.requires.definitions.1 c.entries.next c.in_ok-next.next (entry_reading_of x)
+    (map entry_reading_of (drop (i + 1) es)) c.add_before.new.indices
     (subst (IsAhead defined c.entries.next) (left entry_reading_of es i x c.entries-test.true c.entry-item.is) c.entries.invariant.ahead)
-    (omega (arith, c.in_ok-next.ensures.within, length-map xs field_of)) c.in_ok-next.ensures.before c.in_ok-next.ensures.next in
-    let index : lowercase_index_in c.add_before.new.indices ≡ index_before defined (count_before defined (entry_reading_of x)) =
-    indices_are defined c.in_ok-next.next c.add_before.new.indices c.in_ok-next.ensures.indices ∙ ap (index_before defined) (sym step.0) in
+    c.in_ok-next.ensures.within c.in_ok-next.ensures.before c.in_ok-next.ensures.next c.in_ok-next.ensures.indices in
     let added =
     c.in_ok-push_left_in.ensures
     ∙ ap
-    (λ ix. lent_left c.entries.left.items ++ left_in (name_for known.names) (λ e. field_expanded rows ix) (entry_reading_of x)) index in
+    (λ ix. lent_left c.entries.left.items ++ left_in (name_for known.names) (λ e. field_expanded rows ix) (entry_reading_of x)) step.0 in
     record {
       added =
           flat_step entry_reading_of es i x c.entries-test.true c.entry-item.is

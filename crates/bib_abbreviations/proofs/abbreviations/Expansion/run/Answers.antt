@@ -1,8 +1,9 @@
 use Rattle.std.proofs.Common.{reverse, arith}
 use Rattle.std.proofs.lemmas.Result.{err_from_is_err_and}
+use Rattle.std.proofs.lemmas.List.{nil_from_length}
 use Rattle.bib_abbreviations.proofs.ExpansionFacts.{expanding_first, expanding_done, sound_done, expanding_closed, expanding_opened, expanding_said, sound_within}
 use Rattle.bib_abbreviations.proofs.PieceFacts.{expanding_refused, less_opened, less_closed}
-use Rattle.bib_contents.proofs.StackFacts.{no_elements, reversed_push}
+use Rattle.bib_contents.proofs.StackFacts.{reversed_push}
 use Rattle.bib_abbreviations.proofs.abbreviations.Expansion.run.Goals as goal
 
 pub frames-init : goal.frames-init
@@ -12,14 +13,14 @@ frames-init c =
 
 pub returns-in_default-pop-clause-said : goal.returns-in_default-pop-clause-said
 returns-in_default-pop-clause-said c =
-    let none = no_elements c.frames.frames.items (omega (arith, c.in_default-pop.ensures.cases.0, c.frames.frames.ok.0)) in
-    let ends = no_elements c.frames.frame.rest.now c.in_default.ensures.cases in
+    let none = nil_from_length c.frames.frames.items (omega (arith, c.in_default-pop.ensures.cases.0, c.frames.frames.ok.0)) in
+    let ends = nil_from_length c.frames.frame.rest.now c.in_default.ensures.cases in
     expanding_done c.close.new.self (rw none at c.frames.invariant) ends c.in_ok-close.ensures.values c.requires.defined
 
 pub returns-in_default-pop-clause-sound : goal.returns-in_default-pop-clause-sound
 returns-in_default-pop-clause-sound c =
-    let none = no_elements c.frames.frames.items (omega (arith, c.in_default-pop.ensures.cases.0, c.frames.frames.ok.0)) in
-    let ends = no_elements c.frames.frame.rest.now c.in_default.ensures.cases in
+    let none = nil_from_length c.frames.frames.items (omega (arith, c.in_default-pop.ensures.cases.0, c.frames.frames.ok.0)) in
+    let ends = nil_from_length c.frames.frame.rest.now c.in_default.ensures.cases in
     sound_done c.close.new.self (rw none at c.frames.invariant) ends c.in_ok-close.ensures.values c.in_ok-close.ensures.names
 
 pub frames-smaller-in_default : goal.frames-smaller-in_default
@@ -32,7 +33,7 @@ frames-smaller-in_default c =
 pub frames-preserved-in_default : goal.frames-preserved-in_default
 frames-preserved-in_default c =
     let reversed = reversed_push c.frames.frames.items c.pop.new.self.items c.in-Some-pop.below c.in-Some-pop.ensures.items in
-    let ends = no_elements c.frames.frame.rest.now c.in_default.ensures.cases in
+    let ends = nil_from_length c.frames.frame.rest.now c.in_default.ensures.cases in
     expanding_closed c.close.new.self (rw reversed at c.frames.invariant) ends c.in_ok-close.ensures.values c.in_ok-close.ensures.names
 
 pub take-requires : goal.take-requires

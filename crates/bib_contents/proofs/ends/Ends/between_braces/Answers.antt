@@ -1,7 +1,8 @@
 use Rattle.std.proofs.Common.{rules, arith, ◌≡◌, ◌∙◌, ◌≤◌, ◌-◌, ◌+◌, ◌∷◌, sym, ap, refl, length, replicate, reverse, append-nil}
+use Rattle.std.proofs.lemmas.List.{nil_from_length}
 use Rattle.bib_contents.proofs.ArgumentFacts.{is_no_brace, passes_ahead, passes_one, passes_within}
 use Rattle.bib_contents.proofs.EndFacts.{read_none, read_opened, read_closed, read_alone}
-use Rattle.bib_contents.proofs.StackFacts.{reversed_push, no_elements}
+use Rattle.bib_contents.proofs.StackFacts.{reversed_push}
 use Rattle.bib_contents.proofs.ends.Ends.between_braces.Goals as goal
 
 pub eat_while-requires-clause-is_test : goal.eat_while-requires-clause-is_test
@@ -68,6 +69,6 @@ braces-preserved-in-Some-pop c =
 
 pub braces-preserved : goal.braces-preserved
 braces-preserved c =
-    let none = no_elements c.braces.open.items (omega (arith, c.in_default-pop.ensures.cases.0, c.braces.open.ok.0)) in
+    let none = nil_from_length c.braces.open.items (omega (arith, c.in_default-pop.ensures.cases.0, c.braces.open.ok.0)) in
     read_alone c.braces.invariant c.eat_while.ensures.passed c.in-Some.ensures
     (sym (append-nil c.pop.new.self.items) ∙ sym c.in_default-pop.ensures.items ∙ none)

@@ -1,9 +1,9 @@
-use Rattle.std.proofs.Common.{ℕ, ◌≡◌, ◌≤◌, ◌<◌, ◌^◌, ◌+◌, zero, length, arith, ap, ◌∙◌, add-one}
+use Rattle.std.proofs.Common.{ℕ, ◌≡◌, ◌≤◌, ◌<◌, ◌^◌, ◌+◌, zero, arith, ◌∙◌, add-one}
 use Rattle.std.specs.Char.{len_utf8}
 use Rattle.std.proofs.lemmas.Str.{len_utf8_bounds}
 use Rattle.bib_text.specs.Places.{Place, CharAt, Longest}
 use Rattle.bib_text.specs.Braces.{is_plain}
-use Rattle.bib_text.proofs.PlaceFacts.{Ahead, ahead_here, ahead_then, ahead_char, ahead_run, ahead_same, ahead_taken, boundary_ahead, left_smaller, char_left}
+use Rattle.bib_text.proofs.PlaceFacts.{Ahead, ahead_here, ahead_then, ahead_char, ahead_run, ahead_same, ahead_taken, boundary_ahead, left_smaller, after_char_small}
 use Rattle.bib_syntax.proofs.BraceFacts.{braced_then, braced_run, braced_open, braced_hidden, braced_same, braced_less, braced_stuck, found_parts}
 use Rattle.bib_syntax.specs.OpenBraces.{SameBraced}
 use Rattle.bib_syntax.specs.OpenBraces.ClosesOpen.{last}
@@ -30,18 +30,11 @@ deeper {u} {v} {w} {n} {k} depth run char =
     let ahead : u.at ≤ v.at = run.at in
     omega arith
 
-below : {s u w : Place} {k : ℕ} → length s.text < 2 ^ 63 → Ahead s u → CharAt u k w → w.at < 2 ^ 64
-below {s} {u} {w} {k} fits ahead char =
-    let left : u.at + len_utf8 k ≤ length u.text = char_left char in
-    let text : length u.text ≡ length s.text = ap length ahead.text in
-    let next : w.at ≡ u.at + len_utf8 k = char.next in
-    omega arith
-
 pub overflow_add-depth : goal.overflow_add-depth
 overflow_add-depth c =
     let at = (goal.at.overflow_add-depth c).After-eat_until_any in
     let more : c.parts.depth + 1 ≤ c.eat_if.new.self.at = deeper c.parts.invariant.2 (ahead_run (run at).run) c.if-eat_if.ensures in
-    let fits : c.eat_if.new.self.at < 2 ^ 64 = below c.cursor-start.ensures.fits (passed at) c.if-eat_if.ensures in
+    let fits : c.eat_if.new.self.at < 2 ^ 64 = after_char_small c.cursor-start.ensures.fits (passed at) c.if-eat_if.ensures in
     omega arith
 
 pub parts-smaller-then-eat_if : goal.parts-smaller-then-eat_if

@@ -1,7 +1,8 @@
 use Rattle.std.proofs.Common.{sym, subst}
+use Rattle.bib_text.proofs.ListFacts.{mapped_more}
 use Rattle.bib_syntax.specs.Views.{entry_reading_of}
 use Rattle.bibkit_core.specs.Totals.{AddsEntries}
-use Rattle.bibkit_core.proofs.CountFacts.{adds_more_entries, adds_no_entries, mapped_more}
+use Rattle.bibkit_core.proofs.CountFacts.{adds_more_entries, adds_no_entries}
 use Rattle.bibkit_core.proofs.counting.Counting.add_entries.Goals as goal
 
 pub entries-init : goal.entries-init

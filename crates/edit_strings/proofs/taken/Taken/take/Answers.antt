@@ -3,9 +3,9 @@ use Rattle.std.specs.Prelude.{bytes_eq}
 use Rattle.std.specs.Str.{str_to_ascii_lowercase}
 use Rattle.std.specs.String.{string_bytes}
 use Rattle.std.proofs.lemmas.Map.Text.{btree_set_updates_text}
+use Rattle.bib_text.proofs.BoolFacts.{or_cond}
 use Rattle.bib_syntax.specs.Grammar.{is_word}
 use Rattle.edit_strings.specs.Collecting.{is_taken}
-use Rattle.edit_strings.proofs.TextFacts.{or_cond}
 use Rattle.edit_strings.proofs.taken.Taken.take.Goals as goal
 
 pub returns : goal.returns

@@ -1,0 +1,38 @@
+-- Meaning: words of public contracts.
+-- The findings of entries whose `crossref` names an earlier entry. If the document doesn't cite this parent itself, BibTeX reports a bad
+-- cross reference, and the entry inherits nothing. Biber inherits as usual.
+use Rattle.std.specs.Prelude.{ℕ, Bool, not, ◌==◌, ◌&&◌, List, [], ◌∷◌, codes, length, if◌then◌else◌}
+use Rattle.std.specs.List.{list_any}
+use Rattle.std.specs.Str.{str_eq_ignore_ascii_case, trim}
+use Rattle.bib_syntax.specs.Reading.{EntryReading}
+use Rattle.bib_findings.specs.After.{each_after}
+use Rattle.bib_findings.specs.Entries.{field_place}
+use Rattle.bib_findings.specs.Errors.{finding_at}
+use Rattle.bib_findings.specs.Fields.{named_message}
+use Rattle.bib_findings.specs.Identities.{own_literal}
+use Rattle.bib_findings.specs.declared.codes.Code.TheVariants.{EarlyParent}
+use Rattle.bib_findings.specs.declared.finding.Finding.{Finding}
+
+-- the `crossref` of an entry without the white space around it; the empty text if the entry has none as one literal
+abbrev pub parent_key : EntryReading → List ℕ
+parent_key said = trim (own_literal said (codes "crossref"))
+
+-- whether an entry has this key, in any ASCII case
+abbrev pub is_key_of : List ℕ → EntryReading → Bool
+is_key_of key said = str_eq_ignore_ascii_case key said.key.text
+
+-- the finding of an entry whose `crossref` names this key of an earlier entry
+abbrev pub early_finding : EntryReading → List ℕ → Finding
+early_finding said parent =
+    finding_at EarlyParent (field_place said (codes "crossref"))
+    (named_message said.key.text (codes "the parent ") parent (codes " comes first; BibTeX finds it only if it is cited too"))
+
+-- the finding of an entry if its `crossref` names one of the earlier entries
+abbrev pub early_after : List EntryReading → EntryReading → List Finding
+early_after earlier said =
+    let parent : List ℕ = parent_key said in
+    if not (length parent == 0) && list_any (is_key_of parent) earlier then early_finding said parent ∷ [] else []
+
+-- the findings of the entries whose `crossref` names an earlier one
+abbrev pub early_findings : List EntryReading → List Finding
+early_findings entries = each_after early_after [] entries

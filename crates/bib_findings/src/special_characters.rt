@@ -1,0 +1,219 @@
+//! Findings of special characters: those that are special to LaTeX, and occur outside braces and math without a backslash before them.
+
+ghost use Rattle.std.specs.Prelude.{◌≡◌, ◌++◌, map, option_map, IfOk, OnOk};
+ghost use Rattle.std.specs.List.{flat_map};
+ghost use Rattle.std.specs.String.{string_bytes};
+ghost use Rattle.std.specs.Str.{chars};
+ghost use Rattle.bib_syntax.specs.Views.{entry_reading_of, field_of};
+ghost use Rattle.bib_findings.specs.SpecialCharacters as spec;
+ghost use Rattle.bib_findings.specs.SpecialCharacters.{special_findings, special_finding, specials_of};
+ghost use Rattle.bib_findings.specs.declared.special_characters.Zone.TheVariants.{InText};
+
+use crate::codes::Code;
+use crate::fields::named_message;
+use crate::finding::Finding;
+use crate::identities::literal_text;
+use crate::nearest::is_among;
+use crate::outside::outside_braces;
+use bib_syntax::raw::{Pair, RawEntry};
+use bib_text::spanned::Spanned;
+use bib_text::text::Text;
+use std::alloc::{AllocError, Global};
+
+// The part of a text to which a character belongs.
+#[derive(Clone, Copy)]
+enum Zone {
+    // In the text itself.
+    InText,
+    // After a backslash in the text.
+    InTextEscaped,
+    // After the first dollar sign of math.
+    MathOpened,
+    // Between dollar signs.
+    InMath,
+    // After a backslash between dollar signs.
+    InMathEscaped,
+    // Between pairs of dollar signs.
+    InDisplay,
+    // After a backslash between pairs of dollar signs.
+    InDisplayEscaped,
+    // After a dollar sign between pairs of dollar signs.
+    DisplayClosing,
+    // Between `\(` or `\[`, and `\)` or `\]`.
+    InFormula,
+    // After a backslash in such a formula.
+    InFormulaEscaped,
+}
+
+// The tested fields: names, titles, publishers, places and notes that BibLaTeX prints as text.
+static PRINTED_FIELDS: [&str; 34] = [
+    "addendum",
+    "author",
+    "booksubtitle",
+    "booktitle",
+    "booktitleaddon",
+    "editor",
+    "eventtitle",
+    "howpublished",
+    "institution",
+    "issuesubtitle",
+    "issuetitle",
+    "journal",
+    "journalsubtitle",
+    "journaltitle",
+    "location",
+    "address",
+    "mainsubtitle",
+    "maintitle",
+    "maintitleaddon",
+    "note",
+    "organization",
+    "origpublisher",
+    "origtitle",
+    "publisher",
+    "reprinttitle",
+    "school",
+    "series",
+    "shortjournal",
+    "shorttitle",
+    "subtitle",
+    "title",
+    "titleaddon",
+    "translator",
+    "venue",
+];
+
+// Returns whether a character is one of those that LaTeX doesn't print outside math.
+fn is_latex_special(c: char) -> bool
+    ensures { result ≡ spec.is_latex_special c }
+{
+    matches!(c, '&' | '%' | '#' | '_' | '^')
+}
+
+// Returns the zone after a character in the text itself.
+fn after_text(c: char) -> Zone
+    ensures { result ≡ spec.zone_after InText c }
+{
+    match c {
+        '\\' => Zone::InTextEscaped,
+        '$' => Zone::MathOpened,
+        _ => Zone::InText,
+    }
+}
+
+// Returns the zone after a character.
+fn zone_after(zone: Zone, c: char) -> Zone
+    ensures { result ≡ spec.zone_after zone c }
+{
+    match (zone, c) {
+        (Zone::InText, _) => after_text(c),
+        (Zone::InTextEscaped, '(' | '[') => Zone::InFormula,
+        (Zone::InTextEscaped, _) => Zone::InText,
+        (Zone::MathOpened | Zone::InMath, '\\') => Zone::InMathEscaped,
+        (Zone::MathOpened, '$') => Zone::InDisplay,
+        (Zone::InMath, '$') => Zone::InText,
+        (Zone::MathOpened | Zone::InMath | Zone::InMathEscaped, _) => Zone::InMath,
+        (Zone::InDisplay | Zone::DisplayClosing, '\\') => Zone::InDisplayEscaped,
+        (Zone::InDisplay, '$') => Zone::DisplayClosing,
+        (Zone::DisplayClosing, '$') => Zone::InText,
+        (Zone::InDisplay | Zone::InDisplayEscaped | Zone::DisplayClosing, _) => Zone::InDisplay,
+        (Zone::InFormula, '\\') => Zone::InFormulaEscaped,
+        (Zone::InFormulaEscaped, ')' | ']') => Zone::InText,
+        (Zone::InFormula | Zone::InFormulaEscaped, _) => Zone::InFormula,
+    }
+}
+
+// Returns whether a character in this zone is a special one in the text itself.
+fn is_unescaped_special(zone: Zone, c: char) -> bool
+    ensures { result ≡ spec.is_unescaped_special zone c }
+{
+    matches!(zone, Zone::InText) && is_latex_special(c)
+}
+
+// Returns the first special character of a text that is outside math and has no backslash before it.
+fn first_special(text: &str) -> Option<char>
+    ensures { result ≡ spec.first_special InText (chars text.now) }
+{
+    let mut zone = Zone::InText;
+    'characters: for c in text.chars() {
+        if is_unescaped_special(zone, c) {
+            return Some(c);
+        }
+        zone = zone_after(zone, c);
+    }
+    None
+}
+
+// Returns the end of a message: the advice for a special character. `\^` is an accent.
+fn special_remedy(c: char) -> &'static str
+    ensures { result.now ≡ spec.special_remedy c }
+{
+    match c {
+        '^' => "; write `\\textasciicircum{}`",
+        _ => " needs a backslash before it",
+    }
+}
+
+// Returns the finding of a field of the entry with this key, which has this special character.
+fn special_finding(
+    alloc: Global,
+    key: &str,
+    field: &Pair<'_>,
+    c: char,
+) -> Result<Finding, AllocError>
+    ensures { IfOk result (λ finding. finding ≡ special_finding key.now (field_of field.now) c) }
+{
+    let before = format!(in alloc; "`{c}` in ")?;
+    let message = named_message(alloc, key, &before, field.key.v, special_remedy(c))?;
+    Ok(Finding {
+        code: Code::SpecialCharacter,
+        span: field.key.span.start..field.key.span.end,
+        message: Text::from_string(message),
+    })
+}
+
+// Appends the finding of a field of the entry with this key, if it is printed and its value is one literal with a special character.
+fn add_special(
+    alloc: Global,
+    found: &mut Vec<Finding>,
+    key: &str,
+    field: &Pair<'_>,
+) -> Result<(), AllocError>
+    ensures { OnOk result (found.new.items ≡ found.old.items ++ specials_of key.now (field_of field.now)) }
+{
+    if !is_among(&PRINTED_FIELDS, field.key.v) {
+        return Ok(());
+    }
+    let outside = outside_braces(alloc, literal_text(&field.value.v))?;
+    let Some(c) = first_special(&outside) else {
+        return Ok(());
+    };
+    found.push(special_finding(alloc, key, field, c)?)?;
+    Ok(())
+}
+
+// Appends a finding for each of these fields of the entry with this key that is printed and has a special character.
+fn add_special_among(
+    alloc: Global,
+    found: &mut Vec<Finding>,
+    key: &str,
+    fields: &[Pair<'_>],
+) -> Result<(), AllocError>
+    ensures { OnOk result (found.new.items ≡ found.old.items ++ flat_map (specials_of key.now) (map field_of fields.now)) }
+{
+    'fields: for field in fields {
+        add_special(alloc, found, key, field)?;
+    }
+    Ok(())
+}
+
+/// Appends a finding for each field of an entry that is printed and has a special character.
+pub(crate) fn add_specials(
+    alloc: Global,
+    found: &mut Vec<Finding>,
+    said: &Spanned<RawEntry<'_>>,
+) -> Result<(), AllocError>
+    ensures { OnOk result (found.new.items ≡ found.old.items ++ special_findings (entry_reading_of said.now)) }
+{
+    add_special_among(alloc, found, said.v.key.v, &said.v.fields)
+}

@@ -1,0 +1,19 @@
+-- Facts about options.
+use Rattle.std.proofs.Common.{◌≡◌, Bool, true, false, cond, Option, Some, None, refl, option_map, is_some}
+use Rattle.std.specs.Option.{option_or}
+
+-- a function of a value doesn't change whether there is one
+pub some_mapped : {A B : Type 0} (f : A → B) (o : Option A) → is_some (option_map f o) ≡ is_some o
+some_mapped f None = refl
+some_mapped f (Some x) = refl
+
+-- a function of a value, or else of another option
+pub mapped_cond : {A B : Type 0} (f : A → B) (b : Bool) (x : A) (o : Option A)
+    → option_map f (cond b (Some x) o) ≡ cond b (Some (f x)) (option_map f o)
+mapped_cond f true x o = refl
+mapped_cond f false x o = refl
+
+-- an option, or else nothing
+pub or_none : {A : Type 0} (o : Option A) → option_or o None ≡ o
+or_none None = refl
+or_none (Some x) = refl
