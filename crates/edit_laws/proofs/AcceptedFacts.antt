@@ -54,7 +54,7 @@ texts_faultless one other earlier (s ∷ said) (t ∷ tells) {e = e} are (AreTex
     texts_faultless one other (earlier ++ claims_by s.key.text a) said tells are.1 rest
     (subst (λ names. IsFirstErrorOfEntries other (earlier ++ names) tells e) same error)
 
--- the texts of raw entries, one of which has another field that claims no name
+-- if a raw entry is replaced by one with the same key and the same `ids`, the list of texts changes only at its index
 pub texts_set : {definitions : Definitions} {earlier : List (List ℕ)} {said : List EntryReading} {texts : List EntryTexts} (k : ℕ)
     (e changed : EntryReading) (t u : EntryTexts) → AreTexts definitions earlier said texts → slice_get said k ≡ Some e
     → slice_get texts k ≡ Some t → changed.key.text ≡ e.key.text → (AreTextsOf definitions e t → AreTextsOf definitions changed u)
@@ -89,7 +89,7 @@ all_same : (xs : List ℕ) → map (λ a. a) xs ≡ xs
 all_same [] = refl
 all_same (x ∷ xs) = ap (λ l. x ∷ l) (all_same xs)
 
--- the dates of two lists of texts are the same if no field of a date differs
+-- the own entries of two files have the same dates if the field in which they differ is unlinked
 dates_apart : {own others : List Entry} {k : ℕ} {name : List ℕ} {text : Option (List Atom)} → DifferInField own others k name text
     → IsUnlinked name → (a : ℕ) → HaveSameDate (at_index (texts_of_entries own) a) (at_index (texts_of_entries others) a)
 dates_apart {own} {others} {k} {name} {text} differ apart a = by_index (eqb_tells a k)
@@ -133,7 +133,7 @@ module _ {said tells : FileReading} {k : ℕ} {e changed : EntryReading} (replac
   in_range : IsInRange (graph_of own)
   in_range = graph_in_range (names_of own) own (names_below own)
 
-  -- corresponding entries have the same dates after inheriting
+  -- entries with the same index have the same dates after inheriting
   same_dates : (others : List Entry) (values news : List EntryTexts) → AreOwn tells others
       → Inherits (texts_of_entries own) (graph_of own) values → Inherits (texts_of_entries others) (graph_of own) news
       → (a : ℕ) → HaveSameDate (at_index values a) (at_index news a)

@@ -89,7 +89,7 @@ readable_alike {one} {other} {is_verbatim} {ps} {qs} both alike read = record {
     by_known name (inl defined) = let also = both.onward.some name defined.0 defined.1 in inl (also.0, also.1)
     by_known name (inr english) = inr english
 
--- pieces have by other definitions the value that some pieces have, and can be parsed if those can
+-- the pieces `qs` have, by the definitions `other`, each value that `ps` have by `one`, and can be parsed if `ps` can
 pub record MeanTheSame (one other : Definitions) (ps qs : List Piece) : Type 0 where
   pub value : (is_verbatim : Bool) (atoms : List Atom) → Evaluates one is_verbatim ps atoms → Evaluates other is_verbatim qs atoms
   pub readable : (is_verbatim : Bool) → IsReadable one is_verbatim ps → IsReadable other is_verbatim qs
@@ -118,7 +118,7 @@ pub record AreAlikeAbbreviations (one other : FieldReading) : Type 0 where
   pub name : one.name.text ≡ other.name.text
   pub pieces : Alike one.value.pieces other.value.pieces
 
--- two results of a search are related, or both are missing
+-- two results of a search are related, or both are `None`
 pub data FoundAlike {A : Type 0} (R : A → A → Type 0) : Option A → Option A → Type 0 where
   in_neither : FoundAlike R None None
   in_each : {x y : A} → R x y → FoundAlike R (Some x) (Some y)

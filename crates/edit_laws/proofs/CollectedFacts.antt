@@ -1,4 +1,4 @@
--- Texts that are replaced by abbreviations: each field of the new file means the same.
+-- Texts that are replaced by abbreviations: each value of the new file means the same as the old one.
 use Rattle.std.proofs.Common.{◌≡◌, ◌⊎◌, ℕ, List, [], ◌∷◌, ◌++◌, Bool, true, false, cond, filter, reverse, refl, sym, ap, ◌∙◌, subst, inl, inr, Some, None, Option, option_map}
 use Rattle.std.specs.Prelude.{◌==◌, ◌&&◌, bytes_eq, count_by, find, is_some, not, slice_index_or}
 use Rattle.std.specs.List.{AllByRecursion, AllZip, flat_map}
@@ -62,7 +62,7 @@ module _ (says : FileReading) where
 
   -- ---- the one definition of a known name
 
-  -- what the code knows of a definition that it reuses
+  -- a definition can be reused for a text: no other definition has its name in any case, and its value is this text
   record IsReusable (f : FieldReading) (text : List ℕ) : Type 0 where
     one : count_by (has_name f.name.text) says.abbreviations ≡ 1
     value : single_text (elements f) ≡ Some text
@@ -120,7 +120,7 @@ module _ (says : FileReading) where
   zip_push R (z ∷ zs) [] x y all last = absurd all
   zip_push R (z ∷ zs) (w ∷ ws) x y all last = (all.0, zip_push R zs ws x y all.1 last)
 
-  -- more definitions, of a name that is none of these, change nothing
+  -- each name still means its text after a definition of another name is added
   still_mean : (added : List FieldReading) (n t : List ℕ) (names texts : List (List ℕ)) → is_one_in_any_case names n ≡ false
       → AllZip (NameMeans added) names texts → AllZip (NameMeans (added ++ line_reading n t ∷ [])) names texts
   still_mean added n t [] [] none all = tt
@@ -210,7 +210,7 @@ module _ (says : FileReading) where
         ∙ ap (λ o. option_or o (definition_in one name)) (or_none (definition_in other name))
         ∙ sym (found_old name)
 
-    -- a name that the file hasn't has no definition there
+    -- a name that the file doesn't use has no definition in the second part of its definitions
     no_other : (name : List ℕ) → is_one_in_any_case (names_of_file says) name ≡ false → definition_in other name ≡ None
     no_other name fresh =
         first_none (definition_in other name) (definition_in one name)
@@ -262,7 +262,7 @@ module _ (says : FileReading) where
       stays_value all (evaluates.month_name {p = p} {rest = rest} d m more) =
           evaluates.month_name (same_in_file p.text (all p.text (inl refl)) ∙ d) m (stays_value (rest_in (abbreviation p) rest all) more)
 
-      -- pieces reach the same names, all of which are in the file
+      -- pieces whose names are in the file reach only names in the file
       reached_in : {ps : List Piece} {name : List ℕ} → AllInFile ps → Reaches old ps name → InFile name
       reached_in all (reaches.held {name = name} held) = all name held
       reached_in all (reaches.through {name = name} {next = next} {definition = definition} before d held) =
@@ -398,7 +398,7 @@ module _ (says : FileReading) where
         entries_mean [] all = _
         entries_mean (e ∷ es) all = (fields_mean e.fields all.0, entries_mean es all.1)
 
--- a file is alike to what its text with collected texts reads as
+-- a file is alike to the reading of its text with collected abbreviations
 pub files_collected : (d : Document) → IsDocument d → (fields : List (List ℕ)) (least : ℕ) (text : List ℕ)
     (made : AreMadeAbbreviations d fields least text) → AreAlikeFiles d.says made.read.tells
 files_collected d read fields least text made =

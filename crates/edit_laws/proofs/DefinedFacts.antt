@@ -1,4 +1,4 @@
--- What defines a name: among appended definitions, among new ones, and where it is defined once.
+-- The definition of a name among appended definitions, among new ones, and if only one definition has the name.
 use Rattle.std.proofs.Common.{◌≡◌, ℕ, ◌+◌, List, [], ◌∷◌, ◌++◌, Bool, true, false, cond, length, reverse, refl, sym, ap, ◌∙◌, subst, arith, Some, None, Option, option_map}
 use Rattle.std.specs.Prelude.{◌||◌, ◌≤◌, bytes_eq, count_by, find, is_some}
 use Rattle.std.specs.Option.{option_or}
@@ -31,11 +31,11 @@ defined_append fs gs name =
     map_or None p = refl
     map_or (Some f) p = refl
 
--- a name is the same in any case as itself
+-- a name is equal to itself in any case
 pub own_word : (name : List ℕ) → is_word name name ≡ true
 own_word name = (bytes_eq-Decides (str_to_ascii_lowercase name) (str_to_ascii_lowercase name)).1 refl
 
--- two names that aren't the same in any case have different bytes
+-- two names that aren't equal in any case have different bytes
 other_bytes : (name other : List ℕ) → is_word other name ≡ false → bytes_eq name other ≡ false
 other_bytes name other differs = by_case (bytes_eq name other) refl
   where
@@ -45,7 +45,7 @@ other_bytes name other differs = by_case (bytes_eq name other) refl
         let same : name ≡ other = (bytes_eq-Decides name other).0 is in
         absurd (both_ways _ differs (subst (λ n. is_word other n ≡ true) (sym same) (own_word other)))
 
--- the definition of a name that no definition has, in any case
+-- a name that no definition has in any case has no definition
 pub absent : (fs : List FieldReading) (name : List ℕ) → is_one_in_any_case (definition_names fs) name ≡ false → definition_in fs name ≡ None
 absent [] name none = refl
 absent (f ∷ fs) name none =
@@ -132,7 +132,7 @@ some_counted p (_ ∷ fs) f In.here passes = omega (arith, count_more p f fs tru
 some_counted p (g ∷ fs) f (In.further there) passes =
     omega (arith, some_counted p fs f there passes, count_more p g fs (p g) refl)
 
--- the last element that passes a test is the only one that passes a weaker test
+-- if only one definition passes a test, a search from the end with a stronger test finds each definition that passes both
 pub only_last : (p q : FieldReading → Bool) → ((g : FieldReading) → q g ≡ true → p g ≡ true) → (fs : List FieldReading) (f : FieldReading)
     → count_by p fs ≡ 1 → In f fs → q f ≡ true → find q (reverse fs) ≡ Some f
 only_last p q implies [] f one there tests = elim there [ ]
@@ -147,7 +147,7 @@ only_last p q implies (g ∷ fs) f one (In.further there) tests =
     ap (find q) (reverse-append (g ∷ []) fs) ∙ find-append q (reverse fs) (g ∷ [])
     ∙ ap (λ o. option_or o (cond (q g) (Some g) None)) (only_last p q implies fs f rest there tests)
 
--- the pieces of a known name's definition
+-- pieces are one literal with a text
 pub record IsLiteral (pieces : List Piece) (text : List ℕ) : Type 0 where
   pub part : Part
   pub is : pieces ≡ literal part ∷ []

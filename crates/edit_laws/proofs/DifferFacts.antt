@@ -94,7 +94,7 @@ unlinked name apart =
       day = or_false_left (bytes_eq (codes "day") name) false o;
     }
 
--- another field is the same
+-- a field with another name keeps its text
 pub other_field : (name : List ℕ) (text : Option (List Atom)) (texts : EntryTexts) (other : List ℕ) → bytes_eq other name ≡ false
     → (with_field_text name text texts).fields other ≡ texts.fields other
 other_field name text texts other apart = ap (λ b. cond b text (texts.fields other)) apart
@@ -145,7 +145,7 @@ module _ {own others : List Entry} {k : ℕ} {name : List ℕ} {text : Option (L
   old_here : slice_get (texts_of_entries own) k ≡ Some old
   old_here = get_mapped texts_of_entry own k differ.entry differ.here
 
-  -- the names are the same
+  -- both files have the same names of entries
   pub differ_names : names_of own ≡ names_of others
   differ_names =
       names_by_claims own others
@@ -161,7 +161,7 @@ module _ {own others : List Entry} {k : ℕ} {name : List ℕ} {text : Option (L
       (reference_names_by new.fields old.fields (other_field name text old (codes "crossref") apart.crossref)
       (other_field name text old (codes "xdata") apart.xdata))
 
-  -- the references are the same
+  -- both files have the same references
   pub differ_graph : graph_of own ≡ graph_of others
   differ_graph =
       graph_texts (names_of own) own ∙ ap (λ names. graph_by_texts names (texts_of_entries own)) differ_names
@@ -177,7 +177,7 @@ module _ {own others : List Entry} {k : ℕ} {name : List ℕ} {text : Option (L
   pub differ_here : at_index (texts_of_entries others) k ≡ new
   differ_here = ap (λ l. get_or l k no_entry) differ.texts ∙ set_here (texts_of_entries own) k old new no_entry old_here
 
-  -- an entry that doesn't lead to this one has the same texts after inheriting
+  -- an entry is another one than that at `k`, and doesn't lead to it
   abbrev IsApart : ℕ → Type 0
   IsApart a = (a ≡ k → ⊥) × (Leads (graph_of own) a k → ⊥)
 
@@ -204,7 +204,7 @@ module _ {own others : List Entry} {k : ℕ} {name : List ℕ} {text : Option (L
         ap (λ t. with_inherited_fields t xs) (differ_apart x q.0)
         ∙ ap (with_inherited_fields (at_index (texts_of_entries others) x)) (same_zip xs ys all)) none values news a first moved below p
 
-    -- the references of this entry have the same texts after inheriting
+    -- the entries to which the changed entry refers have the same texts after inheriting
     pub references_same : k < length (graph_of own)
         → map (at_index values) (refs_of (graph_of own) k) ≡ map (at_index news) (refs_of (graph_of own) k)
     references_same within =
@@ -218,7 +218,7 @@ module _ {own others : List Entry} {k : ℕ} {name : List ℕ} {text : Option (L
         below : (b : ℕ) → Contains (refs_of (graph_of own) k) b → b < length (graph_of own)
         below b edge = below_from_edge (graph_of own) k b (graph_in_range (names_of own) own (names_below own)) within edge
 
-    -- this entry has the same other fields after inheriting
+    -- the changed entry has the same other fields after inheriting
     pub fields_same : k < length (graph_of own) → (field : List ℕ) → bytes_eq field name ≡ false
         → (at_index values k).fields field ≡ (at_index news k).fields field
     fields_same within field other =
@@ -311,7 +311,7 @@ module _ {says tells : FileReading} {one other : Bibliography} (first : IsLoaded
       texts_long : (es : List Entry) → length (texts_of_entries es) ≡ length es
       texts_long es = length-map es texts_of_entry
 
-  -- the bibliographies are alike, except for this field and what is inherited from this entry
+  -- the bibliographies are alike, except for this field and the entries that lead to this entry
   pub alike_except : AreAlikeExcept own one other key name
   alike_except = record {
     index = k;

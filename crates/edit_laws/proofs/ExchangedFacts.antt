@@ -34,7 +34,7 @@ EachMeansTheSame one other exchange entries =
     entries
 
 module _ (one : Definitions) {middle other : Definitions} (both : DefineAlike middle other) where
-  -- a field and the field that its replacement reads as
+  -- a field is alike to each field that equals its replacement except for spans, if the replacement means the same
   field_step : (f h g : FieldReading) → MeanTheSame one middle f.value.pieces h.value.pieces → f.name.text ≡ h.name.text
       → bare_field h ≡ bare_field g → AreAlikeFields one other f g
   field_step f h g means name is = record {
@@ -86,7 +86,8 @@ module _ (one : Definitions) {middle other : Definitions} (both : DefineAlike mi
   entries_alike exchange (e ∷ es) (g ∷ gs) all is =
       (entry_alike (exchange e) e g all.0 (cons_head _ _ is), entries_alike exchange es gs all.1 (cons_tail is))
 
--- a file is alike to what a text reads as, if this is the file with replaced values and these definitions, except for spans
+-- a file is alike to a reading that has, except for spans, its entries with replaced values and these definitions, if each replacement
+-- means the same
 pub files_exchanged : (exchange : EntryReading → Exchange) (says tells : FileReading) (definitions : List FieldReading)
     → EachMeansTheSame (definition_in says.abbreviations) (definition_in definitions) exchange says.entries
     → placeless tells ≡ placeless (record (file_changed (λ e. exchanges (exchange e) e) says) { abbreviations = definitions })

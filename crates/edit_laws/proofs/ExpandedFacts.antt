@@ -25,7 +25,7 @@ module _ (abbreviations : List FieldReading) where
   abbrev pub defined : Definitions
   defined = definition_in abbreviations
 
-  -- the second list is the first with some names replaced by the expansions of their definitions, which are those of the library
+  -- the second list is the first with some names replaced by the expansions of the definitions that `defined` finds for them
   data Replaces : List Piece → List Piece → Type 0 where
     none : Replaces [] []
     itself : {piece : Piece} {rest more : List Piece} → Replaces rest more → Replaces (piece ∷ rest) (piece ∷ more)
@@ -108,7 +108,7 @@ module _ (abbreviations : List FieldReading) where
   reaches_through written (reaches.held {name = name} held) = reaches_written name written held
   reaches_through written (reaches.through before d held) = reaches.through (reaches_through written before) d held
 
-  -- a text in an expansion is one in the pieces, or in the definition of a name that they reach
+  -- a text is in pieces, or in the definition of a name that they reach
   data ComesFrom (ps : List Piece) (text : List ℕ) : Type 0 where
     own : HoldsText ps text → ComesFrom ps text
     inside : {name : List ℕ} {definition : List Piece} → Reaches defined ps name → defined name ≡ Some definition
@@ -158,11 +158,11 @@ module _ (abbreviations : List FieldReading) where
     readable = λ is_verbatim read. writes_readable written read;
   }
 
-  -- pieces that stay mean the same
+  -- pieces mean the same as themselves
   mean_itself : (ps : List Piece) → MeanTheSame defined defined ps ps
   mean_itself ps = record { value = λ is_verbatim atoms says. says; readable = λ is_verbatim read. read }
 
--- a field and its expansion mean the same
+-- a field and its expansion mean the same, if both rules find the same definitions of the names in it
 field_means : (says : FileReading) (text : List ℕ) (written : EntryReading → FieldReading → List Piece) (e : EntryReading)
     (f : FieldReading) → AreDefinedAlike says
     → AllByRecursion (HasSameDefinition says.abbreviations (count_before says.abbreviations e)) (elements f)
@@ -184,7 +184,7 @@ module _ (d : Document) (written : EntryReading → FieldReading → List Piece)
   abbrev Same : EntryReading → FieldReading → Type 0
   Same e f = AllByRecursion (HasSameDefinition d.says.abbreviations (count_before d.says.abbreviations e)) (elements f)
 
-  -- a field has its expansion
+  -- the pieces `written e f` are the expansion of a field
   abbrev Written : EntryReading → FieldReading → Type 0
   Written e f = WritesOut d.says.abbreviations (count_before d.says.abbreviations e) (elements f) (written e f)
 
@@ -204,7 +204,7 @@ module _ (d : Document) (written : EntryReading → FieldReading → List Piece)
       d.says.entries
       (all_both (λ e. AllByRecursion (Same e) e.fields) (λ e. AllByRecursion (Written e) e.fields) d.says.entries alike.entries each)
 
--- a file is alike to what its text with expanded abbreviations reads as
+-- if both rules find the same definitions of its names, a file is alike to the reading of its text with expanded abbreviations
 pub files_expanded : (d : Document) (text : List ℕ) (expanded : IsExpanded d text) → AreDefinedAlike d.says
     → AreAlikeFiles d.says expanded.changed.read.tells
 files_expanded d text expanded alike =

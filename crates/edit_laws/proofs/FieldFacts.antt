@@ -1,4 +1,4 @@
--- The last field with a name in an entry whose field is set or unset.
+-- The last field with a name in an entry after a field is set or unset.
 use Rattle.std.proofs.Common.{◌≡◌, ℕ, List, [], ◌∷◌, ◌++◌, Bool, true, false, cond, map, reverse, refl, sym, ap, ◌∙◌, subst, Some, None, Option, option_map}
 use Rattle.std.specs.Prelude.{bytes_eq, find, not, ◌&&◌, ◌||◌}
 use Rattle.std.specs.Cmp.Lexicographic.{nat_list_eq_equiv}
@@ -26,7 +26,7 @@ pub record IsText (pieces : List Piece) (text : List ℕ) : Type 0 where
   pub are : pieces ≡ literal part ∷ []
   pub is : part.text ≡ text
 
--- fields are other fields, except that the last one with a name has this text
+-- the last field with each other name is the same in both lists, and the last one with this name in the second has this text
 pub record IsFieldSet (fields changed : List FieldReading) (name text : List ℕ) : Type 0 where
   pub others : (other : List ℕ) → bytes_eq other name ≡ false → field_in changed other ≡ field_in fields other
   pub field : FieldReading
@@ -153,7 +153,7 @@ abbrev pub with_pieces : List Piece → FieldReading → FieldReading
 with_pieces pieces f = record f { value = record f.value { pieces = pieces } }
 
 module _ (name : List ℕ) (value : SetValue) (text : List ℕ) where
-  -- a field after its value is set
+  -- a field after its value is set, if it has the name and another value
   abbrev set_field : FieldReading → FieldReading
   set_field f = cond (has_other_value name value f) (with_pieces (new_value value).pieces f) f
 
@@ -207,7 +207,7 @@ module _ (name : List ℕ) (value : SetValue) (text : List ℕ) where
           let passes : bytes_eq other (name_of f) ≡ true = found_passes (λ g. bytes_eq other (name_of g)) (reverse fs) f is in
           ap Some (other_kept f (named_alike name other f passes ∙ apart))
 
-  -- after each field with a name gets a value, the last of them has it
+  -- after each field with a name gets a value, the last of them has its text, and the other names have the same last fields
   pub values_are_set : (fs : List FieldReading) → list_any (has_name name) fs ≡ true → IsText (new_value value).pieces text
       → AllByRecursion HasTextAlready fs → IsFieldSet fs (map set_field fs) (str_to_ascii_lowercase name) text
   values_are_set fs any new already =
@@ -224,7 +224,7 @@ module _ (name : List ℕ) (value : SetValue) (text : List ℕ) where
 
   -- ---- a new field
 
-  -- a new field before others, none of which has its name, has its value
+  -- a new field before others, none of which has its name, has the text of its value
   pub new_is_set : (fs : List FieldReading) → list_any (has_name name) fs ≡ false → IsText (new_value value).pieces text
       → IsFieldSet fs (field_reading (field_with_value name value) ∷ fs) (str_to_ascii_lowercase name) text
   new_is_set fs none new =

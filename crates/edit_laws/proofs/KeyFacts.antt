@@ -53,13 +53,13 @@ record IsFieldKept (f g : FieldReading) : Type 0 where
   value : is_reference_field f.name.text ≡ false
       → map (moved_piece (λ at. 0)) f.value.pieces ≡ map (moved_piece (λ at. 0)) g.value.pieces
 
--- an entry has the same or a new key, the same type, and the same fields except references
+-- an entry has the same or a new key, the same type, and the same fields, except for the values of references
 record IsEntryKept (keys : ℕ → Option (List ℕ)) (e g : EntryReading) : Type 0 where
   key : (g.key.text ≡ e.key.text) ⊎ ((index : ℕ) × (keys index ≡ Some g.key.text))
   kind : g.kind.text ≡ e.kind.text
   fields : AllZip IsFieldKept e.fields g.fields
 
--- a reading has such entries, and the same definitions
+-- two readings have the same entries except for keys and references, and the same definitions
 record IsFileKept (keys : ℕ → Option (List ℕ)) (said tells : FileReading) : Type 0 where
   entries : AllZip (IsEntryKept keys) said.entries tells.entries
   abbreviations : map (moved_field (λ at. 0)) said.abbreviations ≡ map (moved_field (λ at. 0)) tells.abbreviations
@@ -80,7 +80,7 @@ entry_moved keys move e g kept = record {
 
 -- ---- changes
 
--- a change gives a new key, or changes a reference field
+-- a change gives a key that is one of `keys`, or changes a reference field
 abbrev IsFine : (ℕ → Option (List ℕ)) → Change → Type 0
 IsFine keys (Change.key p new) = (index : ℕ) × (keys index ≡ Some new)
 IsFine keys (Change.value f new) = is_reference_field f.name.text ≡ true
@@ -123,7 +123,7 @@ fine_renaming keys names index (e ∷ es) =
     (fine_fields keys names e.fields)) (fine_renaming keys names (suc index) es)
 
 module _ (keys : ℕ → Option (List ℕ)) where
-  -- changes that give new keys and change reference fields keep all else
+  -- changes that give new keys and change reference fields keep everything else
   changed_kept : {d after : Document} {changes : List Change} → Changed d changes after → AllByRecursion (IsFine keys) changes
       → IsFileKept keys d.says after.says
   changed_kept {d} Changed.none fine = record {

@@ -41,7 +41,7 @@ abbrev is_value_at : ℕ → Change → Bool
 is_value_at at (Change.key p new) = false
 is_value_at at (Change.value f new) = f.value.start == at
 
--- the first change in two lists
+-- the new text in two lists of changes is that in the first, or else that in the second
 new_append : (test : Change → Bool) (xs ys : List Change) → new_text test (xs ++ ys) ≡ option_or (new_text test xs) (new_text test ys)
 new_append test [] ys = refl
 new_append test (x ∷ xs) ys = by_test (test x) (new_append test xs ys)
@@ -52,13 +52,13 @@ new_append test (x ∷ xs) ys = by_test (test x) (new_append test xs ys)
     by_test true rest = refl
     by_test false rest = rest
 
--- no change passes the test
+-- there is no new text if no change passes the test
 new_none : (test : Change → Bool) (xs : List Change) → AllByRecursion (λ c. test c ≡ false) xs → new_text test xs ≡ None
 new_none test [] all = refl
 new_none test (x ∷ xs) all =
     ap (λ b. cond b (Some (change_text x)) (new_text test xs)) all.0 ∙ new_none test xs all.1
 
--- what holds of the changes of references
+-- the changes of references have a property if each change of the value of a field has it
 references_all : (P : Change → Type 0) (names : List ℕ → List ℕ → Option (List ℕ)) (fs : List FieldReading)
     → ((j : ℕ) (f : FieldReading) (new : List ℕ) → slice_get fs j ≡ Some f → P (Change.value f new))
     → AllByRecursion P (reference_changes names fs)
@@ -71,7 +71,7 @@ references_all P names (f ∷ fs) each =
     one None = tt
     one (Some new) = (each zero f new refl, tt)
 
--- what holds of the changes that give entries new keys
+-- the changes that give new keys have a property if each change of a key to its new key, and of the value of a field, has it
 renaming_all : (P : Change → Type 0) (names : List ℕ → List ℕ → Option (List ℕ)) (keys : ℕ → Option (List ℕ)) (index : ℕ)
     (es : List EntryReading)
     → ((k at : ℕ) (e : EntryReading) (new : List ℕ) → at ≡ index + k → slice_get es k ≡ Some e → keys at ≡ Some new
@@ -90,7 +90,7 @@ renaming_all P names keys index (e ∷ es) key value =
 -- ---- the change of one key, and of one value
 
 module _ (names : List ℕ → List ℕ → Option (List ℕ)) (keys : ℕ → Option (List ℕ)) where
-  -- the changes of an entry, and those after them
+  -- the new text is that of the change of the first key, or else of the first entry's references, or else of later entries
   entry_text : (test : Change → Bool) (index : ℕ) (x : EntryReading) (xs : List EntryReading) (a b c : Option (List ℕ))
       → new_text test (key_change (keys index) x) ≡ a → new_text test (reference_changes names x.fields) ≡ b
       → new_text test (renaming names keys (suc index) xs) ≡ c
@@ -101,17 +101,17 @@ module _ (names : List ℕ → List ℕ → Option (List ℕ)) (keys : ℕ → O
       new_append test (first ++ second) (renaming names keys (suc index) xs)
       ∙ ap₂ option_or (new_append test first second ∙ ap₂ option_or key references) rest
 
-  -- nothing follows
+  -- an optional text with no other text after it is itself
   or_none : (o : Option (List ℕ)) → option_or (option_or o None) None ≡ o
   or_none None = refl
   or_none (Some x) = refl
 
-  -- an entry's own key
+  -- the change of an entry's key has its new key as the new text
   own_key : (o : Option (List ℕ)) (e : EntryReading) → new_text (is_key_at e.key.start) (key_change o e) ≡ o
   own_key None e = refl
   own_key (Some new) e = ap (λ b. cond b (Some new) None) (eq-eqb e.key.start e.key.start refl)
 
-  -- the new text of a key is the new key of its entry
+  -- the new text of a key is the new key of its entry, if no other key begins at its byte offset
   key_known : (index at : ℕ) (es : List EntryReading) (k : ℕ) (e : EntryReading) → at ≡ index + k → slice_get es k ≡ Some e
       → ((i : ℕ) (z : EntryReading) → slice_get es i ≡ Some z → z.key.start ≡ e.key.start → i ≡ k)
       → new_text (is_key_at e.key.start) (renaming names keys index es) ≡ keys at
@@ -146,18 +146,18 @@ module _ (names : List ℕ → List ℕ → Option (List ℕ)) (keys : ℕ → O
       (key_known (suc index) at xs k e (omega (arith, is)) here
       (λ i z there equal. let same : suc i ≡ suc k = apart (suc i) z there equal in omega (arith, same)))
 
-  -- a field's own value
+  -- the change of a field's value has its new value as the new text
   own_value : (o : Option (List ℕ)) (f : FieldReading) → new_text (is_value_at f.value.start) (value_change f o) ≡ o
   own_value None f = refl
   own_value (Some new) f = ap (λ b. cond b (Some new) None) (eq-eqb f.value.start f.value.start refl)
 
-  -- another field's value
+  -- the change of a value isn't one of a value that begins at another byte offset
   other_value : (at : ℕ) (o : Option (List ℕ)) (f : FieldReading) → (f.value.start ≡ at → ⊥)
       → new_text (is_value_at at) (value_change f o) ≡ None
   other_value at None f other = refl
   other_value at (Some new) f other = ap (λ b. cond b (Some new) None) (ne_eqb f.value.start at other)
 
-  -- the new text of one of some fields
+  -- the new text of a field's value is its value with new names, if no other value of these fields begins at its byte offset
   references_known : (fs : List FieldReading) (j : ℕ) (f : FieldReading) → slice_get fs j ≡ Some f
       → ((i : ℕ) (h : FieldReading) → slice_get fs i ≡ Some h → h.value.start ≡ f.value.start → i ≡ j)
       → new_text (is_value_at f.value.start) (reference_changes names fs) ≡ renamed_value names f
@@ -186,7 +186,7 @@ module _ (names : List ℕ → List ℕ → Option (List ℕ)) (keys : ℕ → O
       (λ equal. let clash : zero ≡ suc j = apart zero g refl equal in omega (arith, clash)))
       (references_known gs j f there (λ i h found equal. let same : suc i ≡ suc j = apart (suc i) h found equal in omega (arith, same)))
 
-  -- the new text of a value is that of the reference
+  -- the new text of a value is the value with new names, if no other value of the file begins at its byte offset
   value_known : (index : ℕ) (es : List EntryReading) (k j : ℕ) (e : EntryReading) (f : FieldReading) → slice_get es k ≡ Some e
       → slice_get e.fields j ≡ Some f
       → ((i l : ℕ) (z : EntryReading) (h : FieldReading) → slice_get es i ≡ Some z → slice_get z.fields l ≡ Some h
@@ -228,12 +228,12 @@ module _ (names : List ℕ → List ℕ → Option (List ℕ)) (keys : ℕ → O
 
 -- ---- a changed document
 
--- a byte offset in a changed document, by the old one: those before a byte offset stay
+-- the byte offset `old` becomes `new` by changes from `at` on: one before `at` stays, and others stay at or after `at`
 record IsTracked (at old new : ℕ) : Type 0 where
   before : old < at → new ≡ old
   from : at ≤ old → at ≤ new
 
--- what stays before the byte offset is found there
+-- a byte offset before `at` in the changed document is the same in the old one
 tracked_back : (at old new : ℕ) → IsTracked at old new → new < at → old ≡ new
 tracked_back at old new t below =
     elim (cases_lt old at) [
@@ -241,7 +241,7 @@ tracked_back at old new t below =
       | inr from ↦ absurd (omega (arith, t.from from, below))
     ]
 
--- after an edit before the byte offset
+-- a byte offset is also tracked from `less` on after an edit between `less` and `at`
 tracked_moved : (edit : Edit) (less at old new : ℕ) → less ≤ edit.start → edit.start ≤ edit.end → edit.start ≤ at
     → IsTracked at old new → IsTracked less old (moved_place edit new)
 tracked_moved edit less at old new first ordered last t = record {
@@ -260,29 +260,29 @@ tracked_moved edit less at old new first ordered last t = record {
       ];
 }
 
--- the pieces of a value with this new text; without one, they are the old ones, except for positions
+-- the pieces `qs` are one literal with the new text; without a new text they are `ps`, except for positions
 abbrev pub IsNewValue : Option (List ℕ) → List Piece → List Piece → Type 0
 IsNewValue None ps qs = map (moved_piece (λ at. 0)) qs ≡ map (moved_piece (λ at. 0)) ps
 IsNewValue (Some new) ps qs = (q : Part) × (qs ≡ literal q ∷ []) × (q.text ≡ new)
 
--- moved pieces are the new value if the old ones were
+-- pieces that are the new value still are after their positions change
 value_moved : (move : ℕ → ℕ) (o : Option (List ℕ)) (ps qs : List Piece) → IsNewValue o ps qs → IsNewValue o ps (map (moved_piece move) qs)
 value_moved move None ps qs same = pieces_placeless move qs ∙ same
 value_moved move (Some new) ps qs value = (moved_part move value.0, ap (map (moved_piece move)) value.1, value.2)
 
--- a field after changes, made from a byte offset on
+-- the field `f` becomes `h` by changes from the byte offset `at` on
 record IsFieldChanged (changes : List Change) (at : ℕ) (f h : FieldReading) : Type 0 where
   place : IsTracked at f.value.start h.value.start
   name : h.name.text ≡ f.name.text
   value : IsNewValue (new_text (is_value_at f.value.start) changes) f.value.pieces h.value.pieces
 
--- an entry after changes, made from a byte offset on
+-- the entry `e` becomes `g` by changes from the byte offset `at` on
 record IsEntryChanged (changes : List Change) (at : ℕ) (e g : EntryReading) : Type 0 where
   place : IsTracked at e.key.start g.key.start
   key : g.key.text ≡ unwrap_or (new_text (is_key_at e.key.start) changes) e.key.text
   fields : AllZip (IsFieldChanged changes at) e.fields g.fields
 
--- an edit before the byte offset, that is a change of another value or none
+-- a field remains changed after an edit between `less` and `at`, if the new list of changes has the same new text for its value
 field_moved : (edit : Edit) (changes others : List Change) (less at : ℕ) (f h : FieldReading) → less ≤ edit.start → edit.start ≤ edit.end
     → edit.start ≤ at → new_text (is_value_at f.value.start) others ≡ new_text (is_value_at f.value.start) changes
     → IsFieldChanged changes at f h → IsFieldChanged others less f (moved_field (moved_place edit) h)
@@ -294,7 +294,7 @@ field_moved edit changes others less at f h first ordered last same c = record {
       (value_moved (moved_place edit) (new_text (is_value_at f.value.start) changes) f.value.pieces h.value.pieces c.value);
 }
 
--- the same for all fields of an entry
+-- all fields of an entry remain changed after such an edit
 fields_moved : (edit : Edit) (changes others : List Change) (less at : ℕ) (fs hs : List FieldReading) → less ≤ edit.start
     → edit.start ≤ edit.end → edit.start ≤ at
     → ((j : ℕ) (f : FieldReading) → slice_get fs j ≡ Some f
@@ -305,7 +305,7 @@ fields_moved edit changes others less at fs hs first ordered last same all =
     (zip_weaker (IsFieldChanged changes at) (λ f h. IsFieldChanged others less f (moved_field (moved_place edit) h)) fs hs
     (λ j f h here there c. field_moved edit changes others less at f h first ordered last (same j f here) c) all)
 
--- an edit before the byte offset, that is a change of another entry or none
+-- an entry remains changed after an edit between `less` and `at`, if the new list of changes has the same new key and values for it
 entry_moved : (edit : Edit) (changes others : List Change) (less at : ℕ) (e g : EntryReading) → less ≤ edit.start → edit.start ≤ edit.end
     → edit.start ≤ at → new_text (is_key_at e.key.start) others ≡ new_text (is_key_at e.key.start) changes
     → ((j : ℕ) (f : FieldReading) → slice_get e.fields j ≡ Some f
@@ -324,7 +324,7 @@ AreApart at (change ∷ changes) =
     (at ≤ change_start change) × (change_start change < change_end change) × AreApart (change_end change) changes
 
 module _ (d : Document) (read : IsDocument d) where
-  -- the entries after changes
+  -- each entry of a changed document is the old one at its index with the changes
   entries_changed : {after : Document} {changes : List Change} (at : ℕ) → AreApart at changes → Changed d changes after
       → AllZip (IsEntryChanged changes at) d.says.entries after.says.entries
   entries_changed at apart Changed.none =
@@ -420,7 +420,7 @@ module _ (d : Document) (read : IsDocument d) where
 
 -- ---- a document with new keys
 
--- changes in order of which none is empty
+-- changes in order are apart from the byte offset `at` on if none is empty
 apart_from : (text : List ℕ) (at : ℕ) (changes : List Change) → AreChangesInOrder text at changes
     → AllByRecursion (λ c. change_start c < change_end c) changes → AreApart at changes
 apart_from text at [] order some = tt
@@ -432,13 +432,13 @@ pub record HasNewNames (names : List ℕ → List ℕ → Option (List ℕ)) (f 
   pub name : h.name.text ≡ f.name.text
   pub value : IsNewValue (renamed_value names f) f.value.pieces h.value.pieces
 
--- the keys and fields of a document with new keys
+-- the entries `others` have the new keys, and the fields of `entries` with new names in references
 pub record AreRenamed (keys : ℕ → Option (List ℕ)) (entries others : List EntryReading) : Type 0 where
   pub key : (k : ℕ) (e g : EntryReading) → slice_get entries k ≡ Some e → slice_get others k ≡ Some g
       → g.key.text ≡ unwrap_or (keys k) e.key.text
   pub fields : AllZip (λ e g. AllZip (HasNewNames (new_reference entries keys)) e.fields g.fields) entries others
 
--- each key and each value of a document with new keys
+-- a document with new keys has the entries of the old one with these keys and with new names in references
 pub entries_renamed : (d after : Document) (keys : ℕ → Option (List ℕ)) → IsDocument d → KeysRenamed d keys after
     → AreRenamed keys d.says.entries after.says.entries
 entries_renamed d after keys read (KeysRenamed.renamed can changed) =

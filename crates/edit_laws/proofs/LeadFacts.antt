@@ -31,7 +31,7 @@ use Rattle.edit_laws.specs.Renamed.{AreEarlierRenamed, HasSameReferences, HaveSa
 
 -- ---- new keys
 
--- a text consists of one character or more, and none is white space or a comma
+-- a text consists of at least one character, and none is white space or a comma
 record IsDark (text : List ℕ) : Type 0 where
   first : ℕ
   rest : List ℕ
@@ -39,7 +39,7 @@ record IsDark (text : List ℕ) : Type 0 where
   dark : AreDark (first ∷ rest)
   lacks : LacksComma (first ∷ rest)
 
--- the characters of a run
+-- a run of characters that a new key may contain consists of characters without white space and commas
 run_characters : {u v : Place} → Run is_new_key u v
     → (cs : List ℕ) × Stands u (encode_utf8_all cs) v × AreDark cs × LacksComma cs
 run_characters {u} stop = ([], record { same = refl; here = refl; next = omega arith }, tt, tt)
@@ -64,7 +64,7 @@ drop_whole : (xs : List ℕ) → drop (length xs) xs ≡ []
 drop_whole [] = refl
 drop_whole (x ∷ xs) = drop_whole xs
 
--- a text that can be a new key
+-- a text that can be a new key has a character, no white space and no comma
 new_dark : (text : List ℕ) → CanBeNewKey text → IsDark text
 new_dark text can =
     let run = run_characters can.run in
@@ -77,7 +77,7 @@ new_dark text can =
 
 -- ---- fields `ids`
 
--- a field `ids` is no reference
+-- a field `ids`, in any case, isn't a reference field
 ids_plain : (name : List ℕ) → is_word name (codes "ids") ≡ true → is_reference_field name ≡ false
 ids_plain name is =
     let same : str_to_ascii_lowercase name ≡ str_to_ascii_lowercase (codes "ids") =
@@ -94,7 +94,7 @@ parts_placeless [] = refl
 parts_placeless (literal p ∷ ps) = ap (λ l. comma_parts p.text ++ l) (parts_placeless ps)
 parts_placeless (abbreviation p ∷ ps) = parts_placeless ps
 
--- a field with new names in its references has the names that it had as the field `ids`
+-- a field with new names in its references has the same names as a field `ids` before and after
 aliases_kept : (names : List ℕ → List ℕ → Option (List ℕ)) (f h : FieldReading) → HasNewNames names f h → aliases_in h ≡ aliases_in f
 aliases_kept names f h n =
     by_name (is_word f.name.text (codes "ids")) refl
@@ -123,7 +123,7 @@ fields_kept names (f ∷ fs) (h ∷ hs) all =
 
 -- ---- one value
 
--- one literal, except for its position
+-- pieces that equal one literal except for its position are one literal with its text
 one_literal : (p : Part) (qs : List Piece) → map (moved_piece (λ at. 0)) qs ≡ map (moved_piece (λ at. 0)) (literal p ∷ [])
     → (q : Part) × (qs ≡ literal q ∷ []) × (q.text ≡ p.text)
 one_literal p [] same = absurd (cc)
@@ -136,7 +136,7 @@ one_literal p (literal q ∷ []) same = (q, refl, ap text_of same)
 one_literal p (literal q ∷ r ∷ rest) same = absurd (cc)
 one_literal p (abbreviation q ∷ rest) same = absurd (cc)
 
--- no element passes a test
+-- if `list_any` finds no element, each element fails the test
 none_pass : (test : List ℕ → Bool) (xs : List (List ℕ)) → list_any test xs ≡ false → AllByRecursion (λ x. test x ≡ false) xs
 none_pass test [] none = tt
 none_pass test (x ∷ xs) none = by_test (test x) (list_any test xs) refl refl (none_pass test xs) none
@@ -161,7 +161,7 @@ module _ (es gs : List EntryReading) (keys : ℕ → Option (List ℕ)) (can : C
           let e = meant_there es field name i meant in
           (can.may i e.0 new e.1 gets).allowed
 
-  -- no comma is in an element with its new name
+  -- an element with its new name contains no comma
   element_lacks : (element : List ℕ) → IsElement element → LacksComma (renamed_element (new_reference es keys field) element)
   element_lacks element is = by_name (new_reference es keys field (trim element)) refl
     where
@@ -206,7 +206,7 @@ module _ (es gs : List EntryReading) (keys : ℕ → Option (List ℕ)) (can : C
           absurd (both_ways (is_renamed (new_reference es keys field) element) same
           (ap is_some (ap (option_and_then keys) meant ∙ gets)))
 
-  -- the elements of a value that is one literal
+  -- if a value is one literal, the new value is one too, and each of its elements means the same entry
   value_leads : (p : Part) (qs : List Piece) → IsSpelled p.text
       → IsNewValue (renamed_where_listed (new_reference es keys field) p.text) (literal p ∷ []) qs
       → (q : Part) × (qs ≡ literal q ∷ []) × AllZip (MeansSameEntry es gs field) (elements_of p.text) (elements_of q.text)
@@ -239,11 +239,11 @@ module _ (es gs : List EntryReading) (keys : ℕ → Option (List ℕ)) (can : C
 
 -- ---- a document with new keys
 
--- a document with new keys could get them
+-- if a document got new keys, its entries can get them
 can_of : {d after : Document} {keys : ℕ → Option (List ℕ)} → KeysRenamed d keys after → CanGetKeys d.says.entries keys
 can_of (KeysRenamed.renamed can changed) = can
 
--- after entries get new keys, each reference leads to the entry that it led to
+-- after entries get new keys, each reference leads to the entry that it led to, if earlier entries with the same key get new keys too
 pub references_lead : (d after : Document) (keys : ℕ → Option (List ℕ)) → IsDocument d → KeysRenamed d keys after
     → AreEarlierRenamed d.says.entries keys → HaveSameReferences d after
 references_lead d after keys read changed earlier =
@@ -269,7 +269,7 @@ references_lead d after keys read changed earlier =
           n.value));
     }) fields) r.fields
 
--- the first entry with a key gets another one: no earlier entry has the key
+-- if only the first entry with a key gets a new one, each earlier entry with its key gets a new one, since there is none
 only_first : (d : Document) (old new : List ℕ) (k : ℕ) (e : EntryReading) → HasEntry d old k e
     → AreEarlierRenamed d.says.entries (only k new)
 only_first d old new k e has i j x other below here there same gets = by_index (j == k) refl gets

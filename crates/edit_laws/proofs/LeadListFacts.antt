@@ -7,7 +7,7 @@ use Rattle.edit_entries.specs.Documents.{first_position, next_index}
 
 -- ---- two lists side by side
 
--- an element of the first list is related to the one at its index
+-- each element of the first list is related to the element of the second at its index
 pub zip_get : {A B : Type 0} (R : A → B → Type 0) (xs : List A) (ys : List B) (k : ℕ) (x : A) → AllZip R xs ys → slice_get xs k ≡ Some x
     → (y : B) × (slice_get ys k ≡ Some y) × R x y
 zip_get R [] [] k x all here = absurd (cc)
@@ -16,7 +16,7 @@ zip_get R (a ∷ xs) [] k x all here = absurd all
 zip_get R (a ∷ xs) (b ∷ ys) zero x all here = (b, refl, subst (λ z. R z b) (some_same here) all.0)
 zip_get R (a ∷ xs) (b ∷ ys) (suc k) x all here = zip_get R xs ys k x all.1 here
 
--- an element of the second list is related to the one at its index
+-- each element of the second list is related to the element of the first at its index
 pub zip_back : {A B : Type 0} (R : A → B → Type 0) (xs : List A) (ys : List B) (k : ℕ) (y : B) → AllZip R xs ys → slice_get ys k ≡ Some y
     → (x : A) × (slice_get xs k ≡ Some x) × R x y
 zip_back R [] [] k y all here = absurd (cc)
@@ -25,7 +25,7 @@ zip_back R (a ∷ xs) [] k y all here = absurd all
 zip_back R (a ∷ xs) (b ∷ ys) zero y all here = (a, refl, subst (R a) (some_same here) all.0)
 zip_back R (a ∷ xs) (b ∷ ys) (suc k) y all here = zip_back R xs ys k y all.1 here
 
--- a relation that follows for the elements at each index
+-- lists are related by `S` if they are by `R`, and `R` implies `S` at each index
 pub zip_weaker : {A B : Type 0} (R S : A → B → Type 0) (xs : List A) (ys : List B)
     → ((k : ℕ) (x : A) (y : B) → slice_get xs k ≡ Some x → slice_get ys k ≡ Some y → R x y → S x y) → AllZip R xs ys → AllZip S xs ys
 zip_weaker R S [] [] follows all = tt
@@ -34,7 +34,7 @@ zip_weaker R S (a ∷ xs) [] follows all = absurd all
 zip_weaker R S (a ∷ xs) (b ∷ ys) follows all =
     (follows zero a b refl refl all.0, zip_weaker R S xs ys (λ k. follows (suc k)) all.1)
 
--- a relation to the images of elements
+-- lists are related if each element of the first is related to the image of its element of the second
 pub zip_into : {A B C : Type 0} (S : A → C → Type 0) (f : B → C) (xs : List A) (ys : List B) → AllZip (λ x y. S x (f y)) xs ys
     → AllZip S xs (map f ys)
 zip_into S f [] [] all = tt
@@ -48,18 +48,18 @@ pub zip_own : {A B : Type 0} (P : A → Type 0) (R : A → B → Type 0) (f : A 
 zip_own P R f [] own all = tt
 zip_own P R f (x ∷ xs) own all = (own x all.0, zip_own P R f xs own all.1)
 
--- each element is related to itself if it has a property
+-- each element is related to itself if a property implies this and all elements have it
 pub zip_where : {A : Type 0} (P : A → Type 0) (R : A → A → Type 0) (xs : List A) → ((x : A) → P x → R x x)
     → AllByRecursion P xs → AllZip R xs xs
 zip_where P R [] own all = tt
 zip_where P R (x ∷ xs) own all = (own x all.0, zip_where P R xs own all.1)
 
--- each element is related to itself
+-- a list is related to itself if each value is
 pub zip_self : {A : Type 0} (R : A → A → Type 0) (xs : List A) → ((x : A) → R x x) → AllZip R xs xs
 zip_self R [] itself = tt
 zip_self R (x ∷ xs) itself = (itself x, zip_self R xs itself)
 
--- the images of elements, with another element in the place of one
+-- lists are related if the elements of the second are mapped and the one at `k` is replaced, and each step keeps the relation
 pub zip_change : {A B : Type 0} (R S : A → B → Type 0) (f : B → B) (xs : List A) (ys : List B) (k : ℕ) (y z : B) → AllZip R xs ys
     → slice_get ys k ≡ Some y
     → ((i : ℕ) (x : A) (w : B) → (i ≡ k → ⊥) → slice_get xs i ≡ Some x → R x w → S x (f w))
@@ -79,14 +79,14 @@ zip_change R S f (a ∷ xs) (b ∷ ys) (suc k) y z all here others becomes = (
 
 -- ---- elements by their indices
 
--- the image of the element at an index
+-- the element at an index of a mapped list is the image of the element there
 pub index_of_get : {A B : Type 0} (f : A → B) (xs : List A) (k : ℕ) (x : A) (none : B) → slice_get xs k ≡ Some x
     → slice_index_or (map f xs) k none ≡ f x
 index_of_get f [] k x none here = absurd (cc)
 index_of_get f (y ∷ ys) zero x none here = ap f (some_same here)
 index_of_get f (y ∷ ys) (suc k) x none here = index_of_get f ys k x none here
 
--- an element before the end of a first part
+-- a first part of a list has the same elements at its indices
 pub get_take : {A : Type 0} (xs : List A) (n k : ℕ) → k < n → slice_get (take n xs) k ≡ slice_get xs k
 get_take [] zero k below = absurd (omega arith)
 get_take [] (suc n) k below = refl
@@ -94,7 +94,7 @@ get_take (x ∷ xs) zero k below = absurd (omega arith)
 get_take (x ∷ xs) (suc n) zero below = refl
 get_take (x ∷ xs) (suc n) (suc k) below = get_take xs n k (omega arith)
 
--- an element after a first part
+-- an element of the second part of a list has its index there plus the length of the first part
 pub get_past : {A : Type 0} (xs ys : List A) (k n : ℕ) → n ≡ length xs + k → slice_get (xs ++ ys) n ≡ slice_get ys k
 get_past [] ys k n is = let same : n ≡ k = omega arith in ap (slice_get ys) same
 get_past (x ∷ xs) ys k zero is = absurd (omega arith)
@@ -109,14 +109,14 @@ pub record IsFirst {A : Type 0} (test : A → Bool) (xs : List A) (k : ℕ) : Ty
   pub passes : test element ≡ true
   pub before : (i : ℕ) (x : A) → i < k → slice_get xs i ≡ Some x → test x ≡ false
 
--- the elements before the next index
+-- if the first element fails the test, and so do the first `k` of the rest, the first `suc k` elements fail it
 before_more : {A : Type 0} (test : A → Bool) (x : A) (xs : List A) (k : ℕ) → test x ≡ false
     → ((i : ℕ) (y : A) → i < k → slice_get xs i ≡ Some y → test y ≡ false) → (i : ℕ) (y : A) → i < suc k → slice_get (x ∷ xs) i ≡ Some y
     → test y ≡ false
 before_more test x xs k fails before zero y below there = ap test (sym (some_same there)) ∙ fails
 before_more test x xs k fails before (suc i) y below there = before i y (omega arith) there
 
--- what the first position says
+-- an index that `first_position` returns is that of the first element that passes
 pub first_facts : {A : Type 0} (test : A → Bool) (xs : List A) (k : ℕ) → first_position test xs ≡ Some k → IsFirst test xs k
 first_facts test [] k found = absurd (cc)
 first_facts {A} test (x ∷ xs) k found = by_test (test x) (first_position test xs) refl (first_facts test xs) found
@@ -132,7 +132,7 @@ first_facts {A} test (x ∷ xs) k found = by_test (test x) (first_position test 
         subst (IsFirst test (x ∷ xs)) (some_same same)
         (record { element = f.element; here = f.here; passes = f.passes; before = before_more test x xs i is f.before })
 
--- where no element passes
+-- if `first_position` returns `None`, no element passes
 pub none_facts : {A : Type 0} (test : A → Bool) (xs : List A) → first_position test xs ≡ None → (k : ℕ) (x : A) → slice_get xs k ≡ Some x
     → test x ≡ false
 none_facts test [] none k x here = absurd (cc)
@@ -146,7 +146,7 @@ none_facts {A} test (y ∷ ys) none k x here = by_test (test y) (first_position 
     by_test false None is others same zero there = ap test (sym (some_same there)) ∙ is
     by_test false None is others same (suc i) there = others refl i x there
 
--- the first position, from what it says
+-- `first_position` returns the index of the first element that passes
 pub first_is : {A : Type 0} (test : A → Bool) (xs : List A) (k : ℕ) → IsFirst test xs k → first_position test xs ≡ Some k
 first_is test [] k f = absurd (let here = f.here in cc)
 first_is test (x ∷ xs) zero f =
@@ -158,7 +158,7 @@ first_is test (x ∷ xs) (suc k) f =
     (record { element = f.element; here = f.here; passes = f.passes; before = λ i y below. f.before (suc i) y (omega (arith, below)) }) in
     ap (λ b. cond b (Some 0) (next_index (first_position test xs))) (f.before zero x (omega arith) refl) ∙ ap next_index rest
 
--- no first position, where no element passes
+-- if no element passes, `first_position` returns `None`
 pub none_is : {A : Type 0} (test : A → Bool) (xs : List A) → ((k : ℕ) (x : A) → slice_get xs k ≡ Some x → test x ≡ false)
     → first_position test xs ≡ None
 none_is test [] fails = refl
@@ -166,7 +166,7 @@ none_is test (x ∷ xs) fails =
     ap (λ b. cond b (Some 0) (next_index (first_position test xs))) (fails zero x refl)
     ∙ ap next_index (none_is test xs (λ k. fails (suc k)))
 
--- a test with the same results on two lists
+-- tests with the same results at each index of two lists have the same first position
 pub first_same : {A B : Type 0} (test : A → Bool) (other : B → Bool) (xs : List A) (ys : List B)
     → AllZip (λ x y. other y ≡ test x) xs ys → first_position other ys ≡ first_position test xs
 first_same test other [] [] all = refl

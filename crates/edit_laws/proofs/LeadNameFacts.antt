@@ -19,35 +19,35 @@ use Rattle.edit_laws.specs.Renamed.{AreEarlierRenamed}
 
 -- ---- names in any ASCII case
 
--- names that are one in any ASCII case are equal in lower case
+-- names that are equal in any ASCII case are equal in lowercase
 word_same : (a b : List ℕ) → is_word a b ≡ true → str_to_ascii_lowercase a ≡ str_to_ascii_lowercase b
 word_same a b is = (bytes_eq-Decides (str_to_ascii_lowercase a) (str_to_ascii_lowercase b)).0 is
 
--- names that are equal in lower case are one in any ASCII case
+-- names that are equal in lowercase are equal in any ASCII case
 same_word : (a b : List ℕ) → str_to_ascii_lowercase a ≡ str_to_ascii_lowercase b → is_word a b ≡ true
 same_word a b same = (bytes_eq-Decides (str_to_ascii_lowercase a) (str_to_ascii_lowercase b)).1 same
 
--- a test that fails, since it would imply another one
+-- a test fails if it implies another test that fails
 fails_too : (b other : Bool) → other ≡ false → (b ≡ true → other ≡ true) → b ≡ false
 fails_too true other fails implies = absurd (both_ways other fails (implies refl))
 fails_too false other fails implies = refl
 
--- names that aren't one in any ASCII case aren't equal
+-- names that aren't equal in any ASCII case aren't equal
 words_differ : (a b : List ℕ) → is_word a b ≡ false → bytes_eq a b ≡ false
 words_differ a b other =
     fails_too (bytes_eq a b) (is_word a b) other (λ is. same_word a b (ap str_to_ascii_lowercase ((bytes_eq-Decides a b).0 is)))
 
 -- ---- names that are taken
 
--- an element of the first list passes
+-- if an element of the first list passes, one of both lists passes
 any_left : (p : List ℕ → Bool) (xs ys : List (List ℕ)) → list_any p xs ≡ true → list_any p (xs ++ ys) ≡ true
 any_left p xs ys is = list_any-append p xs ys ∙ or_left (list_any p xs) (list_any p ys) is
 
--- an element of the second list passes
+-- if an element of the second list passes, one of both lists passes
 any_right : (p : List ℕ → Bool) (xs ys : List (List ℕ)) → list_any p ys ≡ true → list_any p (xs ++ ys) ≡ true
 any_right p xs ys is = list_any-append p xs ys ∙ or_right (list_any p xs) (list_any p ys) is
 
--- the key of an entry without a new key stays
+-- the key of an entry without a new key is, in any ASCII case, among the names that stay
 stays : (keys : ℕ → Option (List ℕ)) (index at : ℕ) (es : List EntryReading) (j : ℕ) (x : EntryReading) (name : List ℕ) → at ≡ index + j
     → slice_get es j ≡ Some x → keys at ≡ None → is_word x.key.text name ≡ true → has_word (staying_names keys index es) name ≡ true
 stays keys index at [] j x name is here none word = absurd (cc)
@@ -61,7 +61,7 @@ stays keys index at (y ∷ ys) (suc j) x name is here none word =
     any_right (λ own. is_word own name) (kept_names (is_some (keys index)) y) (staying_names keys (suc index) ys)
     (stays keys (suc index) at ys j x name (omega (arith, is)) here none word)
 
--- a new key is among the new keys
+-- the new key of an entry is, in any ASCII case, among the new keys
 is_new : (keys : ℕ → Option (List ℕ)) (index at : ℕ) (es : List EntryReading) (j : ℕ) (x : EntryReading) (other name : List ℕ)
     → at ≡ index + j → slice_get es j ≡ Some x → keys at ≡ Some other → is_word other name ≡ true
     → has_word (new_keys keys index es) name ≡ true
@@ -94,7 +94,7 @@ module _ (es : List EntryReading) (keys : ℕ → Option (List ℕ)) (free : IsN
                 (stays keys 0 j es j x new (omega arith) there none is);
           }))
 
-  -- nor the new key of an earlier entry
+  -- a new key isn't, in any ASCII case, the new key of an earlier entry
   apart_from_new : (i k : ℕ) (x e : EntryReading) (other new : List ℕ) → i < k → slice_get es i ≡ Some x → slice_get es k ≡ Some e
       → keys i ≡ Some other → keys k ≡ Some new → is_word other new ≡ false
   apart_from_new i k x e other new below there here gets' gets = by_word (is_word other new) refl
@@ -115,7 +115,7 @@ module _ (es : List EntryReading) (keys : ℕ → Option (List ℕ)) (free : IsN
 
 -- ---- an index, unless another one is found
 
--- the index is found, and an index of another test has the same key
+-- if `unless_other` returns `i`, the first index is `i`, and the second one, if there is one, has the same key
 unless_facts : (keys : List (List ℕ)) (a b : Option ℕ) (i : ℕ) → unless_other keys a b ≡ Some i
     → (a ≡ Some i) × ((j : ℕ) → b ≡ Some j → bytes_eq (slice_index_or keys i []) (slice_index_or keys j []) ≡ true)
 unless_facts keys None b i is = absurd (cc)
@@ -133,7 +133,7 @@ unless_facts keys (Some k) (Some l) i is =
           ∙ test,
     )
 
--- the index is found if an index of another test has the same key
+-- `unless_other` returns the first index if the second one, if there is one, has the same key
 unless_is : (keys : List (List ℕ)) (b : Option ℕ) (i : ℕ)
     → ((j : ℕ) → b ≡ Some j → bytes_eq (slice_index_or keys i []) (slice_index_or keys j []) ≡ true) → unless_other keys (Some i) b ≡ Some i
 unless_is keys None i same = refl
@@ -141,7 +141,7 @@ unless_is keys (Some j) i same = ap (λ b. cond b (Some i) None) (same j refl)
 
 -- ---- the entry that a name means
 
--- it is one of the entries
+-- an index that a name means is that of an entry
 pub meant_there : (es : List EntryReading) (field name : List ℕ) (i : ℕ) → meant_index es field name ≡ Some i
     → (e : EntryReading) × (slice_get es i ≡ Some e)
 meant_there es field name i meant =
@@ -160,20 +160,20 @@ meant_there es field name i meant =
 module _ (es gs : List EntryReading) (keys : ℕ → Option (List ℕ)) (free : IsNewKeyTaken es keys → ⊥) (earlier : AreEarlierRenamed es keys)
     (own : (k : ℕ) (e g : EntryReading) → slice_get es k ≡ Some e → slice_get gs k ≡ Some g → g.key.text ≡ unwrap_or (keys k) e.key.text)
     (aliases : AllZip (λ e g. aliases_of g.fields ≡ aliases_of e.fields) es gs) where
-  -- the new entry at the index of an old one
+  -- each old entry has a new entry at its index
   new_entry : (k : ℕ) (e : EntryReading) → slice_get es k ≡ Some e → (g : EntryReading) × (slice_get gs k ≡ Some g)
   new_entry k e here = let found = zip_get (λ x y. aliases_of y.fields ≡ aliases_of x.fields) es gs k e aliases here in (found.0, found.1)
 
-  -- the old entry at the index of a new one
+  -- each new entry has an old entry at its index
   old_entry : (k : ℕ) (g : EntryReading) → slice_get gs k ≡ Some g → (e : EntryReading) × (slice_get es k ≡ Some e)
   old_entry k g here = let found = zip_back (λ x y. aliases_of y.fields ≡ aliases_of x.fields) es gs k g aliases here in (found.0, found.1)
 
-  -- the key of a new entry, by the new key of the old one
+  -- the key of a new entry is the new key of the old one, or the old key if there is no new one
   key_is : (k : ℕ) (e g : EntryReading) (o : Option (List ℕ)) → slice_get es k ≡ Some e → slice_get gs k ≡ Some g → keys k ≡ o
       → g.key.text ≡ unwrap_or o e.key.text
   key_is k e g o here there is = own k e g here there ∙ ap (λ p. unwrap_or p e.key.text) is
 
-  -- an entry with a new key is the first with this key
+  -- an entry with a new key is the first new entry with this key
   renamed_first : (i : ℕ) (e : EntryReading) (new : List ℕ) → slice_get es i ≡ Some e → keys i ≡ Some new
       → first_position (is_keyed new) gs ≡ Some i
   renamed_first i e new here gets =
@@ -195,16 +195,16 @@ module _ (es gs : List EntryReading) (keys : ℕ → Option (List ℕ)) (free : 
           ap (λ t. bytes_eq t new) (key_is j x h (Some key) old there gets')
           ∙ words_differ key new (apart_from_new es keys free j i x e key new below old here gets' gets)
 
-  -- an entry keeps its key, which is a name in any ASCII case
+  -- `name` is, in any ASCII case, the key of an entry that keeps its key
   module _ (i : ℕ) (e : EntryReading) (name : List ℕ) (here : slice_get es i ≡ Some e) (none : keys i ≡ None)
       (word : is_word e.key.text name ≡ true) where
-    -- a new key isn't a name of an entry that keeps its key
+    -- no new key is this name, in any ASCII case
     no_new_word : (j : ℕ) (x : EntryReading) (key : List ℕ) → slice_get es j ≡ Some x → keys j ≡ Some key → is_word key name ≡ false
     no_new_word j x key old gets =
         fails_too (is_word key name) (is_word e.key.text key) (apart_from_kept es keys free j i x e key old gets here none)
         (λ is. same_word e.key.text key (word_same e.key.text name word ∙ sym (word_same key name is)))
 
-    -- so the key of another entry is this name only if it was before
+    -- an entry whose old key isn't this name has another new key too
     keyed_before : (j : ℕ) (x h : EntryReading) → slice_get es j ≡ Some x → slice_get gs j ≡ Some h → is_keyed name x ≡ false
         → is_keyed name h ≡ false
     keyed_before j x h old there fails = by_key (keys j) refl
@@ -214,7 +214,7 @@ module _ (es gs : List EntryReading) (keys : ℕ → Option (List ℕ)) (free : 
         by_key (Some key) is =
             ap (λ t. bytes_eq t name) (key_is j x h (Some key) old there is) ∙ words_differ key name (no_new_word j x key old is)
 
-    -- the same in any ASCII case
+    -- an entry whose old key isn't this name in any ASCII case has another new key too
     word_before : (j : ℕ) (x h : EntryReading) → slice_get es j ≡ Some x → slice_get gs j ≡ Some h → has_key_word name x ≡ false
         → has_key_word name h ≡ false
     word_before j x h old there fails = by_key (keys j) refl
@@ -241,14 +241,14 @@ module _ (es gs : List EntryReading) (keys : ℕ → Option (List ℕ)) (free : 
             keyed_before i f.element name f.here none word j x.0 h x.1 there (f.before j x.0 below x.1);
       })
 
-  -- an entry with a name in its fields `ids` has it in the new ones
+  -- the first entry with a name in `ids` has the same index before and after
   alias_same : (name : List ℕ) → first_position (has_alias name) gs ≡ first_position (has_alias name) es
   alias_same name =
       first_same (has_alias name) (has_alias name) es gs
       (zip_weaker (λ e g. aliases_of g.fields ≡ aliases_of e.fields) (λ e g. has_alias name g ≡ has_alias name e) es gs
       (λ k e g here there same. ap (λ l. list_any (λ one. bytes_eq one name) l) same) aliases)
 
-  -- a name in any ASCII case still means an entry that keeps its key
+  -- a name that means, in any ASCII case, an entry that keeps its key still means it, if no old key is exactly the name
   kept_word : (i : ℕ) (name : List ℕ) → keys i ≡ None → first_position (is_keyed name) es ≡ None
       → index_in_any_case es name ≡ Some i
       → first_found (first_position (is_keyed name) gs) (index_in_any_case gs name) ≡ Some i
@@ -276,7 +276,7 @@ module _ (es gs : List EntryReading) (keys : ℕ → Option (List ℕ)) (free : 
       ∙ ap₂ (unless_other (map (λ e. e.key.text) gs)) first (alias_same name)
       ∙ unless_is (map (λ e. e.key.text) gs) (first_position (has_alias name) es) i (λ j there. same_key f g.0 g.1 found.1 j there)
     where
-      -- the entry with the alias has the same key, and keeps it
+      -- if the old entry with the alias has the key of the entry at `i`, the new one has too
       same_key : (f : IsFirst (has_key_word name) es i) (g : EntryReading) → slice_get gs i ≡ Some g
           → ((j : ℕ) → first_position (has_alias name) es ≡ Some j
           → bytes_eq (slice_index_or (map (λ e. e.key.text) es) i []) (slice_index_or (map (λ e. e.key.text) es) j []) ≡ true)
@@ -311,7 +311,7 @@ module _ (es gs : List EntryReading) (keys : ℕ → Option (List ℕ)) (free : 
                     ]
               ]
 
-  -- a name means the entry with the same index after entries get new keys: the new key of its entry if there is one, or else the same name
+  -- if a name means an entry, its new key means the new entry with the same index; if there is no new key, the same name does
   pub meant_alike : (field name : List ℕ) (i : ℕ) → meant_index es field name ≡ Some i
       → meant_index gs field (unwrap_or (keys i) name) ≡ Some i
   meant_alike field name i meant =

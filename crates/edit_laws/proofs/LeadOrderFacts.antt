@@ -23,7 +23,7 @@ record IsBetween (start end : ℕ) (f : FieldReading) : Type 0 where
   some : f.value.start < f.value.end
   ends : f.value.end ≤ end
 
--- the value of a field is between its start and its end
+-- the value of a field is between the start and the end of the field
 field_between : {u v : Place} {f : FieldReading} → Field longest u f v → IsBetween u.at v.at f
 field_between field =
     let opens = elements_opens field.elements in
@@ -36,7 +36,7 @@ field_between field =
       ends = omega (arith, field.ends);
     }
 
--- the value of a field of some
+-- the value of each of some fields is between their start and their end
 value_between : {u v : Place} {fs : List FieldReading} (j : ℕ) (f : FieldReading) → Fields longest u fs v → slice_get fs j ≡ Some f
     → IsBetween u.at v.at f
 value_between j f fields there =
@@ -48,7 +48,7 @@ value_between j f fields there =
       ends = omega (arith, b.ends, (ahead_fields_after g.rest).at);
     }
 
--- the values of two fields, in order
+-- the value of a field begins before that of a later field
 values_in_order : {u v : Place} {fs : List FieldReading} (j l : ℕ) (f h : FieldReading) → Fields longest u fs v → j < l
     → slice_get fs j ≡ Some f → slice_get fs l ≡ Some h → f.value.start < h.value.start
 values_in_order {u} {v} {fs} j l f h fields below there there' =
@@ -67,7 +67,7 @@ values_in_order {u} {v} {fs} j l f h fields below there there' =
         let b = value_between i h rest found in
         omega (arith, here.some, here.ends, (ahead_gap gap).at, (ahead_char comma).at, (ahead_gap gap').at, b.begins)
 
--- where an entry's key begins, and the values of its fields
+-- an entry's key and the values of its fields begin at or after the byte offset `start` and before the byte offset `end`
 record IsWithin (start end : ℕ) (e : EntryReading) : Type 0 where
   key_from : start ≤ e.key.start
   key_below : e.key.start < end
@@ -94,7 +94,7 @@ block_within {u} {v} {e} b =
 
 -- ---- in two entries
 
--- an entry ends before another one begins
+-- an entry's key and values begin before a byte offset, and those of another entry at or after it
 record IsBefore (e other : EntryReading) : Type 0 where
   at : ℕ
   from : ℕ
@@ -102,7 +102,7 @@ record IsBefore (e other : EntryReading) : Type 0 where
   first : IsWithin from at e
   second : IsWithin at to other
 
--- an entry ends before a later one begins
+-- the key and values of an entry begin before those of a later entry
 entries_in_order : {u : Place} {says : FileReading} (i k : ℕ) (e other : EntryReading) → File longest u says → i < k
     → slice_get says.entries i ≡ Some e → slice_get says.entries k ≡ Some other → IsBefore e other
 entries_in_order {u} {says} i k e other file below here here' =
@@ -126,15 +126,15 @@ entries_in_order {u} {says} i k e other file below here here' =
       };
     }
 
--- ---- byte offsets of their own
+-- ---- distinct byte offsets
 
 module _ (d : Document) (read : IsDocument d) where
-  -- an entry is the one at its index
+  -- entries at equal indices are equal
   same_entry : (i k : ℕ) (e other : EntryReading) → i ≡ k → slice_get d.says.entries i ≡ Some e → slice_get d.says.entries k ≡ Some other
       → e ≡ other
   same_entry i k e other same here here' = some_same (sym here ∙ ap (slice_get d.says.entries) same ∙ here')
 
-  -- entries whose keys begin at one byte offset are one entry
+  -- entries whose keys begin at the same byte offset have the same index
   pub keys_apart : (i k : ℕ) (e other : EntryReading) → slice_get d.says.entries i ≡ Some e → slice_get d.says.entries k ≡ Some other
       → e.key.start ≡ other.key.start → i ≡ k
   keys_apart i k e other here here' same =
@@ -151,7 +151,7 @@ module _ (d : Document) (read : IsDocument d) where
             ]
       ]
 
-  -- fields whose values begin at one byte offset are fields of one entry
+  -- fields whose values begin at the same byte offset are in entries with the same index
   pub values_apart : (i k j l : ℕ) (e other : EntryReading) (f h : FieldReading) → slice_get d.says.entries i ≡ Some e
       → slice_get d.says.entries k ≡ Some other → slice_get e.fields j ≡ Some f → slice_get other.fields l ≡ Some h
       → f.value.start ≡ h.value.start → i ≡ k
@@ -169,7 +169,7 @@ module _ (d : Document) (read : IsDocument d) where
             ]
       ]
 
-  -- fields of one entry whose values begin at one byte offset are one field
+  -- fields of one entry whose values begin at the same byte offset have the same index
   pub fields_apart : (k j l : ℕ) (e : EntryReading) (f h : FieldReading) → slice_get d.says.entries k ≡ Some e
       → slice_get e.fields j ≡ Some f → slice_get e.fields l ≡ Some h → f.value.start ≡ h.value.start → j ≡ l
   fields_apart k j l e f h here there there' same =

@@ -1,4 +1,4 @@
--- The characters of bytes, and an element of a comma list whose name is replaced.
+-- The characters of encoded characters, and an element of a comma list whose name is replaced.
 use Rattle.std.proofs.Common.{◌≡◌, ℕ, zero, suc, ◌+◌, ◌-◌, ◌*◌, ◌/◌, ◌%◌, ◌<◌, ◌≤◌, Bool, true, false, cond, ◌&&◌, ltb, List, [], ◌∷◌, ◌++◌, length, take, drop, refl, sym, ap, ap₂, ◌∙◌, arith, append_assoc, length-append, take_at, drop_at}
 use lib.Utf8.{encode}
 use Rattle.std.specs.Prelude.{encode_utf8, encode_utf8_all, ◌==◌}
@@ -13,22 +13,22 @@ use Rattle.edit_entries.specs.References.{between_white}
 
 -- ---- the characters of bytes
 
--- a character is decoded when no more bytes of it follow
+-- a character is complete when no more bytes of it follow
 whole : (c : ℕ) (bs : List ℕ) → chars_after zero c bs ≡ c ∷ chars bs
 unfolding chars
 whole c [] = refl
 whole c (b ∷ bs) = refl
 
--- the first byte of a character says how many bytes follow, and has its first bits
+-- after a first byte, decoding continues with the number of bytes that it announces and with its bits
 led : (a n v : ℕ) (bs : List ℕ) → continuation_len a ≡ n → lead_bits a ≡ v → chars (a ∷ bs) ≡ chars_after n v bs
 unfolding chars
 led a n v bs size bits = ap₂ (λ m w. chars_after m w bs) size bits
 
--- a character of one byte
+-- the encoding of a character below 128 is decoded
 one : (c : ℕ) (rest : List ℕ) → c < 128 → chars (c ∷ rest) ≡ c ∷ chars rest
 one c rest below = led c zero c rest (grind (arith, nat_tests)) (grind (arith, nat_tests)) ∙ whole c rest
 
--- a character of two bytes
+-- two bytes that encode a character are decoded
 two : (c : ℕ) (rest : List ℕ) → 128 ≤ c → c < 2048 → chars ((192 + c / 64) ∷ (128 + c % 64) ∷ rest) ≡ c ∷ chars rest
 two c rest low high =
     let is : (192 + c / 64 - 192) * 64 + (128 + c % 64 - 128) ≡ c = omega arith in
@@ -36,7 +36,7 @@ two c rest low high =
     led (192 + c / 64) (suc zero) (192 + c / 64 - 192) ((128 + c % 64) ∷ rest) (grind (arith, nat_tests)) (grind (arith, nat_tests))
     ∙ whole _ rest ∙ ap (λ x. x ∷ chars rest) is
 
--- a character of three bytes
+-- three bytes that encode a character are decoded
 three : (c : ℕ) (rest : List ℕ) → 2048 ≤ c → c < 65536
     → chars ((224 + c / 4096) ∷ (128 + (c / 64) % 64) ∷ (128 + c % 64) ∷ rest) ≡ c ∷ chars rest
 three c rest low high =
@@ -46,7 +46,7 @@ three c rest low high =
     (grind (arith, nat_tests)) (grind (arith, nat_tests))
     ∙ whole _ rest ∙ ap (λ x. x ∷ chars rest) is
 
--- a character of four bytes
+-- four bytes that encode a character are decoded
 four : (c : ℕ) (rest : List ℕ) → 65536 ≤ c
     → chars ((240 + c / 262144) ∷ (128 + (c / 4096) % 64) ∷ (128 + (c / 64) % 64) ∷ (128 + c % 64) ∷ rest) ≡ c ∷ chars rest
 four c rest low =
@@ -57,7 +57,7 @@ four c rest low =
     (grind (arith, nat_tests)) (grind (arith, nat_tests))
     ∙ whole _ rest ∙ ap (λ x. x ∷ chars rest) is
 
--- the first character of the bytes of a character and others, also if it is no scalar value
+-- the first character of an encoded character and more bytes is this character, also if it isn't a scalar value
 first_char : (c : ℕ) (rest : List ℕ) → chars (encode_utf8 c ++ rest) ≡ c ∷ chars rest
 unfolding encode
 first_char c rest = by_size (ltb c 128) (ltb c 2048) (ltb c 65536) refl refl refl
@@ -73,7 +73,7 @@ first_char c rest = by_size (ltb c 128) (ltb c 2048) (ltb c 65536) refl refl ref
     by_size false false true a b d = three c rest (ltb-false c 2048 b) (ltb-true c 65536 d)
     by_size false false false a b d = four c rest (ltb-false c 65536 d)
 
--- the characters of the bytes of characters
+-- the characters of encoded characters are these
 pub chars_spelled : (cs : List ℕ) → chars (encode_utf8_all cs) ≡ cs
 chars_spelled [] = chars-nil
 chars_spelled (c ∷ cs) = first_char c (encode_utf8_all cs) ∙ ap (λ l. c ∷ l) (chars_spelled cs)
@@ -84,25 +84,25 @@ chars_spelled (c ∷ cs) = first_char c (encode_utf8_all cs) ∙ ap (λ l. c ∷
 abbrev pub LacksComma : List ℕ → Type 0
 LacksComma bytes = AllByRecursion (λ b. (b == 44) ≡ false) bytes
 
--- no comma is in two texts one after the other
+-- two texts without commas, one after the other, have no comma
 pub lacks_append : (xs ys : List ℕ) → LacksComma xs → LacksComma ys → LacksComma (xs ++ ys)
 lacks_append xs ys = all_append (λ b. (b == 44) ≡ false) xs ys
 
--- no comma is in a first part of a text
+-- a first part of a text without commas has no comma
 lacks_take : (n : ℕ) (xs : List ℕ) → LacksComma xs → LacksComma (take n xs)
 lacks_take zero [] all = tt
 lacks_take zero (x ∷ xs) all = tt
 lacks_take (suc n) [] all = tt
 lacks_take (suc n) (x ∷ xs) all = (all.0, lacks_take n xs all.1)
 
--- no comma is in a last part of a text
+-- a last part of a text without commas has no comma
 lacks_drop : (n : ℕ) (xs : List ℕ) → LacksComma xs → LacksComma (drop n xs)
 lacks_drop zero [] all = all
 lacks_drop zero (x ∷ xs) all = all
 lacks_drop (suc n) [] all = tt
 lacks_drop (suc n) (x ∷ xs) all = lacks_drop n xs all.1
 
--- no comma is in an element with another name, if none is in the name and none was in the element
+-- an element without commas has none with another name without commas
 pub between_lacks : (new element : List ℕ) → LacksComma new → LacksComma element → LacksComma (between_white new element)
 between_lacks new element name all =
     let first : List ℕ = take (length element - length (trim_start element)) element in
@@ -111,7 +111,7 @@ between_lacks new element name all =
     (lacks_append first new (lacks_take (length element - length (trim_start element)) element all) name)
     (lacks_drop (length (trim_end element)) element all)
 
--- no byte of a character is a comma, if the character is none
+-- the bytes of a character that isn't a comma contain no comma
 pub char_lacks : (c : ℕ) → (c == 44) ≡ false → LacksComma (encode_utf8 c)
 unfolding encode
 char_lacks c other = by_size (ltb c 128) (ltb c 2048) (ltb c 65536)
@@ -133,7 +133,7 @@ char_lacks c other = by_size (ltb c 128) (ltb c 2048) (ltb c 65536)
     by_size false false true = (lead 224 (c / 4096) (omega arith), (next (c / 64), (next c, tt)))
     by_size false false false = (lead 240 (c / 262144) (omega arith), (next (c / 4096), (next (c / 64), (next c, tt))))
 
--- no byte of characters is a comma, if no character is
+-- the bytes of characters without commas contain no comma
 pub chars_lack : (cs : List ℕ) → LacksComma cs → LacksComma (encode_utf8_all cs)
 chars_lack [] all = tt
 chars_lack (c ∷ cs) all = lacks_append (encode_utf8 c) (encode_utf8_all cs) (char_lacks c all.0) (chars_lack cs all.1)
@@ -148,7 +148,7 @@ AreWhite cs = AllByRecursion (λ c. is_whitespace c ≡ true) cs
 abbrev pub AreDark : List ℕ → Type 0
 AreDark cs = AllByRecursion (λ c. is_whitespace c ≡ false) cs
 
--- the white space at the start of characters
+-- characters are white space, and the characters from the first that isn't white space on
 leading : (cs : List ℕ) → (ws : List ℕ) × (cs ≡ ws ++ skip_leading_whitespace cs) × AreWhite ws
 leading [] = ([], refl, tt)
 leading (c ∷ cs) = let rest = leading cs in by_case (is_whitespace c) refl rest.0 rest.1 rest.2
@@ -158,7 +158,7 @@ leading (c ∷ cs) = let rest = leading cs in by_case (is_whitespace c) refl res
     by_case true white ws cut all = (c ∷ ws, ap (λ l. c ∷ l) cut, (white, all))
     by_case false dark ws cut all = ([], refl, tt)
 
--- the white space at the end of characters
+-- characters are the characters up to the last that isn't white space, and white space
 trailing : (cs : List ℕ) → (ws : List ℕ) × (cs ≡ drop_trailing_whitespace cs ++ ws) × AreWhite ws
 trailing [] = ([], refl, tt)
 trailing (c ∷ cs) = let rest = trailing cs in by_case (is_whitespace c) (drop_trailing_whitespace cs) rest.0 refl rest.1 rest.2
@@ -177,23 +177,23 @@ skip_white [] cs all = refl
 skip_white (w ∷ ws) cs all =
     ap (λ b. cond b (skip_leading_whitespace (ws ++ cs)) (w ∷ (ws ++ cs))) all.0 ∙ skip_white ws cs all.1
 
--- a first character that isn't white space stays
+-- a first character that isn't white space isn't skipped
 skip_dark : (c : ℕ) (cs : List ℕ) → is_whitespace c ≡ false → skip_leading_whitespace (c ∷ cs) ≡ c ∷ cs
 skip_dark c cs dark = ap (λ b. cond b (skip_leading_whitespace cs) (c ∷ cs)) dark
 
--- nothing is left of white space
+-- if characters are white space, nothing is left when trailing white space is dropped
 drop_white : (ws : List ℕ) → AreWhite ws → drop_trailing_whitespace ws ≡ []
 drop_white [] all = refl
 drop_white (w ∷ ws) all =
     ap₂ (λ b l. cond (b && (length l == 0)) [] (w ∷ l)) all.0 (drop_white ws all.1)
 
--- white space after other characters is dropped
+-- white space after characters that aren't white space is dropped
 drop_after : (cs ws : List ℕ) → AreDark cs → AreWhite ws → drop_trailing_whitespace (cs ++ ws) ≡ cs
 drop_after [] ws dark white = drop_white ws white
 drop_after (c ∷ cs) ws dark white =
     ap₂ (λ b l. cond (b && (length l == 0)) [] (c ∷ l)) dark.0 (drop_after cs ws dark.1 white)
 
--- the bytes of an element with another name
+-- an element with another name is this name between the white space of the old element
 between_spelled : (cs ns : List ℕ)
     → between_white (encode_utf8_all ns) (encode_utf8_all cs)
     ≡ encode_utf8_all ((leading cs).0 ++ (ns ++ (trailing cs).0))
@@ -220,7 +220,7 @@ between_spelled cs ns =
     ap₂ (λ x y. x ++ name ++ y) first last ∙ append_assoc front name back
     ∙ sym (encodes-append l.0 (ns ++ t.0) ∙ ap (λ x. front ++ x) (encodes-append ns t.0))
 
--- an element with another name, without the white space around it, is the name
+-- an element with another name is, without the white space around it, this name, if the name has a character and no white space
 pub trim_between : (c : ℕ) (cs ns : List ℕ) → AreDark (c ∷ ns)
     → trim (between_white (encode_utf8_all (c ∷ ns)) (encode_utf8_all cs)) ≡ encode_utf8_all (c ∷ ns)
 unfolding trim_start trim_end

@@ -33,7 +33,7 @@ none_of false false true is = cc
 none_of false false false is = (refl, refl, refl)
 
 module _ (own : EntryTexts) (name : List ℕ) (atoms : List Atom) (is : own.fields name ≡ Some atoms) where
-  -- an entry that has this field has it if it is the one with this name
+  -- an entry that has this field has each field of the same name
   has_named : (other : List ℕ) → bytes_eq name other ≡ true → has own other ≡ true
   has_named other same =
       ap is_some (ap own.fields (sym ((bytes_eq-Decides name other).0 same)) ∙ is)
@@ -56,7 +56,7 @@ module _ (own : EntryTexts) (name : List ℕ) (atoms : List Atom) (is : own.fiel
       by_case true same = absurd (both_ways _ lacks (has_named other same))
       by_case false apart = refl
 
-  -- an own field is kept if it isn't one of the replaced ones
+  -- an entry keeps a field of its own after inheriting if the field isn't one of `lost_names`
   pub own_kept : (references : List EntryTexts) → is_one_of lost_names name ≡ false
       → (with_inherited_fields own references).fields name ≡ Some atoms
   own_kept references apart = by_looks (looks_for_date own) refl
@@ -127,7 +127,7 @@ module _ {says : FileReading} {bibliography : Bibliography} (loaded : IsLoaded s
   key_at (e ∷ xs) zero x here = let same : e ≡ x = cc in ap (λ (y : Entry). y.key) same
   key_at (e ∷ xs) (suc k) x here = key_at xs k x here
 
-  -- two entries at an index, before and after inheriting, have the same key
+  -- the entries at an index before and after inheriting have the same key
   pub same_key : (k : ℕ) (before later : Entry) → slice_get own k ≡ Some before → slice_get bibliography.entries k ≡ Some later
       → later.key ≡ before.key
   same_key k before later here there =
@@ -141,7 +141,7 @@ module _ {says : FileReading} {bibliography : Bibliography} (loaded : IsLoaded s
   solved_at k within =
       loaded.inherits.each k (subst (λ n. k < n) (sym (length-map own _)) within)
 
-  -- a field that an entry has itself is in the bibliography, if it isn't one of the replaced ones
+  -- an entry of the bibliography has each field that it has before inheriting, if the field isn't one of `lost_names`
   pub field_at : (k : ℕ) (before : Entry) (name : List ℕ) (atoms : List Atom) → slice_get own k ≡ Some before
       → (texts_of_entry before).fields name ≡ Some atoms → is_one_of lost_names name ≡ false
       → HasFieldAt bibliography k before.key name atoms

@@ -27,7 +27,7 @@ use Rattle.edit_laws.proofs.LiftFacts.{at_texts}
 use Rattle.edit_laws.proofs.SolutionFacts.{Contains-first, Contains-later, related}
 use Rattle.edit_laws.proofs.TextFacts.{claims_are, claims_by, graph_texts}
 
--- each index of the new file has the key and the texts of an old index
+-- each index of the new file has the key and the texts of the old index that `move` returns
 pub record AreMoved (own others : List Entry) (move : ℕ → ℕ) : Type 0 where
   pub within : (i : ℕ) → i < length others → move i < length own
   pub keys : (i : ℕ) → i < length others → get_or (map (λ (e : Entry). e.key) own) (move i) [] ≡ get_or (map (λ
@@ -84,7 +84,7 @@ module _ {own others : List Entry} {move : ℕ → ℕ} (are : AreMoved own othe
   module _ (gone : ℕ) (back : (at : ℕ) → at < length own → (at ≡ gone → ⊥) → (i : ℕ) × (i < length others) × (move i ≡ at))
       (last : (name : List ℕ) (at i j : ℕ) → move i ≡ at → ClaimsAt others i name → IsLastClaim own name at → IsLastClaim others name j
       → move j ≡ at) where
-    -- a name that points to an entry that isn't gone points to it at its new index
+    -- a name that doesn't point to the removed entry points to entries that correspond, or to none in both files
     pub names_moved : (name : List ℕ) → (by_name.get (names_of own) name ≡ Some gone → ⊥)
         → by_name.get (names_of own) name ≡ option_map move (by_name.get (names_of others) name)
     names_moved name not_gone =
@@ -169,7 +169,7 @@ module _ {own others : List Entry} {move : ℕ → ℕ} (are : AreMoved own othe
   in_range : (es : List Entry) → IsInRange (graph_of es)
   in_range es = graph_in_range (names_of es) es (names_below es)
 
-  -- the references of an entry are those of the old entry, at their new indices
+  -- the references of the old entry are those of the new one, at their old indices
   pub references_moved : (i : ℕ) → i < length others → refs_of (graph_of own) (move i) ≡ map move (refs_of (graph_of others) i)
   references_moved i below =
       let texts : EntryTexts = at_index (texts_of_entries own) (move i) in
@@ -201,7 +201,7 @@ module _ {own others : List Entry} {move : ℕ → ℕ} (are : AreMoved own othe
       subst (λ l. Contains l (move b)) (sym (references_moved a (below_edge a b edge)))
       (Contains-map move (refs_of (graph_of others) a) b edge)
 
-  -- a chain of references is one of the old file
+  -- a chain of references in the new file is one in the old file
   leads_there : {a b : ℕ} → Leads (graph_of others) a b → Leads (graph_of own) (move a) (move b)
   leads_there (one_edge {a = a} {b = b} edge) = one_edge (edge_there a b edge)
   leads_there (more_edges {a = a} {b = b} edge leads) = more_edges (edge_there a b edge) (leads_there leads)
@@ -232,7 +232,7 @@ module _ {own others : List Entry} {move : ℕ → ℕ} (are : AreMoved own othe
         subst (λ n. b < n) (rows others)
         (below_from_edge (graph_of others) a b (in_range others) (subst (λ n. a < n) (sym (rows others)) below) edge)
 
-    -- an entry has a bad date if the old entry has one
+    -- an entry has a bad date exactly if the old entry has one
     pub bad_moved : (i : ℕ) → i < length others
         → has_bad_date (texts_of_entries others) (graph_of others) news i ≡ has_bad_date (texts_of_entries own)
         (graph_of own) values (move i)
@@ -253,7 +253,7 @@ module _ {own others : List Entry} {move : ℕ → ℕ} (are : AreMoved own othe
     (names : (name : List ℕ) → (by_name.get (names_of own) name ≡ Some gone → ⊥)
     → by_name.get (names_of own) name ≡ option_map move (by_name.get (names_of others) name))
     (unreferenced : (at : ℕ) → Contains (refs_of (graph_of own) at) gone → ⊥) where
-  -- no entry of the new file has a bad date if none of the old file has one
+  -- if the old file has no cycle and no bad date, the new file has no bad date
   pub no_bad_date : HasNoCycle (graph_of own)
       → ((values : List EntryTexts) → Inherits (texts_of_entries own) (graph_of own) values
       → AreDatesRead (texts_of_entries own) (graph_of own) values)

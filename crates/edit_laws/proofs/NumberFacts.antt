@@ -12,12 +12,12 @@ use Rattle.bib_syntax.specs.Reading.{EntryReading, FieldReading, FileReading, Pa
 use Rattle.bib_syntax.specs.Reading.Piece.{abbreviation, literal}
 use Rattle.edit_entries.specs.Setting.{is_bare_number}
 
--- a piece isn't an abbreviation that a number names
+-- a piece isn't an abbreviation whose name is a number
 abbrev pub IsNoNumber : Piece → Type 0
 IsNoNumber (literal p) = ⊤
 IsNoNumber (abbreviation p) = is_bare_number p.text ≡ false
 
--- no piece of a field is such an abbreviation
+-- no piece of a field is an abbreviation whose name is a number
 abbrev pub HasNoNumber : FieldReading → Type 0
 HasNoNumber f = AllByRecursion IsNoNumber f.value.pieces
 
@@ -66,7 +66,7 @@ fields_number (Fields.none white) = tt
 fields_number (Fields.last f gap) = (elements_number f.elements, tt)
 fields_number (Fields.more f gap comma space rest) = (elements_number f.elements, fields_number rest)
 
--- no field of an entry has such a piece
+-- no piece of an entry is an abbreviation whose name is a number
 abbrev pub EntryHasNoNumber : EntryReading → Type 0
 EntryHasNoNumber e = AllByRecursion HasNoNumber e.fields
 

@@ -48,7 +48,7 @@ AllZip-remove R (x ∷ xs) [] k all = absurd all
 AllZip-remove R (x ∷ xs) (y ∷ ys) zero all = all.1
 AllZip-remove R (x ∷ xs) (y ∷ ys) (suc k) all = (all.0, AllZip-remove R xs ys k all.1)
 
--- the old index of an index after the removal of one
+-- the old index of an index after the entry at `k` is removed
 abbrev pub skip : ℕ → ℕ → ℕ
 skip k i = cond (nat_lt i k) i (suc i)
 
@@ -134,7 +134,7 @@ removed_read {d} (EntryRemoved.removed {k = k} {at = at} {e = e} entry white) =
 
 -- ---- texts
 
--- fewer names are claimed
+-- each name that is claimed in the first list is claimed in the second
 abbrev Sub : List (List ℕ) → List (List ℕ) → Type 0
 Sub fewer more = (name : List ℕ) → is_claimed more name ≡ false → is_claimed fewer name ≡ false
 
@@ -318,7 +318,7 @@ module _ {says tells : FileReading} {one other : Bibliography} (first : IsLoaded
 
 -- ---- errors
 
--- an accepted file without an entry that none refers to has no error
+-- an accepted file without an entry to which no entry refers has no error
 pub removed_accepted : (said tells : FileReading) {key : List ℕ} {error : ParseError} (r : IsRemovedRead said tells key)
     (accepted : IsAccepted said) → IsUnreferenced accepted.own key → IsFirstErrorOf tells error → ⊥
 removed_accepted said tells r accepted unreferenced (IsFirstErrorOf.entry error) =

@@ -23,7 +23,7 @@ pub record IsReordered (fs gs : List FieldReading) : Type 0 where
   pub found : (name : List ℕ) → field_in gs name ≡ field_in fs name
   pub readable : (definitions : Definitions) → AllCanBeRead definitions fs → AllCanBeRead definitions gs
 
--- a field with a name has a second name exactly if this is the first in lowercase
+-- a field with the lowercase name `name` has a second name exactly if `name` is the second one in lowercase
 pub named_alike : (n name : List ℕ) (f : FieldReading) → bytes_eq name (name_of f) ≡ true
     → has_name n f ≡ bytes_eq name (str_to_ascii_lowercase n)
 named_alike n name f is = ap (λ t. bytes_eq t (str_to_ascii_lowercase n)) (sym ((bytes_eq-Decides name (name_of f)).0 is))
@@ -34,8 +34,7 @@ field_append fs gs name =
     ap (find (λ f. bytes_eq name (name_of f))) (reverse-append fs gs)
     ∙ find-append (λ f. bytes_eq name (name_of f)) (reverse gs) (reverse fs)
 
--- the last field of a name, searched first among the fields without another name and then among those with it, is that of the whole
--- list
+-- the last field with the lowercase name `name` is searched first among the fields without the name `n` and then among those with it
 field_parted : (n name : List ℕ) (fs : List FieldReading)
     → option_or (field_in (filter (λ f. not (has_name n f)) fs) name) (field_in (filter (has_name n) fs) name)
     ≡ field_in fs name
@@ -66,7 +65,7 @@ field_parted n name fs = by_name (bytes_eq name (str_to_ascii_lowercase n)) refl
         ∙ ap (find test) (reverse_filter other fs)
         ∙ find_passing test other (λ f tests. ap not (named_alike n name f tests ∙ is)) (reverse fs)
 
--- the last field of a name is the same in any order of names
+-- the last field with each name is the same after fields are put into the order of any names
 pub order_found : (names : List (List ℕ)) (fs : List FieldReading) (name : List ℕ) → field_in (in_order names fs) name ≡ field_in fs name
 order_found [] fs name = refl
 order_found (n ∷ ns) fs name =

@@ -77,7 +77,7 @@ pub record IsReplaced (said tells : FileReading) (k : ℕ) (e changed : EntryRea
   pub kind : changed.kind.text ≡ e.kind.text
   pub alike : placeless tells ≡ placeless (record said { entries = slice_set said.entries k changed })
 
--- the texts of an entry with another field are those of the raw entry with this field
+-- if raw entries differ only in one field, the texts of the second are those of the first with the text of this field
 pub with_field_texts : (definitions : Definitions) (e changed : EntryReading) (texts : EntryTexts) (name : List ℕ)
     (text : Option (List Atom)) → AreTextsOf definitions e texts → changed.kind.text ≡ e.kind.text
     → ((other : List ℕ) → bytes_eq other name ≡ false → field_in changed.fields other ≡ field_in e.fields other)
@@ -101,7 +101,7 @@ content_of : {definitions : Definitions} {is_verbatim : Bool} {p : Part} {atoms 
 content_of {is_verbatim = v} {p = p} (evaluates.text {first = first} x evaluates.none) =
     subst (λ l. IsContent v (chars p.text) l) (sym (append-nil first)) x
 
--- a text that a field has, and that a text is the contents of
+-- an entry has a field whose contents are those of a text
 pub record HasContent (texts : EntryTexts) (name text : List ℕ) : Type 0 where
   pub atoms : List Atom
   pub has : texts.fields name ≡ Some atoms
@@ -159,7 +159,7 @@ module _ {said tells : FileReading} {k : ℕ} {e changed : EntryReading} (is : I
       ∙ bare_keys (slice_set said.entries k changed)
       ∙ map_set_same (λ (x : EntryReading). x.key.text) said.entries k e changed is.here is.key
 
-  -- the replaced entry, among the own entries of the new reading
+  -- the new reading has an own entry at `k`, and its raw entry is alike to the changed one
   pub replaced_at : (others : List Entry) → AreOwn tells others
       → (g : EntryReading) × (entry : Entry) × (slice_get others k ≡ Some entry) × IsEntry new_definitions g entry
       × AreAlikeEntries new_definitions old_definitions g changed
@@ -170,7 +170,7 @@ module _ {said tells : FileReading} {k : ℕ} {e changed : EntryReading} (is : I
       let entry = own_at k found.0 second found.1 in
       (found.0, entry.0, entry.1, entry.2, found.2)
 
-  -- the replaced entry has the contents of a field that is one literal
+  -- the replaced entry has the contents of a field whose last raw field is one literal
   pub content_at : (others : List Entry) (second : AreOwn tells others) (name text : List ℕ) (f : FieldReading)
       → field_in changed.fields name ≡ Some f → IsText f.value.pieces text
       → HasContent (texts_of_entry (replaced_at others second).1) name text
@@ -184,7 +184,7 @@ module _ {said tells : FileReading} {k : ℕ} {e changed : EntryReading} (is : I
       (sym ((bytes_eq-Decides name (name_of f)).0 (found_passes (λ g. bytes_eq name (name_of g)) (reverse changed.fields) f here))) says
       ((texts_of_entry_are at.1 at.3).fields name)
 
-  -- the replaced entry lacks a field that no raw field has
+  -- the replaced entry lacks a field that no raw field of the changed entry has
   pub field_absent : (others : List Entry) (second : AreOwn tells others) (name : List ℕ) → field_in changed.fields name ≡ None
       → (texts_of_entry (replaced_at others second).1).fields name ≡ None
   field_absent others second name none =
@@ -215,6 +215,6 @@ module _ {said tells : FileReading} {k : ℕ} {e changed : EntryReading} (is : I
             (each_texts (texts_are second)));
       }
 
-  -- the key of the replaced entry, among own entries
+  -- the replaced own entry has the key of the raw entry
   pub replaced_key : (others : List Entry) (second : AreOwn tells others) → (replaced_at others second).1.key ≡ e.key.text
   replaced_key others second = let at = replaced_at others second in at.3.key ∙ at.4.key ∙ is.key

@@ -43,7 +43,7 @@ use Rattle.edit_laws.proofs.LiftFacts.{as_long, field_at, same_key}
 use Rattle.edit_laws.proofs.TextFacts.{HasText, own_at}
 use Rattle.edit_laws.specs.OneField.{AreSet, HasFieldContents, lost_names, text_of_value}
 
--- the entry with a key is replaced, and a field of it is set to a text
+-- an entry with a key is replaced, its field of the name is set to a text, and it can be parsed if the text can
 pub record IsSetRead (d after : Document) (key name text : List ℕ) : Type 0 where
   pub k : ℕ
   pub e : EntryReading
@@ -86,7 +86,7 @@ new_readable name text value definitions fs atoms new contents read = (text_read
 module _ {d after : Document} {key name text : List ℕ} {value : SetValue} (new : IsText (new_value value).pieces text)
     (already : (k : ℕ) (e : EntryReading) → slice_get d.says.entries k ≡ Some e
     → AllByRecursion (HasTextAlready name value text) e.fields) where
-  -- a field that was set is a field of the replaced entry
+  -- after a field is set, the entry with the key is replaced and has this field with the text
   pub set_read : FieldSet d key name value after → IsSetRead d after key name text
   set_read (FieldSet.changed {k = k} {e = e} entry there fit is) = record {
     k = k;
@@ -144,7 +144,7 @@ lower_number : (text : List ℕ) → is_bare_number text ≡ is_bare_number (str
 lower_number [] = refl
 lower_number (b ∷ bs) = lower_digits (b ∷ bs)
 
--- a name that is a number in any ASCII case is a number
+-- a name that is equal to a number in any ASCII case is a number
 word_number : (name text : List ℕ) → is_bare_number text ≡ true → is_word name text ≡ true → is_bare_number name ≡ true
 word_number name text number same =
     lower_number name ∙ ap is_bare_number ((bytes_eq-Decides (str_to_ascii_lowercase name) (str_to_ascii_lowercase text)).0 same)
@@ -195,7 +195,7 @@ new_is_text (SetValue.bare_text t) text is = by_number (is_bare_number t) refl i
         (record { part = text_at 0 t; are = refl; is = some_same is })
     by_number false number is = cc
 
--- a field of a file that was set to a text, or to a number, has this text
+-- after a field is set to a text or a number, the entry with the key is replaced and has this field with the text
 pub value_set : {d after : Document} {key name text : List ℕ} {value : SetValue} → IsDocument d → text_of_value value ≡ Some text
     → FieldSet d key name value after → IsSetRead d after key name text
 value_set {d} {name = name} {text = text} {value = value} reads is set =
@@ -220,7 +220,7 @@ module _ {d after : Document} {key name text : List ℕ} (r : IsSetRead d after 
       → HasContent (texts_of_entry (replaced_at r.replaced others second).1) lower text
   set_content others second = content_at r.replaced others second lower text r.set.field r.set.here r.set.says
 
-  -- the field of the changed raw entry has the contents of the text
+  -- the last raw field with the name has the contents of the text
   pub set_has : (atoms : List Atom) → IsContent (is_verbatim_field lower) (chars text) atoms
       → HasText (definition_in d.says.abbreviations) (field_in r.changed.fields lower) (Some atoms)
   set_has atoms contents =
@@ -263,7 +263,7 @@ module _ {d after : Document} {key name text : List ℕ} (r : IsSetRead d after 
 -- ---- the bibliography
 
 module _ (says : FileReading) (own : List Entry) (are : AreOwn says own) where
-  -- entries with one key are one
+  -- no later own entry has the key of an earlier one
   keys_apart : (i j : ℕ) (x y : Entry) → slice_get own i ≡ Some x → slice_get own j ≡ Some y → x.key ≡ y.key → i < j → ⊥
   keys_apart i j x y here there same less =
       keys_fresh are i j y less there

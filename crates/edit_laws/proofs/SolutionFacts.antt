@@ -23,7 +23,7 @@ module _ (graph other : Graph) (in_range : IsInRange other) (move : ℕ → ℕ)
     (refs : (a : ℕ) → a < length other → P a → refs_of graph (move a) ≡ map move (refs_of other a))
     (closed : (a b : ℕ) → P a → Contains (refs_of other a) b → P b)
     (steps : (a : ℕ) → a < length other → P a → (xs ys : List V) → AllZip R xs ys → R (rule (move a) xs) (rule' a ys)) where
-  -- the values of corresponding indices are related if no walk of `k` references begins at them
+  -- the values of corresponding indices are related if no walk of `k` references begins at the index in `other`
   related_by : (k : ℕ) (values others : List V) (a : ℕ) → Solves nothing rule graph values → Solves nothing rule' other others
       → a < length other → P a → (HasWalk other k a → ⊥) → R (get_or values (move a) nothing) (get_or others a nothing)
   related_by zero values others a s t below p none = absurd (none tt)

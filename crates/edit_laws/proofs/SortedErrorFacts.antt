@@ -138,7 +138,7 @@ module _ (said tells : FileReading) (r : IsPermutedRead said tells) (own : List 
   inside : (i : ℕ) → i < length r.sorted → before_swaps swaps i < length raw
   inside i below = before_within swaps i (length raw) r.permutation.below (subst (λ n. i < n) sorted_long below)
 
-  -- the entry at an old index claims these names
+  -- if the key and texts of the raw entry at an index claim a name, the own entry there claims it
   claims_there : (n : ℕ) (name : List ℕ) → n < length raw
       → is_claimed (claims_by (get_or raw n no_raw).key.text (get_or all_texts n no_entry)) name ≡ true → ClaimsAt own n name
   claims_there n name below claimed =
@@ -187,7 +187,7 @@ module _ (said tells : FileReading) (r : IsPermutedRead said tells) (own : List 
           let equal : i ≡ j = sym (after_before swaps i) ∙ ap (after_swaps swaps) same ∙ after_before swaps j in
           absurd (omega (arith, less, equal))
 
-  -- the texts of the sorted entries
+  -- the sorted texts are those of the sorted raw entries, and no key is claimed before
   pub sorted_are : AreTexts (definition_in said.abbreviations) [] r.sorted sorted_texts
   sorted_are =
       texts_by r.sorted sorted_texts []

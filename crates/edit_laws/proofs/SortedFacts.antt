@@ -135,7 +135,7 @@ module _ (said tells : FileReading) (r : IsPermutedRead said tells) (own others 
       definitions_alike said.abbreviations tells.abbreviations
       (abbreviations_alike said.abbreviations tells.abbreviations r.abbreviations)
 
-  -- the entry at each new index is that at its old index
+  -- the new own entry at an index has the key and texts of the old one at its old index
   pub entry_moved : (i : ℕ) → i < length others → (x : Entry) × (y : Entry) × (slice_get own (move i) ≡ Some x)
       × (slice_get others i ≡ Some y) × (y.key ≡ x.key) × (texts_of_entry x ≡ texts_of_entry y)
   entry_moved i below =
@@ -247,7 +247,7 @@ module _ {says tells : FileReading} {one other : Bibliography} (first : IsLoaded
   long : length other.entries ≡ length one.entries
   long = as_long second ∙ same_count says tells r own news are second.accepted.entries ∙ sym one_long
 
-  -- the entries at corresponding indices have the same key and texts
+  -- the entries of both bibliographies at corresponding indices have the same key and texts
   described_same : (i : ℕ) (x y : Entry) → slice_get one.entries (old_index i) ≡ Some x → slice_get other.entries i ≡ Some y
       → described x ≡ described y
   described_same i x y here there =
@@ -308,7 +308,7 @@ module _ {says tells : FileReading} {one other : Bibliography} (first : IsLoaded
 
 -- ---- two readings of one file
 
--- entries of one file claim the same names
+-- if no two own entries claim one name, this also holds of any other own entries of the same file
 pub distinct_same : (says : FileReading) {own one : List Entry} → AreOwn says own → AreOwn says one → AreClaimsDistinct own
     → AreClaimsDistinct one
 distinct_same says {own} {one} first second distinct name i j at also =

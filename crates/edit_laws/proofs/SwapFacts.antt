@@ -5,16 +5,16 @@ use Rattle.std.specs.List.Sorted.{SwapsInRange, apply_swaps}
 use Rattle.std.proofs.lemmas.Bool.Decides.{eqb_tells}
 use Rattle.std.proofs.lemmas.List.Edits.{length-swap, swap_is}
 
--- the index of an element before two elements are swapped
+-- the old index of the element that is at the index `n` after two elements are swapped
 abbrev pub swapped_index : ℕ → ℕ → ℕ → ℕ
 swapped_index i j n = cond (eqb n j) i (cond (eqb n i) j n)
 
--- the index of an element before swaps
+-- the old index of the element that is at the index `n` after swaps
 abbrev pub before_swaps : List (ℕ × ℕ) → ℕ → ℕ
 before_swaps [] n = n
 before_swaps (p ∷ ps) n = before_swaps ps (swapped_index p.0 p.1 n)
 
--- the index of an element after swaps
+-- the index after swaps of the element that was at the index `n`
 abbrev pub after_swaps : List (ℕ × ℕ) → ℕ → ℕ
 after_swaps [] n = n
 after_swaps (p ∷ ps) n = swapped_index p.0 p.1 (after_swaps ps n)
@@ -57,7 +57,7 @@ module _ {X : Type 0} where
       get_or-set_other once j n (get_or xs i d) d e ∙ ap (λ m. get_or once m d) f ∙ get_or-set_same xs i (get_or xs j d) d a)
       (λ e f. get_or-set_other once j n (get_or xs i d) d e ∙ get_or-set_other xs i n (get_or xs j d) d f)
 
-  -- an element after swaps is the one at its index before them
+  -- the element at an index after swaps is the one that was at its old index
   pub get_swaps : (xs : List X) (ps : List (ℕ × ℕ)) (n : ℕ) (d : X) → SwapsInRange (length xs) ps
       → get_or (apply_swaps xs ps) n d ≡ get_or xs (before_swaps ps n) d
   get_swaps xs [] n d below = refl

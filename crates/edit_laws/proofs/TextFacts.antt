@@ -27,7 +27,7 @@ use Rattle.edit_laws.proofs.ReadAlikeFacts.{AreAlikeEntries}
 
 -- ---- the texts of a raw entry
 
--- a text is that of a raw field, or both are missing
+-- a text is the value of a raw field, or both are missing
 abbrev pub HasText : Definitions → Option FieldReading → Option (List Atom) → Type 0
 HasText definitions None text = text ≡ None
 HasText definitions (Some f) text =
@@ -42,7 +42,7 @@ pub record AreTextsOf (definitions : Definitions) (said : EntryReading) (texts :
 abbrev pub claims_by : List ℕ → EntryTexts → List (List ℕ)
 claims_by key texts = key ∷ option_map_or comma_texts (texts.fields (codes "ids")) []
 
--- texts are those of raw entries in order, after the claims of earlier ones: no key was claimed before, and each field can be parsed
+-- texts are those of raw entries in order, after the names `earlier` are claimed: no key was claimed before, and each field can be parsed
 pub data AreTexts (definitions : Definitions) : List (List ℕ) → List EntryReading → List EntryTexts → Type 0 where
   none : {earlier : List (List ℕ)} → AreTexts definitions earlier [] []
   next : {earlier : List (List ℕ)} {said : EntryReading} {rest : List EntryReading} {texts : EntryTexts} {more : List EntryTexts}
@@ -144,7 +144,7 @@ module _ {A B : Type 0} (R : A → B → Type 0) where
   zip_back_at (a ∷ xs) (b ∷ ys) zero y all here = let same : b ≡ y = cc in (a, refl, subst (λ z. R a z) same all.0)
   zip_back_at (a ∷ xs) (b ∷ ys) (suc k) y all here = zip_back_at xs ys k y all.1 here
 
--- the own entry of the raw entry at an index
+-- the raw entry at an index has an own entry at this index
 pub own_at : {definitions : Definitions} {earlier : List (List ℕ)} {said : List EntryReading} {own : List Entry} (k : ℕ)
     (e : EntryReading) → AreEntries definitions earlier said own → slice_get said k ≡ Some e
     → (entry : Entry) × (slice_get own k ≡ Some entry) × IsEntry definitions e entry
@@ -155,7 +155,7 @@ own_at (suc k) e (AreEntries.next fresh is following) here = own_at k e followin
 
 -- ---- names and references, by keys and texts
 
--- the names that entries with these keys and texts claim
+-- the names that each of the entries with these keys and texts claims
 abbrev pub all_claims : List (List ℕ) → List EntryTexts → List (List (List ℕ))
 all_claims [] texts = []
 all_claims (key ∷ keys) [] = []
@@ -167,11 +167,11 @@ all_claims_are (e ∷ own) =
     ap (λ x. x ∷ map claims own) (claims_are e)
     ∙ ap (λ xs. claims_by e.key (texts_of_entry e) ∷ xs) (all_claims_are own)
 
--- entries that claim the same names in order have the same names
+-- entries that claim the same names in order have the same map from names to indices
 pub names_by_claims : (own others : List Entry) → map claims own ≡ map claims others → names_of own ≡ names_of others
 names_by_claims own others are = names_go empty_bibliography empty_bibliography own others refl refl are
 
--- the references of entries, by their names and texts
+-- the references of entries, by the map of names and by their texts
 abbrev pub graph_by_texts : ByText ℕ → List EntryTexts → List (List ℕ)
 graph_by_texts names texts = map (λ (t : EntryTexts). references names t.fields) texts
 

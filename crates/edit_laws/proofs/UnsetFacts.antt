@@ -31,7 +31,7 @@ use Rattle.edit_laws.proofs.SetFacts.{key_is}
 use Rattle.edit_laws.proofs.TextFacts.{HasText, own_at}
 use Rattle.edit_laws.specs.OneField.{AreUnset, IsInherited}
 
--- the entry with a key is replaced by itself without the fields with a name
+-- an entry with a key is replaced by itself without the fields of a name
 pub record IsUnsetRead (d after : Document) (key name : List ℕ) : Type 0 where
   pub k : ℕ
   pub e : EntryReading
@@ -46,7 +46,7 @@ unset_read (FieldUnset.unset {k = k} {e = e} entry some text alike) = record {
   is = key_is entry;
 }
 
--- a field that an entry lacks is the inherited one, if it isn't a part of a date
+-- an unlinked field that an entry lacks itself is the inherited one
 inherited_by : (own : EntryTexts) (references : List EntryTexts) (name : List ℕ) → IsUnlinked name → own.fields name ≡ None
     → (with_inherited_fields own references).fields name ≡ inherited_field own.entry_type name references
 inherited_by own references name apart lacks = by_date (date_for own references)
