@@ -1,4 +1,4 @@
--- An entry with its first field.
+-- An entry without fields gets its first field.
 use Rattle.std.proofs.Common.{◌≡◌, inr, ℕ, ◌+◌, ◌<◌, ◌≤◌, List, [], ◌∷◌, ◌++◌, length, map, refl, sym, ap, ◌∙◌, subst, arith, Some}
 use Rattle.std.specs.Prelude.{◌==◌, slice_get, codes}
 use Rattle.std.specs.Char.{is_whitespace}
@@ -23,7 +23,7 @@ use Rattle.edit_entries.proofs.SplitFacts.{EntryBlock, ahead_file_before, block_
 use Rattle.edit_entries.proofs.StandsFacts.{ascii, first_part, last_part, past}
 use Rattle.edit_entries.proofs.EntryFacts.{goes, before_stretch, after_stretch, entry_edited_read}
 
--- the place after the comma after an entry's key
+-- the parsed comma after an entry's key ends at the place of `IsAfterComma`
 after_comma_is : (text : List ℕ) (e : EntryReading) (at : ℕ) {u v : Place} → (b : EntryBlock u e v) → u.text ≡ text
     → IsAfterComma text e at → b.after_comma ≡ place text at
 after_comma_is text e at {u} {v} b same is =
@@ -34,7 +34,7 @@ after_comma_is text e at {u} {v} b same is =
     longest_same is.white (subst (λ p. Longest is_whitespace p b.before_comma) (sym here) b.white) in
     (same_char b.comma (subst (λ p. CharAt p 44 (place text at)) before is.comma)).1
 
--- the first field of an entry, in the new text
+-- the new text parses to the document with one new field before the fields of an entry, which is the new field except for byte offsets
 pub record FirstAdded (d : Document) (k : ℕ) (e : EntryReading) (edit : Edit) (n : NewField) : Type 0 where
   pub reading : FieldReading
   pub alike : moved_field (λ n. 0) reading ≡ moved_field (λ n. 0) (field_reading n)

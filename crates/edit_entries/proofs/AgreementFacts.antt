@@ -1,4 +1,4 @@
--- A document that agrees with another up to a place: with its text, its keys and its fields.
+-- A document that agrees with another up to a byte offset: its text, keys and fields before the offset are the same.
 use Rattle.std.proofs.Common.{◌≡◌, inl, inr, ℕ, zero, suc, ◌+◌, ◌<◌, ◌≤◌, Bool, List, [], ◌∷◌, ◌++◌, length, map, take, drop, refl, sym, ap, ◌∙◌, subst, arith, Some}
 use Rattle.std.specs.Prelude.{encode_utf8, option_map, slice_get, slice_set}
 use Rattle.std.specs.Char.{len_utf8}
@@ -22,7 +22,7 @@ use Rattle.edit_entries.proofs.SplitFacts.{split_fields, split_file}
 use Rattle.edit_entries.proofs.RenamedFacts.{key_placed}
 use Rattle.edit_entries.proofs.ZoneFacts.{copied, inner}
 
--- ---- what stands before a place
+-- ---- parts before a byte offset
 
 abbrev PieceWithin : ℕ → Piece → Type 0
 PieceWithin at (literal p) = (p.start ≤ at) × (p.end ≤ at)
@@ -78,7 +78,7 @@ field_within {u} {v} {f} field =
       pieces = elements_within f.value.end field.elements (omega (arith, field.ends));
     }
 
--- ---- what an edit after it leaves where it is
+-- ---- parts that a later edit doesn't move
 
 pub unmoved_part : (move : ℕ → ℕ) (p : Part) → move p.start ≡ p.start → move p.end ≡ p.end → moved_part move p ≡ p
 unmoved_part move p start end =
@@ -109,7 +109,7 @@ unmoved_field move at f stays within =
     ∙ ap (λ m. build f.name f.value.pieces m (move f.value.end)) (stays f.value.start within.value_start)
     ∙ ap (build f.name f.value.pieces f.value.start) (stays f.value.end within.value_end)
 
--- a field of a document stands before its end
+-- a field that ends at or before a byte offset isn't moved by a function that keeps byte offsets up to it
 pub field_stays : (d : Document) (k : ℕ) (e : EntryReading) (j : ℕ) (f : FieldReading) (move : ℕ → ℕ) (at : ℕ)
     → IsDocument d → slice_get d.says.entries k ≡ Some e → slice_get e.fields j ≡ Some f → f.value.end ≤ at
     → ((n : ℕ) → n ≤ at → move n ≡ n) → moved_field move f ≡ f
@@ -118,7 +118,7 @@ field_stays d k e j f move at read here there below stays =
     let g = split_fields j f s.block.fields there in
     unmoved_field move f.value.end f (λ n small. stays n (omega arith)) (field_within g.field)
 
--- ---- lists with another element in the place of one
+-- ---- lists with one element replaced
 
 pub get_set_other : {A : Type 0} (xs : List A) (k j : ℕ) (y : A) → (j ≡ k → ⊥) → slice_get (slice_set xs k y) j ≡ slice_get xs j
 get_set_other [] k j y other = refl
@@ -144,7 +144,7 @@ agrees_self at d = record {
   entries = λ k e here. (e, here, record { key = λ below. refl; fields = λ j f there below. there });
 }
 
--- bytes before a place
+-- texts with the same first `at` bytes have the same bytes between two byte offsets up to `at`
 pub same_bytes : (x y : List ℕ) (at a n : ℕ) → take at x ≡ take at y → a + n ≤ at → take n (drop a x) ≡ take n (drop a y)
 same_bytes x y at a n same within = sym (inner at a n x within) ∙ ap (λ xs. take n (drop a xs)) same ∙ inner at a n y within
 
@@ -162,7 +162,7 @@ agrees_before at before d after less a = record {
       );
 }
 
--- a character that both texts have
+-- a character before a byte offset also occurs in a text with the same bytes up to it
 pub same_character : {u v : Place} {c : ℕ} (x y : List ℕ) (at : ℕ) → take at y ≡ take at x → u.text ≡ x → v.at ≤ at
     → CharAt u c v → CharAt (place y u.at) c (place y v.at)
 same_character {u} {v} {c} x y at same text within char =
@@ -172,7 +172,7 @@ same_character {u} {v} {c} x y at same text within char =
     copied x y (drop v.at x) u.at u.at c here (same_bytes y x at u.at (len_utf8 c) same (omega arith)) in
     subst (λ n. CharAt (place y u.at) c (place y n)) (sym next) stands
 
--- a run of characters that both texts have
+-- a run before a byte offset also occurs in a text with the same bytes up to it
 pub same_run : {test : ℕ → Bool} {u v : Place} (x y : List ℕ) (at : ℕ) → take at y ≡ take at x → u.text ≡ x → v.at ≤ at
     → Run test u v → Run test (place y u.at) (place y v.at)
 same_run x y at same text within stop = stop
@@ -180,7 +180,7 @@ same_run {test} {u} {v} x y at same text within (step {v = w} {c = c} char passe
     step (same_character x y at same text (omega (arith, (ahead_run rest).at)) char) passes
     (same_run x y at same (char.same ∙ text) within rest)
 
--- an entry that is moved agrees with what it was
+-- an entry that agrees with an old one up to the start of an edit still agrees after its byte offsets move
 pub moved_agrees : (d : Document) (edit : Edit) (k : ℕ) (e entry : EntryReading) → IsDocument d → edit.start < edit.end
     → slice_get d.says.entries k ≡ Some e → AgreesIn edit.start e entry
     → AgreesIn edit.start e (moved_entry (moved_place edit) entry)
@@ -197,7 +197,7 @@ moved_agrees d edit k e entry read some here agrees =
           ∙ ap Some (field_stays d k e j f (moved_place edit) edit.start read here there below stays);
     }
 
--- the entries of a document that agrees with another, with another entry in the place of one
+-- if documents agree up to an edit and an entry is replaced by one that agrees, each entry still agrees with the one at its index
 other_entries : (d after : Document) (edit : Edit) (k : ℕ) (e entry : EntryReading) → IsDocument d
     → Agrees edit.start d after → edit.start < edit.end → slice_get d.says.entries k ≡ Some e
     → AgreesIn edit.start e entry
@@ -227,7 +227,7 @@ other_entries d after edit k e entry read a some here agrees i x there =
       )
     ]
 
--- a document that agrees with another still does so up to where its next edit begins
+-- a document that agrees with another up to the start of an edit still agrees after the edit, if the new entry agrees too
 pub edited_agrees : (d after : Document) (edit : Edit) (k : ℕ) (e entry : EntryReading) → IsDocument d
     → Agrees edit.start d after → edit.start < edit.end → edit.start ≤ length after.text
     → slice_get d.says.entries k ≡ Some e

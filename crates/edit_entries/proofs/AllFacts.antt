@@ -1,4 +1,4 @@
--- What holds of each entry of a list, and of each field of entries.
+-- Properties of each element of a list, and of each field of entries.
 use Rattle.std.proofs.Common.{◌≡◌, ℕ, zero, suc, List, [], ◌∷◌, refl, subst, Some}
 use Rattle.std.specs.Prelude.{slice_get}
 use Rattle.std.specs.List.{AllByRecursion}
@@ -8,7 +8,7 @@ use Rattle.edit_entries.specs.Documents.{Document, IsDocument}
 use Rattle.edit_entries.specs.Placed.{IsPlaced}
 use Rattle.edit_entries.proofs.ValueFacts.{field_placed}
 
--- ---- what holds of each element of a list
+-- ---- properties of each element of a list
 
 pub all_both : {A : Type 0} (P Q : A → Type 0) (xs : List A) → AllByRecursion P xs → AllByRecursion Q xs
     → AllByRecursion (λ x. P x × Q x) xs
@@ -24,7 +24,7 @@ all_there P [] k x all found = absurd (cc)
 all_there P (y ∷ ys) zero x all found = let same : y ≡ x = cc in subst P same all.0
 all_there P (y ∷ ys) (suc k) x all found = all_there P ys k x all.1 found
 
--- what holds of each field of entries
+-- each field of each of these entries has a property
 abbrev pub OfFields : (FieldReading → Type 0) → List EntryReading → Type 0
 OfFields P es = AllByRecursion (λ e. AllByRecursion P e.fields) es
 

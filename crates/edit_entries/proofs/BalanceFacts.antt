@@ -7,7 +7,7 @@ use Rattle.std.proofs.lemmas.List.Filters.{length-filter_more}
 use Rattle.std.proofs.lemmas.Bool.{and_parts, and_from}
 use Rattle.edit_entries.specs.Balance.{IsBalanced, byte_count, closes_opened, is_balanced}
 
--- the first bytes of a text: no prefix has more closing braces than opening ones, and this many braces are open
+-- no prefix of the first `i` bytes has more closing braces than opening ones, and `depth` braces are open after them
 pub record IsCounted (text : List ℕ) (i depth : ℕ) : Type 0 where
   pub open_braces : depth + byte_count 125 (take i text) ≡ byte_count 123 (take i text)
   pub closes : (n : ℕ) → n ≤ i → byte_count 125 (take n text) ≤ byte_count 123 (take n text)
@@ -22,7 +22,7 @@ at_or_before (suc n) (suc i) within = by_rest (at_or_before n i (omega (arith, w
     by_rest (inl same) = inl (omega (arith, same))
     by_rest (inr less) = inr (omega (arith, less))
 
--- what holds of each earlier prefix and of this one
+-- if no prefix up to length `i` nor the one of length `i + 1` has more closing braces, none up to `i + 1` has
 one_more : (text : List ℕ) (i : ℕ) → ((n : ℕ) → n ≤ i → byte_count 125 (take n text) ≤ byte_count 123 (take n text))
     → byte_count 125 (take (i + 1) text) ≤ byte_count 123 (take (i + 1) text) → (n : ℕ) → n ≤ i + 1
     → byte_count 125 (take n text) ≤ byte_count 123 (take n text)
@@ -70,7 +70,7 @@ module _ (text : List ℕ) (i depth byte : ℕ) (within : i < length text) (is :
           small = omega (arith, counted.small);
         }
 
-    -- a brace that closes none
+    -- if no brace is open before a closing brace, the text isn't balanced
     pub closes_none : (byte == 123) ≡ false → (byte == 125) ≡ true → depth ≡ 0 → IsBalanced text → ⊥
     closes_none opens closing none balanced =
         omega (
@@ -89,7 +89,7 @@ counted_start text = record { open_braces = refl; closes = λ n within. start n 
     start zero within = omega arith
     start (suc n) within = absurd (omega (arith, within))
 
--- the whole text
+-- all bytes of the text are counted
 module _ (text : List ℕ) (i depth : ℕ) (past : length text ≤ i) (counted : IsCounted text i depth) where
   whole : take i text ≡ text
   whole = take_all i text past
@@ -180,7 +180,7 @@ test_balanced text is = record { closes = λ n. prefix n (earlier n (length text
     prefix n (inr later) =
         subst (λ xs. byte_count 125 xs ≤ byte_count 123 xs) (sym (take_all n text later)) (omega (arith, closed))
 
--- a test that tells whether a text is balanced is `is_balanced`
+-- a test that is true exactly if a text is balanced returns `is_balanced`
 pub test_is : (text : List ℕ) (b : Bool) → (b ≡ true → IsBalanced text) → (b ≡ false → IsBalanced text → ⊥) → b ≡ is_balanced text
 test_is text true passed failed = sym (balanced_test text (passed refl))
 test_is text false passed failed = by_case (is_balanced text) refl
@@ -189,7 +189,7 @@ test_is text false passed failed = by_case (is_balanced text) refl
     by_case true is = absurd (failed refl (test_balanced text is))
     by_case false is = refl
 
--- the result of the test of a text
+-- the result of a test whose contract is that it decides `IsBalanced` is `is_balanced`
 pub balance_is : (text : List ℕ) (b : Bool) → MatchBool b (IsBalanced text) (IsBalanced text → ⊥) → b ≡ is_balanced text
 balance_is text true balanced = test_is text true (λ is. balanced) (λ is. absurd (cc))
 balance_is text false unbalanced = test_is text false (λ is. absurd (cc)) (λ is. unbalanced)

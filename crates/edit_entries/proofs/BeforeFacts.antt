@@ -27,7 +27,7 @@ use Rattle.edit_entries.proofs.SplitFacts.{FieldsBefore, ahead_fields_after, spl
 use Rattle.edit_entries.proofs.StandsFacts.{AreWhite, Stands, ascii, between_stands, copied_before, copy_frame, first_part, last_part, past, run_white}
 use Rattle.edit_entries.proofs.ZoneFacts.{there}
 
--- the bytes of an edit, where they stand in the new text
+-- the new bytes of an edit are in the new text from the start of the edit on
 pub bytes_stand : (edit : Edit) (text : List ℕ) → edit.start ≤ length text
     → Stands (place (edited edit text) edit.start) edit.bytes (place (edited edit text) (edit.start + length edit.bytes))
 bytes_stand edit text within =
@@ -40,7 +40,7 @@ bytes_stand edit text within =
       next = refl;
     }
 
--- a field that begins behind some bytes
+-- a moved field whose name begins after `lead` bytes
 abbrev behind : FieldReading → List ℕ → (ℕ → ℕ) → FieldReading
 behind f lead move = record (moved_field move f) { name = text_at (f.name.start + length lead) f.name.text }
 
@@ -76,7 +76,7 @@ field_behind text f lead {u} {v} same inside_text field =
     ap (λ t. build t to.at) (between_stands name stands) ∙ ap (build name) (omega (arith, size)) in
     subst (λ p. Field longest from (record (moved_field move f) { name = p }) (goes edit text v)) named (r.field i3)
 
--- a new field and a field after it, in the place of the field
+-- an edit of a field's name puts a new field and a comma before the field
 pub preceded_put : (d : Document) (f : FieldReading) (n : NewField) (sign white : List ℕ) → CanBePut n → IsSign sign → AreWhite white
     → IsIn d.text f → IsPut d f (name_edit f (field_before n sign white)) (field_reading n ∷ f ∷ [])
 preceded_put d f n sign white can is_sign all is = record {

@@ -1,4 +1,4 @@
--- Changes of entries and fields, as lists of these are gone through.
+-- Lists of changes of entries and fields while a loop visits them.
 use Rattle.std.proofs.Common.{◌≡◌, ◌⊎◌, inl, inr, ℕ, zero, suc, ◌+◌, ◌<◌, List, [], ◌∷◌, ◌++◌, Option, Some, None, map, take, drop, length, get_or, refl, sym, ap, ◌∙◌, subst, arith, append_assoc, append-nil}
 use Rattle.std.specs.List.{AllByRecursion, flat_map}
 use Rattle.std.proofs.lemmas.List.{map-append, take_more, take-append-drop, length-map, length-take-le}
@@ -20,7 +20,7 @@ pub all_right : {A : Type 0} (P : A → Type 0) (xs ys : List A) → AllByRecurs
 all_right P [] ys all = all
 all_right P (x ∷ xs) ys all = all_right P xs ys all.1
 
--- a property of all elements that a function makes of a list is one of those that it makes of each element
+-- if each element of a flat map has a property, so has each one that comes from one element of the list
 pub all_at : {A B C : Type 0} (P : C → Type 0) (g : B → List C) (view : A → B) (xs : List A) (k : ℕ) (x : A)
     → k < length xs → x ≡ get_or xs k x → AllByRecursion P (flat_map g (map view xs)) → AllByRecursion P (g (view x))
 all_at P g view [] k x within is all = absurd (omega arith)
@@ -29,13 +29,13 @@ all_at P g view (y ∷ ys) zero x within is all =
 all_at P g view (y ∷ ys) (suc k) x within is all =
     all_at P g view ys k x (omega arith) is (all_right P (g (view y)) (flat_map g (map view ys)) all)
 
--- an error of a part is an error of the whole, which implies the part
+-- a part's error is also an error of the whole, if the whole implies the part
 pub refused_more : (P Q : Type 0) (e : EditError) → (Q → P) → (e ≡ OutOfMemory) ⊎ ((e ≡ NotInBraces) × (P → ⊥))
     → (e ≡ OutOfMemory) ⊎ ((e ≡ NotInBraces) × (Q → ⊥))
 refused_more P Q e part (inl memory) = inl memory
 refused_more P Q e part (inr braces) = inr (braces.0, λ all. braces.1 (part all))
 
--- ---- entries one after another
+-- ---- one more entry
 
 pub renaming-append : (names : List ℕ → List ℕ → Option (List ℕ)) (keys : ℕ → Option (List ℕ)) (index : ℕ) (xs ys : List EntryReading)
     → renaming names keys index (xs ++ ys) ≡ renaming names keys index xs ++ renaming names keys (index + length xs) ys
@@ -55,7 +55,7 @@ module _ {A : Type 0} (view : A → EntryReading) (names : List ℕ → List ℕ
   size : length (map view (take i xs)) ≡ i
   size = length-map (take i xs) view ∙ length-take-le i xs (omega arith)
 
-  -- those of some entries and one more
+  -- the changes of some entries and one more are those of the first ones, and then those of the last one
   pub renaming_more : renaming names keys 0 (map view (take (i + 1) xs))
       ≡ renaming names keys 0 (map view (take i xs)) ++ (key_change (keys i) (view x) ++ reference_changes names (view x).fields)
   renaming_more =
@@ -68,7 +68,7 @@ module _ {A : Type 0} (view : A → EntryReading) (names : List ℕ → List ℕ
       ∙ ap (λ l. renaming names keys 0 (map view (take i xs)) ++ l)
       (append-nil (key_change (keys i) (view x) ++ reference_changes names (view x).fields))
 
-  -- those of one of some entries are among those of all
+  -- a property of all changes is one of the reference changes of each entry
   pub renaming_at : (P : Change → Type 0) → AllByRecursion P (renaming names keys 0 (map view xs))
       → AllByRecursion P (reference_changes names (view x).fields)
   renaming_at P all =
@@ -103,7 +103,7 @@ in_order text at (Change.value f new ∷ changes) apart white = (
       (ahead_run white.0.0).at (in_order text f.value.end changes apart.4 white.1),
 )
 
--- edits of changes, added to those of others
+-- the edits of changes, then of a key change, then of reference changes are the edits of all of them in this order
 pub pushed : (text : List ℕ) (before key refs : List Change) (a b c : List Edit) → a ≡ map (change_edit text) before
     → b ≡ a ++ map (change_edit text) key → c ≡ b ++ map (change_edit text) refs
     → c ≡ map (change_edit text) (before ++ (key ++ refs))
@@ -113,7 +113,7 @@ pushed text before key refs a b c first second third =
     ∙ ap (λ l. map (change_edit text) before ++ l) (sym (map-append (change_edit text) key refs))
     ∙ sym (map-append (change_edit text) before (key ++ refs))
 
--- a property of a change of a key is one of the change of an entry's key, if its key changes
+-- the key change of an entry has a property if the change to each possible new key has it
 pub key_all : (P : Change → Type 0) (o : Option (List ℕ)) (e : EntryReading) → ((new : List ℕ) → o ≡ Some new → P (Change.key e.key new))
     → AllByRecursion P (key_change o e)
 key_all P None e holds = tt

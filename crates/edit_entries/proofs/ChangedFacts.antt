@@ -1,4 +1,4 @@
--- A document with several keys and values changed, from the last change to the first.
+-- A document after changes of keys and values, from the last change to the first.
 use Rattle.std.proofs.Common.{◌≡◌, ℕ, ◌+◌, ◌-◌, ◌<◌, ◌≤◌, List, [], ◌∷◌, length, map, refl, sym, ap, ◌∙◌, subst, arith, Some}
 use Rattle.std.specs.Prelude.{slice_get, slice_set}
 use Rattle.std.specs.Char.{is_whitespace}
@@ -19,13 +19,13 @@ use Rattle.edit_entries.proofs.EntryFacts.{ahead_to_field}
 use Rattle.edit_entries.proofs.RenamedFacts.{entry_renamed_read, key_placed}
 use Rattle.edit_entries.proofs.AgreementFacts.{Agrees, AgreesIn, agrees_before, agrees_self, edited_agrees, get_set_other, moved_agrees, same_bytes, same_run}
 
--- what a change changes is a piece of the document
+-- a change replaces the key of an entry of the document, which isn't empty, or the value of a field of the document
 abbrev pub IsPieceOf : Document → Change → Type 0
 IsPieceOf d (Change.key p new) = (k : ℕ) × (e : EntryReading) × (slice_get d.says.entries k ≡ Some e) × (e.key ≡ p) × (p.start < p.end)
 IsPieceOf d (Change.value f new) =
     (k : ℕ) × (e : EntryReading) × (j : ℕ) × (slice_get d.says.entries k ≡ Some e) × (slice_get e.fields j ≡ Some f)
 
--- what is known where the changes from a place on were made
+-- a document after changes from a byte offset on: it has their text and agrees with the old one up to the offset
 pub record Made (d : Document) (changes : List Change) (at : ℕ) : Type 0 where
   pub after : Document
   pub changed : Changed d changes after
@@ -71,7 +71,7 @@ key_made d changes p new read piece can made =
 
 -- ---- a value
 
--- the stretch of a value isn't empty
+-- the value of a field isn't empty without the white space after it
 stretch_some : (d : Document) (k : ℕ) (e : EntryReading) (j : ℕ) (f : FieldReading) (end : ℕ) → IsDocument d
     → slice_get d.says.entries k ≡ Some e → slice_get e.fields j ≡ Some f → f.value.start ≤ end
     → Run is_whitespace (place d.text end) (place d.text f.value.end) → f.value.start < end
@@ -90,7 +90,7 @@ stretch_some d k e j f end read here there ordered white =
     let blank : Run is_whitespace (place d.text end) g.end = subst (λ p. Run is_whitespace (place d.text end) p) last white in
     subst (λ n. n < end) (sym g.field.starts) (value_some g.field.elements value_at.text (omega (arith, g.field.starts)) blank)
 
--- an entry of which a field has another value agrees with what it was up to that field
+-- an entry still agrees up to the start of an edit in a field after the edit replaces this field
 field_agrees : (d : Document) (edit : Edit) (k : ℕ) (e entry : EntryReading) (j : ℕ) (f g : FieldReading) → IsDocument d
     → edit.start < edit.end → slice_get d.says.entries k ≡ Some e → slice_get e.fields j ≡ Some f
     → edit.start < f.value.end → AgreesIn edit.start e entry

@@ -1,4 +1,4 @@
--- A document with changes of its entries: what it is read as.
+-- The text of a document with changed entries, and its reading.
 use Rattle.std.proofs.Common.{◌≡◌, ℕ, suc, ◌≤◌, List, [], ◌∷◌, ◌++◌, length, map, refl, sym, ap, ◌∙◌, subst, arith, append_assoc, length-append, Option, Some, None, Result, Ok, Err}
 use Rattle.std.specs.Prelude.{IfOk, slice_get}
 use Rattle.std.specs.List.{AllByRecursion}
@@ -28,7 +28,7 @@ use Rattle.edit_entries.proofs.ValuePutFacts.{value_put}
 
 -- ---- a field's name
 
--- a field with another name, without places
+-- a moved field with another name is the field with the other name, except for byte offsets
 renamed_placeless : (move : ℕ → ℕ) (f : FieldReading) (name : List ℕ)
     → map (moved_field (λ n. 0)) (with_name name (moved_field move f) ∷ [])
     ≡ map (moved_field (λ n. 0)) ((record f { name = record f.name { text = name } }) ∷ [])
@@ -58,10 +58,10 @@ name_put d f name can is = record {
       );
 }
 
--- ---- what can be made
+-- ---- changes that can be made
 
--- a field before others can have this change: each new name is a valid name, and each new value parses to its pieces at any place. The
--- text between a comma and a new field is white space. A removed field has another field after it.
+-- a field before others can have this change. Each new name is a name, and each new value parses to its pieces anywhere. The text between
+-- new fields is white space. A removed field has another field after it.
 abbrev pub CanChange : List FieldReading → FieldChange → Type 0
 CanChange following FieldChange.kept = Unit {0}
 CanChange following (FieldChange.preceded n sign white) = CanBePut n × IsSign sign × AreWhite white
@@ -76,7 +76,7 @@ CanFieldsChange [] changes = Unit {0}
 CanFieldsChange (f ∷ fs) [] = Unit {0}
 CanFieldsChange (f ∷ fs) (change ∷ changes) = CanChange fs change × CanFieldsChange fs changes
 
--- an entry can have this change: the new name of its type can be one, of an entry
+-- an entry can have this change: the new name of its type can be one of an entry, and its fields can have their changes
 pub record CanEntryChange (e : EntryReading) (change : EntryChange) : Type 0 where
   pub kind : (name : List ℕ) → change.kind ≡ Some name → CanBeName name × (block_kind name ≡ BlockKind.entry)
   pub fields : CanFieldsChange e.fields change.fields
@@ -84,7 +84,7 @@ pub record CanEntryChange (e : EntryReading) (change : EntryChange) : Type 0 whe
 -- ---- all of them
 
 module _ (d : Document) (changes : EntryReading → EntryChange) (read : IsDocument d) where
-  -- an entry with these fields
+  -- an entry with these fields instead of its own
   abbrev with_fields : EntryReading → List FieldReading → EntryReading
   with_fields e fs = record e { fields = fs }
 
@@ -234,7 +234,7 @@ module _ (d : Document) (changes : EntryReading → EntryChange) (read : IsDocum
       (kind_case before es others (edits ++ later) e now at change.kind can.0.kind whole order.1
       (omega (arith, order.2.some)) fields.made)
 
--- where the values of a document's fields stand, and where their stretches end
+-- the value of each field may be cut out of the text, and only white space is after the trimmed value
 pub values_placed : (d : Document) → IsDocument d → IsUtf8 d.text → OfFields (IsFieldPlaced d.text) d.says.entries
 values_placed d read utf8 =
     let all = all_placed d read in
@@ -242,7 +242,7 @@ values_placed d read utf8 =
     (λ f placed again. record { placed = placed; trimmed = trimmed_known d.text f utf8 placed }) d.says.entries all
     all
 
--- a document with changes that can be made is read as what it said with these changes
+-- a document's text with changes that can be made parses to its reading with these changes, except for byte offsets
 pub changed_read : (d : Document) (changes : EntryReading → EntryChange) → IsDocument d → IsUtf8 d.text
     → AllByRecursion (λ e. CanEntryChange e (changes e)) d.says.entries
     → IsReadPlaceless (file_changed changes d.says) (text_changed changes d)
@@ -250,13 +250,13 @@ changed_read d changes read utf8 can =
     let made = entries_made d changes read [] d.says.entries 0 can refl (file_in d.text refl read) (values_placed d read utf8) in
     record { tells = made.after.says; read = subst (λ t. IsRawReading t made.after.says) made.text made.read; alike = made.alike }
 
--- the edits of changes stand one after another
+-- the edits of changes are in order
 pub changes_in_order : (d : Document) (changes : EntryReading → EntryChange) → IsDocument d → IsUtf8 d.text
     → AreEditsInOrder d.text 0 (edits_of_entries changes d.text d.says.entries)
 changes_in_order d changes read utf8 =
     edits_in_order changes d.text 0 d.says.entries (file_in d.text refl read) (values_placed d read utf8)
 
--- what a call that changes a document answers
+-- if a call returns the text of a document with changes that can be made, it returns the changed document
 pub changed_answer : {S E : Type 0} (bytes : S → List ℕ) (r : Result S E) (d : Document) (changes : EntryReading → EntryChange)
     → IsDocument d → IsUtf8 d.text → AllByRecursion (λ e. CanEntryChange e (changes e)) d.says.entries
     → IfOk r (λ new. bytes new ≡ text_changed changes d) → IfOk r (λ new. IsChanged changes d (bytes new))

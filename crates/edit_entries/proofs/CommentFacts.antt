@@ -1,4 +1,4 @@
--- An entry without a field that a comment is before.
+-- An entry without a field that has a comment before it.
 use Rattle.std.proofs.Common.{◌≡◌, inl, inr, ℕ, suc, ◌+◌, ◌-◌, ◌<◌, ◌≤◌, Bool, true, false, cond, List, length, drop, refl, sym, ap, ◌∙◌, subst, arith, Some}
 use Rattle.std.specs.Prelude.{◌==◌, not, slice_get}
 use Rattle.std.specs.Char.{is_ascii_whitespace, is_whitespace}
@@ -32,7 +32,7 @@ use Rattle.edit_entries.proofs.ZoneFacts.{Inside, char_there, inside, inside_bet
 
 -- ---- a comment in a gap
 
--- a gap with a comment, whose percent sign and line feed are at these byte offsets
+-- a gap with a comment, whose percent sign is at `sign` and whose line feed is at `feed`
 record Commented (text : List ℕ) (u : Place) (sign feed : ℕ) (a : Place) : Type 0 where
   white : Longest is_whitespace u (place text sign)
   line : LineComment (place text sign) (place text feed)
@@ -70,7 +70,7 @@ commented {a} text at end (gap.line_comment {w = w} white m white') char plain b
 
 -- ---- the gap after a field
 
--- a gap without a comment
+-- a gap is white space if the first byte after its ASCII white space isn't a percent sign
 plain_gap : {a b : Place} {c : ℕ} (text : List ℕ) (at end : ℕ) → Gap longest (place text at) a → CharAt a c b → (c == 37) ≡ false
     → a.at ≡ after_bytes is_ascii_whitespace text at end → Longest is_whitespace (place text at) a
 plain_gap text at end (gap.white white ends) char plain is = white
@@ -85,7 +85,7 @@ plain_gap {a} {b} {c} text at end (gap.line_comment white m white') char plain i
     plain' : (37 == c) ≡ false
     plain' = grind (arith, nat_tests)
 
--- a gap with a comment, from its percent sign on
+-- a gap with a percent sign after its ASCII white space is a comment and white space from there on
 signed_gap : {a : Place} (text : List ℕ) (at end : ℕ) → Gap longest (place text at) a
     → has_byte_at text (after_bytes is_ascii_whitespace text at end) 37 ≡ true
     → (w : Place) × LineComment (place text (after_bytes is_ascii_whitespace text at end)) w × Longest is_whitespace w a
@@ -151,7 +151,7 @@ module _ (d : Document) (k : ℕ) (e : EntryReading) (j : ℕ) (f : FieldReading
   following : Gap longest (place d.text at) a.r.rest.start
   following = subst (λ p. Gap longest p a.r.rest.start) (same_place {u = a.r.from} {v = place d.text at} a.r.same a.r.is) a.r.rest.gap
 
-  -- the field's lines after the comment
+  -- the edit that removes a field's lines after a comment gives the reading without the field
   pub lines_removed : sign_after d.text e j f ≡ field_limit e j → has_byte_at d.text (feed_after d.text e j f) 10 ≡ true
       → LineRemoved d k e j f (comma_before d.text e j f + 1) (lines_edit d.text e j f)
   lines_removed none feeds =
@@ -201,7 +201,7 @@ module _ (d : Document) (k : ℕ) (e : EntryReading) (j : ℕ) (f : FieldReading
         stops = stops_there is_whitespace z2 jf below left.stops;
       }))
 
-  -- where the comment before the field ends, without its line end
+  -- a byte offset after the percent sign and up to the line feed of the comment before the field, at which a character begins
   record Cut (end : ℕ) : Type 0 where
     char : ℕ
     next : Place
@@ -229,7 +229,7 @@ module _ (d : Document) (k : ℕ) (e : EntryReading) (j : ℕ) (f : FieldReading
       by_case false is =
           record { char = 10; next = place d.text (n + 1); found = before.feeds; some = before.some; within = omega arith }
 
-  -- two comments are joined
+  -- the edit that removes a field between two comments and joins these gives the reading without the field
   pub joining_removed : has_byte_at d.text (sign_after d.text e j f) 37 ≡ true
       → LineRemoved d k e j f (comma_before d.text e j f + 1) (joining_edit d.text e j f)
   joining_removed signs =

@@ -1,4 +1,4 @@
--- Where a text may be cut around its entries and their parts.
+-- Byte offsets at which a text may be cut around its entries and their parts.
 use Rattle.std.proofs.Common.{◌≡◌, ℕ, ◌+◌, ◌≤◌, Bool, List, ◌∷◌, ◌++◌, length, refl, sym, ap, ◌∙◌, subst, arith}
 use Rattle.std.specs.List.{AllByRecursion}
 use Rattle.std.specs.Str.{IsCharBoundary}
@@ -24,7 +24,7 @@ use Rattle.edit_entries.specs.Cuts.{AreEntriesCut, AreGapsCut, ArePiecesCut, Can
 use Rattle.edit_entries.proofs.ByEntriesFacts.{ByEntries, by_entries}
 use Rattle.bib_text.proofs.BoundaryFacts.{char_boundary}
 
--- ---- a character stands where a rule begins that another character ends
+-- ---- rules that begin with a character
 
 pub record Stood (u : Place) : Type 0 where
   pub char : ℕ
@@ -66,7 +66,7 @@ cut_file text same (file.block b x) = cut_stood text same (stood b.head.sign)
 
 -- ---- elements
 
--- a piece of an element lies in the text and is cut at character boundaries
+-- a text may be cut at the start of a literal
 pub element_cut : (text : List ℕ) {u v : Place} {e : Piece} → u.text ≡ text → Element longest u e v → IsPieceCut text e
 element_cut text same (element.number (number.whole char digit digits ends)) = cut_stood text same (stood char)
 element_cut text same (element.number (number.broken char digit digits point others ends)) = cut_stood text same (stood char)
@@ -100,7 +100,7 @@ fields_cut text same (fields.more field g comma g' rest) =
     let over = ahead_then (ahead_field field) (ahead_then (ahead_gap g) (ahead_then (ahead_char comma) (ahead_gap g'))) in
     (field_cut text same field, fields_cut text (over.text ∙ same) rest)
 
--- where a name begins
+-- the text from a byte offset to a field's name may be cut out
 name_cut : (text : List ℕ) (start : ℕ) {u v : Place} {f : FieldReading} → u.text ≡ text → start ≤ u.at
     → IsCharBoundary text start → Field longest u f v → CanBeCut text start f.name.start
 name_cut text start {u} {v} {f} same ordered cut field =

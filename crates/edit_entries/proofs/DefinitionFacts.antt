@@ -1,4 +1,4 @@
--- Facts on definitions of abbreviations.
+-- Facts about definitions of abbreviations.
 use Rattle.std.proofs.Common.{◌≡◌, ◌<◌, ◌+◌, ℕ, zero, suc, Bool, true, false, cond, List, [], ◌∷◌, ◌++◌, map, take, length, get_or, Option, Some, None, refl, sym, ap, ap₂, ◌∙◌, subst, arith}
 use Rattle.std.specs.Prelude.{MatchBool, bytes_eq, slice_get}
 use Rattle.std.specs.Str.{str_to_ascii_lowercase}
@@ -49,7 +49,7 @@ pieces_more xs i d within =
     ∙ ap placeless_pieces (map-append piece_of (take i xs) (get_or xs i d ∷ []))
     ∙ map-append (moved_piece (λ at. 0)) (map piece_of (take i xs)) (piece_of (get_or xs i d) ∷ [])
 
--- the same pieces, and one more that is the same
+-- if two pieces are the same and those before them are, the pieces up to the next index are
 pub same_more : (xs ys : List (Spanned RawChunk)) (i : ℕ) (d e : Spanned RawChunk) → i < length xs → i < length ys
     → is_same_piece (piece_of (get_or xs i d)) (piece_of (get_or ys i e)) ≡ true
     → ArePiecesSame (map piece_of (take i xs)) (map piece_of (take i ys))
@@ -75,7 +75,7 @@ same_not xs ys i d e within within' other same =
 
 -- ---- the last element that passes a test
 
--- the last element that passes a test
+-- the last element that passes a test, and its index
 record Last {A : Type 0} (test : A → Bool) (xs : List A) : Type 0 where
   index : ℕ
   item : A
@@ -101,7 +101,7 @@ last_first test x xs none passes = record {
   passes = passes;
 }
 
--- what is at the last index passes
+-- the last index at which a test is passed is that of an element that passes it
 pub last_of : {A : Type 0} (test : A → Bool) (xs : List A) (k : ℕ) → last_position test xs ≡ Some k
     → (x : A) × (slice_get xs k ≡ Some x) × (test x ≡ true)
 last_of test [] k is = absurd (cc)
@@ -120,7 +120,7 @@ last_of {A} test (x ∷ xs) k is = by_case (last_position test xs) refl (λ i so
         let rest = later i some in
         (rest.0, ap (slice_get (x ∷ xs)) (some_same (sym found)) ∙ rest.1, rest.2)
 
--- an element that passes has the last index, or one before it
+-- if an element passes, there is a last one that passes
 last_there : {A : Type 0} (test : A → Bool) (xs : List A) (j : ℕ) (y : A) → slice_get xs j ≡ Some y → test y ≡ true → Last test xs
 last_there test [] j y here passes = absurd (cc)
 last_there {A} test (x ∷ xs) zero y here passes = by_case (last_position test xs) refl
@@ -134,11 +134,11 @@ last_there test (x ∷ xs) (suc j) y here passes = last_after test x xs (last_th
 
 -- ---- definitions
 
--- names that are equal in any ASCII case are equal in lower case
+-- names that are equal in any ASCII case are equal in lowercase
 pub lower_same : (m n : List ℕ) → is_word m n ≡ true → str_to_ascii_lowercase m ≡ str_to_ascii_lowercase n
 lower_same m n is = (bytes_eq-Decides (str_to_ascii_lowercase m) (str_to_ascii_lowercase n)).0 is
 
--- names that are equal in lower case are equal in any ASCII case
+-- names that are equal in lowercase are equal in any ASCII case
 pub word_from : (m n : List ℕ) → str_to_ascii_lowercase m ≡ str_to_ascii_lowercase n → is_word m n ≡ true
 word_from m n same = (bytes_eq-Decides (str_to_ascii_lowercase m) (str_to_ascii_lowercase n)).1 same
 
@@ -177,14 +177,15 @@ others_agree definitions others agree j g there k f last here =
     let named = passes_at (has_name g.name.text) definitions k f last here in
     sym (agree k j f g here there (word_from g.name.text f.name.text (sym (lower_same f.name.text g.name.text named))))
 
--- the answer for two lists of definitions, the first of which agrees with the last of the second
+-- if each of `definitions` agrees with the last of `others`, a test whether the others agree with the last definitions decides whether both
+-- lists agree
 pub agree_if_both : (definitions others : List FieldReading) (answer : Bool) → AllAgree definitions others
     → MatchBool answer (AllAgree others definitions) (AllAgree others definitions → ⊥)
     → MatchBool answer (AgreeOnDefinitions definitions others) (AgreeOnDefinitions definitions others → ⊥)
 agree_if_both definitions others true one other = agree_all definitions others one other
 agree_if_both definitions others false one none = λ agree. none (others_agree definitions others agree)
 
--- the answer for a definition and the last of others with its name
+-- if `g` is the last of `others` with the name of `f`, a test whether both have the same value decides whether `f` agrees with it
 pub agree_at : (others : List FieldReading) (f g : FieldReading) (k : ℕ) (answer : Bool)
     → last_position (has_name f.name.text) others ≡ Some k → slice_get others k ≡ Some g
     → MatchBool answer (HaveSameValue f g) (HaveSameValue f g → ⊥)

@@ -1,4 +1,4 @@
--- What stands before the stretch that an edit changes, and what stands after it, stands in the edited text.
+-- The text before and after the stretch of an edit is in the edited text.
 use Rattle.std.proofs.Common.{◌≡◌, ℕ, ◌+◌, ◌-◌, ◌<◌, ◌≤◌, List, ◌∷◌, ◌++◌, length, take, drop, refl, sym, ap, ◌∙◌, subst, arith, length-append, length-drop, append_assoc}
 use Rattle.std.specs.Char.{len_utf8}
 use Rattle.std.proofs.lemmas.List.{take_all, take_at, drop_at, drop-drop, length-take-le}
@@ -10,7 +10,7 @@ use Rattle.edit_entries.specs.Edits.{Edit, edited, moved_place}
 use Rattle.bib_text.proofs.BoundaryFacts.{Border, not_over}
 use Rattle.edit_entries.proofs.ZoneFacts.{Frame, Zone}
 
--- an edit of a text: its stretch lies in it, and in the new text no character goes over where the new bytes begin
+-- the stretch of an edit is in the text, and in the new text a character or the end of the text is at its start
 pub record Fits (edit : Edit) (text : List ℕ) : Type 0 where
   pub ordered : edit.start ≤ edit.end
   pub within : edit.end ≤ length text
@@ -35,7 +35,7 @@ moved_before edit at before = grind (arith, nat_tests)
 pub moved_after : (edit : Edit) (at : ℕ) → edit.end ≤ at → moved_place edit at + edit.end ≡ at + (edit.start + length edit.bytes)
 moved_after edit at past = grind (arith, nat_tests)
 
--- the new text, from its start and from after the new bytes
+-- the new text begins with the text before the edit
 pub front : (start end : ℕ) (bytes text : List ℕ) → start ≤ length text
     → take start (take start text ++ bytes ++ drop end text) ≡ take start text
 front start end bytes text within =
@@ -80,7 +80,7 @@ zone_after edit text ordered within =
           omega (arith, char_left char, char.next, length-edited edit text ordered within);
     }
 
--- ---- a text that stands in another
+-- ---- a text within another
 
 abbrev pub piece_frame : List ℕ → List ℕ → ℕ → Frame
 piece_frame piece whole at = record { old = piece; new = whole; move = λ n. n + at; from = 0; to = at; end = length piece }
@@ -97,7 +97,7 @@ zone_piece piece whole rest at here border =
       cut = λ {u} {v} {c} same_text char below. omega (arith, not_over whole (at + length piece) border same_text char (omega arith));
     }
 
--- the new bytes, in the new text
+-- from the start of the edit on, the new text has the new bytes and then the text after the stretch
 pub new_bytes : (edit : Edit) (text : List ℕ) → edit.start ≤ length text
     → drop edit.start (edited edit text) ≡ edit.bytes ++ drop edit.end text
 new_bytes edit text within =
@@ -105,9 +105,9 @@ new_bytes edit text within =
     ∙ drop_at (take edit.start text) (edit.bytes ++ drop edit.end text) edit.start
     (length-take-le edit.start text within)
 
--- ---- texts that are known
+-- ---- known texts
 
--- a character of ASCII, and what stands after it
+-- an ASCII character that is the next byte is parsed there
 pub ascii_stands : (text rest : List ℕ) (at c : ℕ) → c < 128 → drop at text ≡ c ∷ rest → CharAt (place text at) c (place text (at + 1))
 ascii_stands text rest at c small here =
     let width : len_utf8 c ≡ 1 = len_utf8_ascii c small in

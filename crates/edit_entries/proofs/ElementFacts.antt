@@ -1,4 +1,4 @@
--- An element of a value, where it stands in another text.
+-- A piece of a value in another text.
 use Rattle.std.proofs.Common.{◌≡◌, ℕ, ◌-◌, ◌<◌, ◌≤◌, true, false, List, [], ◌∷◌, ◌++◌, length, drop, codes, refl, sym, ap, ◌∙◌, arith, length-append}
 use Rattle.std.specs.Prelude.{◌==◌, encode_utf8}
 use Rattle.std.specs.Char.{is_ascii_digit}
@@ -19,7 +19,7 @@ use Rattle.edit_entries.proofs.ZoneFacts.{Frame, Zone, Inside, there, inside_bet
 use Rattle.edit_entries.proofs.GrammarFacts.{below_char}
 use Rattle.edit_entries.proofs.StandsFacts.{Stands, between_stands, joined, stands_between, stands_char}
 
--- ---- what may stand after an element
+-- ---- characters that can end a piece
 
 pub record Ending (v : Place) : Type 0 where
   pub char : ℕ
@@ -58,12 +58,12 @@ number_until {f} z iu iv ending (number.broken char digit digits point others en
     (record { run = run_there z c iv others.run; stops = stops_at is_ascii_digit ending.here ending.no_digit })
     (stops_at (λ d. d == 46) ending.here ending.no_point)
 
--- ---- what stands before an element
+-- ---- characters before a piece
 
 abbrev pub before : Place → List ℕ
 before u = between (place u.text 0) (place u.text u.at)
 
--- neither a brace nor a quote stands before this place
+-- neither a brace nor a quote is directly before this place
 pub record NotOpened (u : Place) : Type 0 where
   pub no_brace : ends_with eqb (before u) (codes "{") ≡ false
   pub no_quote : ends_with eqb (before u) (codes "\"") ≡ false
@@ -76,11 +76,11 @@ ends_last xs c d =
 pub start_stands : (u : Place) → u.at ≤ length u.text → Stands (place u.text 0) (before u) u
 start_stands u within = stands_between {u = place u.text 0} {v = u} (record { text = refl; at = omega arith }) within
 
--- a character of ASCII is its byte
+-- the text of an ASCII character is its byte
 pub one_byte : {u v : Place} (c : ℕ) → c < 128 → CharAt u c v → between u v ≡ c ∷ []
 one_byte {u} {v} c small char = between_stands (encode_utf8 c) (stands_char char) ∙ encode_ascii c small
 
--- bytes one after another
+-- the text between two places is that up to a third one and that after it
 pub parted : {u v w : Place} → Ahead u v → Ahead v w → w.at ≤ length u.text → between u w ≡ between u v ++ between v w
 parted {u} {v} {w} first rest within =
     let size : length v.text ≡ length u.text = ap length first.text in
@@ -88,13 +88,13 @@ parted {u} {v} {w} first rest within =
     (joined (between u v) (between v w) (stands_between first (omega (arith, rest.at)))
     (stands_between rest (omega arith)))
 
--- a character, and what stands after it
+-- the text between two places is the bytes of its first character and the text after it
 pub char_parted : {u w v : Place} {c : ℕ} → CharAt u c w → Ahead w v → v.at ≤ length u.text → between u v ≡ encode_utf8 c ++ between w v
 char_parted {u} {w} {v} {c} char ahead within =
     parted (ahead_char char) ahead within
     ∙ ap (λ t. t ++ between w v) (between_stands (encode_utf8 c) (stands_char char))
 
--- the text up to the end of an ASCII character is the text before the character, and then the character
+-- the text up to the end of an ASCII character is the text before it and its byte
 pub before_char : {u v : Place} (c : ℕ) → c < 128 → CharAt u c v → before v ≡ before u ++ c ∷ []
 before_char {u} {v} c small char =
     let within : v.at ≤ length u.text = omega (arith, char_within char, ap length char.same) in

@@ -1,4 +1,4 @@
--- An element that stands in another text.
+-- A piece that is copied into another text.
 use Rattle.std.proofs.Common.{ℕ, ◌+◌, ◌-◌, ◌≤◌, length, sym, subst}
 use Rattle.bib_text.specs.Places.{Place, between}
 use Rattle.bib_text.proofs.PlaceFacts.{ahead_char, ahead_run}
@@ -14,7 +14,7 @@ use Rattle.edit_entries.proofs.GrammarFacts.{below_char, braced_there, quoted_th
 use Rattle.edit_entries.proofs.ElementFacts.{Ending, identifier_until, number_until}
 use Rattle.edit_entries.proofs.StandsFacts.{Stands, copy_frame, copied_before}
 
--- an element of a zone, up to where no name and no number goes on
+-- a piece in a zone is parsed at the moved place, if the next character can't continue a name or a number
 element_until : {f : Frame} {u v : Place} {e : Piece} → Zone f → Inside f u → Inside f v → Ending (there f v)
     → Element longest u e v → Element longest (there f u) (moved_piece f.move e) (there f v)
 element_until {f} {u} {v} z iu iv ending (element.number n) =
@@ -27,7 +27,7 @@ element_until {f} {u} {v} z iu iv ending (element.named none i) =
 element_until z iu iv ending (element.braced b) = element.braced (braced_there z iu iv b)
 element_until z iu iv ending (element.quoted q) = element.quoted (quoted_there z iu iv q)
 
--- a piece whose bytes also occur in another text is parsed there, with a moved span, if the next character can't continue it
+-- a piece whose bytes are in another text is parsed there with a moved span, if the next character can't continue it
 pub element_stands : {a b u v : Place} {e : Piece} → Element longest a e b → b.at ≤ length a.text
     → Stands u (between a b) v → Ending v → Element longest u (moved_piece (λ n. n - a.at + u.at) e) v
 element_stands {a} {b} {u} {v} {e} x within s ending =

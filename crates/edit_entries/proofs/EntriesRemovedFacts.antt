@@ -32,9 +32,9 @@ use Rattle.edit_entries.proofs.RemovedFacts.{after_run, entry_removed_read, take
 use Rattle.edit_entries.proofs.SelectedFacts.{Chain, chain_kept}
 use Rattle.edit_entries.proofs.SplitFacts.{FileBefore, ahead_file_before, split_file}
 
--- ---- where the next entry begins
+-- ---- the start of the next entry
 
--- where the first of these entries begins, or else a text ends
+-- the byte offset at which the first of these entries begins, or else the end of the text
 abbrev next_start : List EntryReading → ℕ → ℕ
 next_start [] end = end
 next_start (e ∷ es) end = e.start
@@ -43,13 +43,13 @@ next_past : (text : List ℕ) (at : ℕ) (es : List EntryReading) → AreEntries
 next_past text at [] cut = cut.0
 next_past text at (e ∷ es) cut = cut.0.ordered
 
--- a file goes on to its first entry
+-- a file begins at or before its first entry
 reaches : (text : List ℕ) {u : Place} {says : FileReading} → u.text ≡ text → File longest u says
     → u.at ≤ next_start says.entries (length text)
 reaches text {u} {says} same x =
     next_past text u.at says.entries (entries_cut text u.at same refl (cut_file text same x) (by_entries x))
 
--- a character of a text, before a byte offset
+-- a character begins at a place and ends at or before a byte offset
 record IsCharacterBefore (u : Place) (high : ℕ) : Type 0 where
   char : ℕ
   next : Place
@@ -98,7 +98,7 @@ after_entries text same (file.block b x) =
     let sign = b.head.sign in
     inr (record { char = _; next = _; here = sign; before = omega (arith, char_within sign, ap length sign.same, ap length same) })
 
--- at a place of a file: the next entry, the end of the file, or a character before them
+-- a place in a file is the start of the next entry or the end of the file, or a character before these begins there
 first_character : (text : List ℕ) {u : Place} {says : FileReading} → u.text ≡ text → ByEntries u says
     → (u.at ≡ next_start says.entries (length text)) ⊎ IsCharacterBefore u (next_start says.entries (length text))
 first_character text {u} same (ByEntries.last x none) =
@@ -112,23 +112,23 @@ first_character text {u} same (ByEntries.more {rest = rest} {e = e} first none b
 
 -- ---- one entry
 
--- no character that passes a test begins where the same text goes on
+-- if no character that passes a test begins a text, none begins the same text elsewhere
 stops_moved : (test : ℕ → Bool) (x y : List ℕ) (a b : ℕ) → drop a x ≡ drop b y → Stops test (place x a) → Stops test (place y b)
 stops_moved test x y a b same stops c v char = stops c _ (char_here x (drop v.at y) a c (same ∙ char.here))
 
--- a text after a stretch that is removed
+-- after a stretch is removed, the text at its start is the text that was after it
 same_rest : (start end : ℕ) (text : List ℕ) → start ≤ length text
     → drop start (edited (record { start = start; end = end; bytes = [] }) text) ≡ drop end text
 same_rest start end text within =
     let same : start ≡ start + length {A = ℕ} [] = omega arith in
     ap (λ m. drop m (edited (record { start = start; end = end; bytes = [] }) text)) same ∙ after.rest start end [] text within
 
--- a document without its later entries with selected keys; the text before them doesn't end with white space
+-- a document without its later entries with selected keys; no white space is at the byte offset `at`
 pub record Removals (d : Document) (later : List Edit) (before rest : List EntryReading) (at : ℕ) : Type 0 where
   pub chain : Chain d later before rest at
   pub stops : Stops is_whitespace (place chain.after.text at)
 
--- the reading without one entry
+-- if a reading has an entry between others except for byte offsets, it has only the others after the entry is removed
 removed_alike : (d new : Document) (before rest : List EntryReading) (e : EntryReading) (at : ℕ)
     → placeless new.says ≡ placeless (of_entries d.says (before ++ e ∷ rest))
     → placeless (entry_removed new (length before) e at).says ≡ placeless (of_entries d.says (before ++ rest))
@@ -143,7 +143,7 @@ removed_alike d new before rest e at alike =
     ∙ ap (of_entries (placeless d.says)) (taken_out view before rest e k refl ∙ sym (map-append view before rest))
 
 module _ (d : Document) (read : IsDocument d) where
-  -- the entry e is removed
+  -- if later entries are removed, the document without the entry `e` and the white space after it is one without them, too
   removal_step : (before es rest : List EntryReading) (later : List Edit) (e : EntryReading) (n : ℕ) → d.says.entries ≡ before ++ e ∷ es
       → AreEntriesCut d.text e.start (e ∷ es) → Longest is_whitespace (place d.text (e.end + 1)) (place d.text n)
       → Removals d later (before ++ e ∷ []) rest (next_start es (length d.text))
@@ -235,7 +235,7 @@ module _ (d : Document) (read : IsDocument d) where
       length_take (suc n) [] = omega arith
       length_take (suc n) (x ∷ xs) = omega (arith, length_take n xs)
 
-  -- the entry e is kept
+  -- if later entries are removed, the entry `e` can be kept
   stays_step : (before es rest : List EntryReading) (later : List Edit) (e : EntryReading) → d.says.entries ≡ before ++ e ∷ es
       → AreEntriesCut d.text e.start (e ∷ es) → Removals d later (before ++ e ∷ []) rest (next_start es (length d.text))
       → Removals d later before (e ∷ rest) e.start
@@ -314,7 +314,7 @@ module _ (d : Document) (read : IsDocument d) where
       within_order d.text 0 (length d.text) edits
       (within_earlier d.text 0 at (length d.text) edits (omega arith) (entries_removed selected edits removals).chain.within)
 
--- what a call that removes entries returns
+-- if a call returns a text with the edits that remove the selected entries, it returns the document without them
 pub removal_answer : {S E : Type 0} (bytes : S → List ℕ) (r : Result S E) (d : Document) (selected : List ℕ → Bool) (edits : List Edit)
     → IsDocument d → AreRemovals d.text (filter (has_selected_key selected) d.says.entries) edits
     → IfOk r (λ new. bytes new ≡ edited_all edits d.text) → IfOk r (λ new. IsEdited (EntriesRemoved d selected) (bytes new))

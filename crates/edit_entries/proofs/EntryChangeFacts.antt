@@ -34,7 +34,7 @@ can_be_kept (f ∷ fs) = tt
 
 -- ---- the change of the entry whose type begins at a byte offset
 
--- the changes of entries: this one for that entry, and none for the others
+-- the changes of entries: this one for the entry whose type begins at `start`, and none for the others
 abbrev pub at_start : ℕ → EntryChange → EntryReading → EntryChange
 at_start start change e = cond (e.kind.start == start) change no_change
 
@@ -81,7 +81,7 @@ start_in text at (suc k) (x ∷ xs) e order here =
       start_in text order.0 k xs e order.4 here,
     )
 
--- an entry before another one
+-- the type of the first entry begins before that of each later one
 earlier_start : (text : List ℕ) (at k : ℕ) (x : EntryReading) (xs : List EntryReading) (e : EntryReading) → AreEntriesIn text at (x ∷ xs)
     → slice_get xs k ≡ Some e → x.kind.start < e.kind.start
 earlier_start text at k x xs e order here =
@@ -182,7 +182,7 @@ module _ (d : Document) (k : ℕ) (e : EntryReading) (change : EntryChange) (rea
   pub entry_edits_in_order : AreEditsInOrder d.text 0 (edits_of_entry d.text e change)
   entry_edits_in_order = subst (AreEditsInOrder d.text 0) known.0 (changes_in_order d changes read utf8)
 
-  -- the reading of the text with this change
+  -- if the entry can have this change, the new text parses to the reading with it, except for byte offsets
   pub entry_changed_read : CanEntryChange e change
       → IsReadPlaceless (record d.says { entries = slice_set d.says.entries k (entry_changed e change) })
       (edited_all (edits_of_entry d.text e change) d.text)

@@ -17,7 +17,7 @@ use Rattle.edit_entries.proofs.SplitFacts.{EntryBlock, block_of}
 use Rattle.edit_entries.proofs.StandsFacts.{Copy, Stands, ascii, copied, copy_frame, last_part, past}
 use Rattle.edit_entries.proofs.ZoneFacts.{Frame, Inside, Zone, there}
 
--- an entry parses from its bytes in another text, with moved byte offsets
+-- an entry parses from its bytes at a place of another text, with moved byte offsets
 pub record EntryCopy (e : EntryReading) (a b u v : Place) : Type 0 where
   pub copy : Copy a b u v
   pub block : Block longest u (entry_alone (moved_entry (λ n. n - a.at + u.at) e)) v
@@ -67,7 +67,7 @@ entry_copied {a} {b} {u} {v} {e} x s =
               omega (arith, ap (λ x. x.at) at)
         ]
 
--- the zone of the rest of a text, after its last entry
+-- the zone from `a` to the end of its text, which is moved to `u`
 abbrev rest_frame : Place → Place → Frame
 rest_frame a u = record { old = a.text; new = u.text; move = λ n. n - a.at + u.at; from = a.at; to = u.at; end = length a.text + 1 }
 

@@ -1,4 +1,4 @@
--- A text that is edited in one of its entries, or in one field of an entry.
+-- A text after an edit in one of its entries, or in one field of an entry.
 use Rattle.std.proofs.Common.{◌≡◌, ℕ, ◌+◌, ◌<◌, ◌≤◌, List, ◌∷◌, ◌++◌, length, map, refl, sym, ap, ◌∙◌, subst, arith}
 use Rattle.std.specs.Prelude.{slice_set}
 use Rattle.std.proofs.lemmas.Str.{len_utf8_bounds}
@@ -18,11 +18,11 @@ use Rattle.edit_entries.proofs.GrammarFacts.{below_between, below_char, gap_ther
 use Rattle.edit_entries.proofs.SplitFacts.{EntryBlock, EntrySplit, FieldSplit, ahead_fields_before, ahead_fields_after, ahead_file_before, block_of, joined_fields, joined_file}
 use Rattle.edit_entries.proofs.MovedFacts.{exchanged, fields_before_there, fields_after_there, file_before_there, file_there, says_exchanged}
 
--- where a place of a text goes in an edit
+-- the place in the edited text of a place of the old text
 abbrev pub goes : Edit → List ℕ → Place → Place
 goes edit text u = place (edited edit text) (moved_place edit u.at)
 
--- a place before the stretch, and one after it
+-- a place before the stretch is in the zone before it
 pub before_stretch : (edit : Edit) (text : List ℕ) {u : Place} → Fits edit text → u.text ≡ text → u.at < edit.start
     → Inside (before_frame edit text) u
 before_stretch edit text fits same before = inside (zone_before edit text fits) same (omega arith) before
@@ -33,13 +33,13 @@ after_stretch edit text {u} fits same past within =
     let size : length u.text ≡ length text = ap length same in
     inside (zone_after edit text fits.ordered fits.within) same past (omega arith)
 
--- a place before the stretch, or where it begins
+-- a place before the end of the stretch and not after its start is in the zone before it
 pub before_or_at : (edit : Edit) (text : List ℕ) {u : Place} → u.text ≡ text → u.at ≤ edit.start → u.at < edit.end
     → Inside (before_frame edit text) u
 before_or_at edit text {u} same before below =
     record { text = same; start = omega arith; end = before; moved = ap (λ n. n + 0) (moved_before edit u.at below) }
 
--- the parts of an entry up to the comma after its key, up to its fields, and up to its end
+-- the comma after the key of an entry ends after the start of the entry
 pub ahead_to_comma : {u v : Place} {e : EntryReading} → (b : EntryBlock u e v) → Ahead u b.after_comma
 ahead_to_comma b =
     ahead_then (ahead_head b.head) (ahead_then (ahead_run b.key.run) (ahead_then (ahead_run b.white.run) (ahead_char b.comma)))
@@ -50,12 +50,12 @@ ahead_to_fields b = ahead_then (ahead_to_comma b) (ahead_gap b.gap)
 pub ahead_entry : {u v : Place} {e : EntryReading} → EntryBlock u e v → Ahead u v
 ahead_entry b = ahead_then (ahead_to_fields b) (ahead_then (ahead_fields b.fields) (ahead_char b.closes))
 
--- the text before a field
+-- a field begins at or after the start of the file
 pub ahead_to_field : {u : Place} {says : FileReading} {e : EntryReading} {f : FieldReading} {j k : ℕ} → (s : EntrySplit u says e k)
     → (g : FieldSplit s.block.fields_start e.fields f j s.block.brace) → Ahead u g.start
 ahead_to_field s g = ahead_then (ahead_file_before s.first) (ahead_then (ahead_to_fields s.block) (ahead_fields_before g.first))
 
--- a text with another entry in the place of one, where the stretch lies in it
+-- if the stretch is in an entry and the new text has another entry there, it parses to the document with the other entry
 pub entry_edited_read : (d : Document) (edit : Edit) (k : ℕ) (e e' : EntryReading) → Fits edit d.text
     → (s : EntrySplit (place d.text 0) d.says e k) → s.start.at < edit.start → edit.end ≤ s.end.at
     → Block longest (goes edit d.text s.start) (entry_alone e') (goes edit d.text s.end) → IsDocument (entry_edited d edit k e')
@@ -83,7 +83,8 @@ entry_edited_read d edit k e e' fits s before past block =
     subst (λ n. File longest (place (edited edit d.text) n) (entry_edited d edit k e').says) zero
     (subst (λ says. File longest (goes edit d.text (place d.text 0)) says) (said ∙ named) whole)
 
--- an entry with other fields, where the stretch lies between the comma after its key and its closing brace
+-- if the stretch is between the comma after the key and the closing brace, and the new text has other fields there, it parses to the entry
+-- with these
 pub fields_edited_read : (d : Document) (edit : Edit) (k : ℕ) (e : EntryReading) (news : List FieldReading) {start : Place}
     → Fits edit d.text → (s : EntrySplit (place d.text 0) d.says e k) → s.block.after_comma.at ≤ edit.start
     → s.block.after_comma.at < edit.end → edit.end ≤ s.block.brace.at
@@ -146,7 +147,7 @@ fields_edited_read d edit k e news {start} fits s before below past gap list =
     ))
     (omega (arith, past, (ahead_char b.closes).at)) (block_of block)
 
--- an entry with another field in the place of one, where the stretch lies in it
+-- if the stretch is in a field and the new text has another field there, it parses to the document with the other field
 pub field_edited_read : (d : Document) (edit : Edit) (k : ℕ) (e : EntryReading) (j : ℕ) (f f' : FieldReading) → Fits edit d.text
     → (s : EntrySplit (place d.text 0) d.says e k) → (g : FieldSplit s.block.fields_start e.fields f j s.block.brace)
     → g.start.at < edit.start → edit.end ≤ g.end.at

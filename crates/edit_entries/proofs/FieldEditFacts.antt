@@ -1,4 +1,4 @@
--- Edits of a field of several entries at once can be made.
+-- An edit of a field of several entries at once can be made.
 use Rattle.std.proofs.Common.{◌≡◌, ℕ, length, Result, Ok, Err, Bool, true, false, cond, List, [], ◌∷◌, ◌++◌, map, refl, sym, ap, ◌∙◌, subst, append-nil}
 use Rattle.std.specs.Borrow.{Bor}
 use Rattle.std.specs.BTreeSet.{BTreeSet}
@@ -26,7 +26,7 @@ use Rattle.edit_entries.proofs.NewValueFacts.{CanBeRead}
 use Rattle.edit_entries.proofs.PartFacts.{AreEntriesIn, file_in}
 use Rattle.edit_entries.proofs.SetFacts.{first_within, names_in, put_can, set_can, signs_in}
 
--- ---- where fields stand
+-- ---- byte offsets of fields
 
 entries_placed : (text : List ℕ) (at : ℕ) (es : List EntryReading) → AreEntriesIn text at es
     → AllByRecursion (λ e. AllByRecursion (IsPlaced text) e.fields) es → AllByRecursion (HaveFieldsPlaced text) es
@@ -86,7 +86,7 @@ edited_can text definitions at (Rename old new) e placed can_name can_value =
 
 -- ---- the edits
 
--- the edit that puts a new field before the first one
+-- the edit of an entry that gets a new field before its first one
 pub field_first_edits : (text name : List ℕ) (value : SetValue) (fs : List FieldReading) (first : FieldReading) (others : List FieldReading)
     → fs ≡ first ∷ others
     → edits_of_fields text fs (new_field_first text name value fs).fields
@@ -98,7 +98,7 @@ field_first_edits text name value fs first others are =
     ap (λ l. edits_of_fields text l (new_field_first text name value l).fields) are
     ∙ ap (λ es. name_edit first lead ∷ es) (no_edits text others)
 
--- an entry that has the new name of a field gets no edits
+-- an entry that already has a field with the new name gets no edits
 pub names_kept : (text old new : List ℕ) (e : EntryReading) (edits : List Edit) → has_named new e ≡ true
     → edits ≡ edits ++ edits_of_entry text e (cond (has_named new e) unchanged (names_changed old new e))
 names_kept text old new e edits has =
@@ -108,7 +108,7 @@ names_kept text old new e edits has =
 
 -- ---- all changes
 
--- the changes of entries by an edit of a field of some of them can be made
+-- if the name can be a new one and the value can be written, each entry can have its change by the edit
 pub selected_can : (text : List ℕ) (definitions : List FieldReading) (at : ℕ) (keys : BTreeSet (Bor (List ℕ))) (edit : FieldEdit)
     (es : List EntryReading)
     → AllByRecursion (HaveFieldsPlaced text) es → CanBeNewName (edit_name edit) → HasFitValue definitions at edit
@@ -120,7 +120,7 @@ selected_can text definitions at keys edit (e ∷ es) placed can_name can_value 
   selected_can text definitions at keys edit es placed.1 can_name can_value,
 )
 
--- the text of the edit is refused, and so is the edit
+-- if the text of an edit is refused, the edit is refused
 pub edit_refused : (d : Document) (selected : List ℕ → Bool) (edit : FieldEdit) (error : EditError)
     → EditTextIsRefused d.says.abbreviations (first_start selected (length d.text) d.says.entries) edit error
     → FieldEditIsRefused d selected edit error
@@ -169,7 +169,7 @@ refused_same d f g same edit DefinitionIsThere why = why
 refused_same d f g same edit NoFieldLeft why = why
 refused_same d f g same edit OutOfMemory why = tt
 
--- an edit of the same entries is refused for the same reasons
+-- an edit of entries that are selected by an equal test is refused for the same reasons
 pub same_refused : {S : Type 0} (r : Result S EditError) (d : Document) (f g : List ℕ → Bool) → ((key : List ℕ) → f key ≡ g key)
     → (edit : FieldEdit) → IfErr r (FieldEditIsRefused d f edit) → IfErr r (FieldEditIsRefused d g edit)
 same_refused (Ok new) d f g same edit why = _

@@ -1,4 +1,4 @@
--- A document with names of types and fields exchanged, from the last to the first: one more field.
+-- A document after names of types and fields are replaced, from the last to the first: one more field.
 use Rattle.std.proofs.Common.{◌≡◌, inl, inr, ℕ, zero, suc, ◌<◌, ◌≤◌, List, [], ◌∷◌, ◌++◌, length, map, refl, sym, ap, ◌∙◌, subst, arith, Some}
 use Rattle.std.specs.Prelude.{option_map, slice_get}
 use Rattle.std.specs.List.{remove}
@@ -20,7 +20,7 @@ use Rattle.edit_entries.proofs.UnsetFacts.{ends_before, field_removed_read, fiel
 use Rattle.edit_entries.proofs.KindFacts.{IsWithin}
 use Rattle.edit_entries.proofs.PutFacts.{Begins, fields_put, put_at}
 
--- a field's name and its value stand one after the other
+-- a field has a name that isn't empty, and then its value
 pub field_span : (d : Document) (k : ℕ) (e : EntryReading) (j : ℕ) (f : FieldReading) → IsDocument d
     → slice_get d.says.entries k ≡ Some e → slice_get e.fields j ≡ Some f
     → (f.name.start < f.name.end) × (f.name.end ≤ f.value.start) × (f.value.start ≤ f.value.end)
@@ -41,7 +41,7 @@ field_span d k e j f read here there =
       omega (arith, field.starts, field.ends, (ahead_elements field.elements).at),
     )
 
--- an entry with other fields in the place of one agrees with what it was up to that field
+-- an entry still agrees up to the start of an edit in a field after other fields replace this field
 put_agrees : (d : Document) (edit : Edit) (k : ℕ) (e entry : EntryReading) (j : ℕ) (f : FieldReading)
     (news : List FieldReading) → IsDocument d → edit.start < edit.end → edit.start < f.value.end
     → slice_get d.says.entries k ≡ Some e → slice_get e.fields j ≡ Some f → AgreesIn edit.start e entry
@@ -86,14 +86,14 @@ put_agrees d edit k e entry j f news read some inside here there a =
               ]
         ]
 
--- some in the place of the element with an index
+-- if elements replace one element, the first of them is at its index
 get_put_first : {A : Type 0} (xs : List A) (x y : A) (others : List A) (j : ℕ) → slice_get xs j ≡ Some y
     → slice_get (put_at j (x ∷ others) xs) j ≡ Some x
 get_put_first [] x y others j there = absurd (cc)
 get_put_first (z ∷ zs) x y others zero there = refl
 get_put_first (z ∷ zs) x y others (suc j) there = get_put_first zs x y others j there
 
--- none in its place
+-- if an element is removed, the next one is at its index
 get_put_none : {A : Type 0} (xs : List A) (j : ℕ) → slice_get (put_at j [] xs) j ≡ slice_get xs (suc j)
 get_put_none [] j = refl
 get_put_none (x ∷ xs) zero = refl
@@ -105,7 +105,7 @@ none_put [] (suc j) = refl
 none_put (x ∷ xs) zero = refl
 none_put (x ∷ xs) (suc j) = ap (λ l. x ∷ l) (none_put xs j)
 
--- an edit of a field puts other fields in its place, wherever the field stands in a document that agrees with this one up to its end
+-- an edit of a field replaces it by other fields in each document that agrees with this one up to the end of the field
 pub record IsPut (d : Document) (f : FieldReading) (edit : Edit) (news : List FieldReading) : Type 0 where
   pub start : f.name.start ≤ edit.start
   pub inside : edit.start < f.value.end
@@ -114,7 +114,7 @@ pub record IsPut (d : Document) (f : FieldReading) (edit : Edit) (news : List Fi
       → (made : List FieldReading) × (map (moved_field (λ n. 0)) made ≡ map (moved_field (λ n. 0)) news)
       × IsWithin edit after.text × IsDocument (fields_put after edit k entry j made) × Begins made f.name.start
 
--- if the edits of later parts are made, an edit that replaces the field `f` by the fields `news` is made too
+-- if the edits of later parts are made, an edit that replaces the field `f` by the fields `news` can be made too
 field_stepped : (d : Document) (edits : List Edit) (before others : List EntryReading) (e p entry : EntryReading)
     (fb now fs : List FieldReading) (f g : FieldReading) (edit : Edit) (news given : List FieldReading)
     → IsDocument d → slice_get d.says.entries (length before) ≡ Some e
@@ -198,7 +198,7 @@ field_made d edits before others e p fb now fs f edit news read here there field
     ∙ get_put_first all starts.first (moved_field (moved_place edit) f) starts.others j moved_there)
     starts.start
 
--- with a field taken out, up to the one after it
+-- if the edits of later parts are made, the edit that removes the field `f` up to the next one can be made too
 pub field_gone : (d : Document) (edits : List Edit) (before others : List EntryReading) (e p : EntryReading)
     (fb now fs : List FieldReading) (f g : FieldReading) → IsDocument d
     → slice_get d.says.entries (length before) ≡ Some e

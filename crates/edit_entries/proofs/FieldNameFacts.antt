@@ -20,15 +20,15 @@ use Rattle.edit_entries.proofs.KindFacts.{IsWithin}
 use Rattle.edit_entries.proofs.PutFacts.{NewFields, fields_put, fields_put_read}
 use Rattle.edit_entries.proofs.NameStandsFacts.{name_stands}
 
--- another name in the place of a field's
+-- the edit that replaces a field's name
 abbrev pub name_stretch : FieldReading → List ℕ → Edit
 name_stretch f name = record { start = f.name.start; end = f.name.end; bytes = name }
 
--- a field with this name, which begins where the other did
+-- a field with this name, which begins at the same byte offset
 abbrev pub with_name : List ℕ → FieldReading → FieldReading
 with_name name f = record f { name = text_at f.name.start name }
 
--- the stretch of a field's name
+-- a field's name isn't empty
 pub name_some : {u v : Place} {f : FieldReading} → Field longest u f v → f.name.start < f.name.end
 name_some field =
     omega (
@@ -40,7 +40,7 @@ name_some field =
       (ahead_run field.name.rest.run).at,
     )
 
--- a field in a text in which another name replaces its name: it is read with each identifier that the new bytes are read as
+-- an edit that replaces a field's name: the field with another name is parsed if an identifier ends after the new bytes
 pub record NameReplaced (edit : Edit) (text : List ℕ) (f : FieldReading) (v : Place) : Type 0 where
   pub some : edit.start < edit.end
   pub within : edit.end ≤ length text

@@ -31,14 +31,14 @@ pub record GapAndFields (u : Place) (fs : List FieldReading) (v : Place) : Type 
   pub gap : Gap longest u start
   pub fields : Fields longest start fs v
 
--- the fields after a byte offset of a text, and the gap before them
+-- a gap and the fields after it, from a byte offset of a text on
 pub record FieldsFrom (text : List ℕ) (at : ℕ) (fs : List FieldReading) (v : Place) : Type 0 where
   pub from : Place
   pub is : from.at ≡ at
   pub same : from.text ≡ text
   pub rest : GapAndFields from fs v
 
--- a line end is white space up to its line feed
+-- the text from a line end to its line feed is white space
 line_end_run : (text : List ℕ) (n : ℕ) → Run is_whitespace (place text (line_end_at text n)) (place text n)
 line_end_run text zero = by_case (has_byte_at text 0 13)
   where
@@ -166,7 +166,7 @@ fields_from {v = v} {w = w} {fs = fs} text e j f here stops trimmed limit closed
         absurd (char_clash comma brace refl)
     by_case false false c b closed = absurd (cc)
 
--- the fields after the comma at a byte offset
+-- if a comma is at the end of the gap after a value, the following fields begin after that comma
 pub fields_past : {u v w : Place} {fs : List FieldReading} (text : List ℕ) (f : FieldReading) (g : ℕ) → u ≡ place text f.value.end
     → gap_end text f.value.end (length text) ≡ g → has_byte_at text g 44 ≡ true → FieldsAfter u fs v → CharAt v 125 w
     → FieldsFrom text (g + 1) fs v

@@ -1,4 +1,4 @@
--- Values that can be written: their bytes are read as their pieces.
+-- Values that can be written: their bytes parse to their pieces.
 use Rattle.std.proofs.Common.{◌≡◌, ℕ, ◌+◌, ◌-◌, Bool, true, false, cond, List, [], ◌∷◌, ◌++◌, length, map, take, drop, refl, sym, ap, ◌∙◌, subst, arith, append-nil}
 use Rattle.std.specs.Prelude.{◌==◌, ◌&&◌}
 use Rattle.std.specs.Char.{is_ascii_digit}
@@ -96,7 +96,7 @@ no_number : (text : List ℕ) → begins_with_digit text ≡ false → is_bare_n
 no_number [] none = refl
 no_number (b ∷ bs) none = ap (λ d. d && list_all is_ascii_digit bs) none
 
--- ---- each value that is fit
+-- ---- each value that can be written
 
 pub fit_read : (definitions : List FieldReading) (at : ℕ) (value : SetValue) → IsWritableAt definitions at value
     → CanBeRead (new_value value)

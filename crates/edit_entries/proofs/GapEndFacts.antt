@@ -68,7 +68,7 @@ bytes_run bytes test each text (x ∷ xs) rest at here =
     by_case false is others =
         let same : at ≡ at + 0 = omega arith in subst (λ n. Run test (place text at) (place text n)) same stop
 
--- the bytes between two byte offsets, and those after them
+-- the text from a byte offset on is the text up to another one and the rest
 cut_here : (text : List ℕ) (start end : ℕ)
     → drop start text ≡ between (place text start) (place text end) ++ drop (end - start) (drop start text)
 cut_here text start end = sym (take-append-drop (end - start) (drop start text))
@@ -122,7 +122,7 @@ byte_same text at c d first second =
 
 -- ---- runs
 
--- a run is cut at a border
+-- a run is two runs if a character begins at a byte offset within it
 pub run_cut : {test : ℕ → Bool} {u v : Place} (text : List ℕ) (at : ℕ) → u.text ≡ text → Border (place text at) → Run test u v → u.at ≤ at
     → at ≤ v.at → Run test u (place text at) × Run test (place text at) v
 run_cut {test} {u} text at same border stop from to =
@@ -151,7 +151,7 @@ in_line_feed c is = grind (arith, nat_tests)
 
 -- ---- a line comment
 
--- the first byte that fails a test
+-- if not all bytes pass a test, the byte after the longest prefix that passes fails it
 stop_byte : (test : ℕ → Bool) (xs rest : List ℕ) → prefix_len test xs < length xs
     → (b : ℕ) × (has_byte_at (xs ++ rest) (prefix_len test xs) b ≡ true) × (test b ≡ false)
 stop_byte test [] rest less = absurd (omega (arith, less))
@@ -180,7 +180,7 @@ stopped test text start end less within =
     sym (drop-drop k start text) ∙ byte_drop (drop start text) k found.0 here in
     (found.0, drop_byte text (drop (k + 1) (drop start text)) (start + k) found.0 bytes, found.2)
 
--- a line comment ends at the first line feed
+-- a line comment with a character after it ends at the first line feed, which is this character
 pub comment_line : {w x : Place} {c : ℕ} (text : List ℕ) (sign end : ℕ) → LineComment (place text sign) w → CharAt w c x → w.at ≤ end
     → end ≤ length text → (w ≡ place text (after_bytes is_no_line_feed text sign end)) × (c ≡ 10) × (sign < w.at)
 comment_line {w} {x} {c} text sign end m char below within =
@@ -222,7 +222,7 @@ comment_line {w} {x} {c} text sign end m char below within =
 
 -- ---- the end of a gap
 
--- a gap ends where its bytes do, if they end at a byte that is neither white space nor a percent sign
+-- a gap ends at `gap_end` if the byte there is ASCII and neither white space nor a percent sign
 pub gap_found : {v x : Place} {c : ℕ} (text : List ℕ) (at end b : ℕ) → Gap longest (place text at) v → CharAt v c x → v.at ≤ end
     → end ≤ length text → b < 128 → is_whitespace b ≡ false → (37 == b) ≡ false → has_byte_at text (gap_end text at end) b ≡ true
     → v ≡ place text (gap_end text at end)
@@ -257,7 +257,7 @@ gap_found {v} {x} {c} text at end b g char below within small dark plain = by_ca
         runs_same left.run left.stops (white_after text n end)
         (stops_at is_whitespace (byte_char text (after_bytes is_ascii_whitespace text n end) b small is) dark)
 
--- a gap's bytes end after its start
+-- `gap_end` is at or after the start of the gap
 pub gap_past : (text : List ℕ) (at end : ℕ) → at ≤ gap_end text at end
 gap_past text at end = by_case (has_byte_at text (after_bytes is_ascii_whitespace text at end) 37)
   where
@@ -269,7 +269,7 @@ gap_past text at end = by_case (has_byte_at text (after_bytes is_ascii_whitespac
     by_case true = omega arith
     by_case false = omega arith
 
--- a gap's bytes end up to where it is looked for
+-- `after_bytes` is at most each byte offset that is at or after both ends
 pub after_within : (test : ℕ → Bool) (text : List ℕ) (start end most : ℕ) → start ≤ most → end ≤ most
     → after_bytes test text start end ≤ most
 after_within test text start end most first last =
@@ -298,7 +298,7 @@ gap_within text start end most first last = by_case (has_byte_at text s 37)
 
 -- ---- the fields after a gap
 
--- what is at the start of fields after white space
+-- a character other than `%` is at a place with this byte offset
 pub record Starts (u : Place) (at : ℕ) : Type 0 where
   pub char : ℕ
   pub next : Place

@@ -1,4 +1,4 @@
--- What the rules of the file grammar read in a zone that two texts share, in the one and in the other.
+-- Parts of the file grammar that begin in a zone of two texts, in both texts.
 use Rattle.std.proofs.Common.{◌≡◌, ℕ, ◌<◌, ◌≤◌, false, List, [], ◌++◌, map, sym, ap, ◌∙◌, subst, arith, inl, inr}
 use Rattle.std.specs.Prelude.{◌==◌, not}
 use Rattle.std.specs.Char.{is_whitespace, len_utf8}
@@ -23,11 +23,11 @@ use Rattle.bib_syntax.proofs.FileFacts.{ahead_head, ahead_body, ahead_line_comme
 use Rattle.edit_entries.specs.Edits.{moved_part, moved_piece, moved_field, moved_entry, moved_file}
 use Rattle.edit_entries.proofs.ZoneFacts.{Frame, Zone, Inside, there, inside_between, char_there, char_back, stops_there, run_there, longest_there, parts_there, between_there, part_there}
 
--- a place before the end of the zone
+-- a place before one in the zone is before the end of the zone
 pub below_between : (f : Frame) {v w : Place} → Ahead w v → v.at < f.end → w.at < f.end
 below_between f {v} {w} ahead below = omega (arith, ahead.at)
 
--- a place at which a character of the zone begins lies before the end of the zone
+-- a place at which a character of the zone begins is before the end of the zone
 pub below_char : {f : Frame} {u v : Place} {c : ℕ} → Inside f v → CharAt u c v → u.at < f.end
 below_char {f} {u} {v} {c} iv char =
     let width : 1 ≤ len_utf8 c = (len_utf8_bounds c).0 in
@@ -240,7 +240,7 @@ pub head_there : {f : Frame} {u v : Place} {kind : Part} → Zone f → Inside f
     → Head longest u kind v → Head longest (there f u) (moved_part f.move kind) (there f v)
 head_there z iu iv below h = head_until z iu iv (stops_there is_whitespace z iv below h.white'.stops) h
 
--- the reading of a preamble
+-- the reading of a preamble without entries and abbreviations
 abbrev says_preamble : List ℕ → FileReading
 says_preamble text = record { preamble = text; entries = []; abbreviations = [] }
 
@@ -307,7 +307,7 @@ block_there {f} z iu iv b =
         (ahead_then (ahead_char comma) (ahead_then (ahead_gap g) (ahead_fields list)))))
         (below_char iv closes)
 
--- what two stretches say one after the other, moved
+-- moving two readings one after the other is moving each of them
 pub moved-then : (move : ℕ → ℕ) (first rest : FileReading)
     → moved_file move (then first rest) ≡ then (moved_file move first) (moved_file move rest)
 moved-then move first rest =

@@ -1,4 +1,4 @@
--- Facts on the indices of entries by names.
+-- Facts about the indices of entries by names.
 use Rattle.std.proofs.Common.{◌≡◌, ℕ, suc, ◌+◌, ◌<◌, Bool, true, false, cond, List, [], ◌∷◌, ◌++◌, Option, Some, None, length, map, take, get_or, refl, sym, ap, ◌∙◌, arith}
 use Rattle.std.specs.Prelude.{String, bytes_eq, is_some}
 use Rattle.std.specs.Borrow.{Bor}
@@ -19,21 +19,21 @@ pub none_after : (found : Option ℕ) → first_found found None ≡ found
 none_after None = refl
 none_after (Some i) = refl
 
--- the index for a name that has one stays
+-- if a name already has an index, giving it another one changes nothing
 stays : (is : Bool) (found : Option ℕ) (index : ℕ) → (is ≡ true → is_some found ≡ true)
     → found ≡ first_found found (cond is (Some index) None)
 stays true None index some = absurd (let clash : false ≡ true = some refl in cc)
 stays true (Some own) index some = refl
 stays false found index some = sym (none_after found)
 
--- the index for a name that has none is given
+-- if a name has no index, it gets the new one, and other names keep theirs
 given : (is : Bool) (old new : Option ℕ) (index : ℕ) → (is ≡ true → is_some old ≡ false)
     → new ≡ cond is (Some index) old → new ≡ first_found old (cond is (Some index) None)
 given true None new index none same = same
 given true (Some own) new index none same = absurd (let clash : true ≡ false = none refl in cc)
 given false old new index none same = same ∙ sym (none_after old)
 
--- the index is given to one more name
+-- giving an index to names and then to one more name gives it to all of them
 pub given_more : (found : Option ℕ) (one others : Bool) (index : ℕ)
     → first_found (first_found found (cond others (Some index) None)) (cond one (Some index) None)
     ≡ first_found found (cond (cond one true others) (Some index) None)
@@ -58,7 +58,7 @@ gets_index old new name other index none same =
     given (bytes_eq name other) (index_for old other) (index_for new other) index
     (λ is. ap (λ n. is_some (index_for old n)) (sym ((bytes_eq-Decides name other).0 is)) ∙ none) same
 
--- the same for names in lowercase
+-- if a name has an index in lowercase, giving it another one changes nothing
 pub has_word_index : {A : Type 0} (indices : BTreeMap (String A) ℕ) (low name other : List ℕ) (index : ℕ)
     → low ≡ str_to_ascii_lowercase name → is_some (get_by_text indices low) ≡ true
     → index_for_word indices other ≡ first_found (index_for_word indices other) (cond (is_word name other) (Some index) None)
@@ -96,7 +96,7 @@ first_append test (y ∷ ys) x =
     here false true n None all same = ap next_index same
     here false false n None all same = ap next_index same
 
--- the first entry among some and one more
+-- the first entry that passes among some and one more is the first of them, or else the last one if it passes
 pub first_more : {A : Type 0} (view : A → EntryReading) (test : EntryReading → Bool) (xs : List A) (i : ℕ) (x : A)
     → i < length xs → x ≡ get_or xs i x
     → first_position test (map view (take (i + 1) xs))
@@ -106,7 +106,7 @@ first_more view test xs i x within is =
     ap (first_position test) (mapped_more view xs i x within is) ∙ first_append test (map view (take i xs)) (view x)
     ∙ ap (λ n. first_found (first_position test (map view (take i xs))) (cond (test (view x)) (Some n) None)) size
 
--- an index is given to one more entry
+-- if an index is that of the first entry that passes, it is after one more entry gets its index if it passes
 pub index_more : {A : Type 0} (view : A → EntryReading) (test : EntryReading → Bool) (xs : List A) (i : ℕ) (x : A) (old new : Option ℕ)
     → i < length xs → x ≡ get_or xs i x → old ≡ first_position test (map view (take i xs))
     → new ≡ first_found old (cond (test (view x)) (Some i) None)

@@ -1,4 +1,4 @@
--- A text after another: what the two say, one after the other.
+-- A text after another one: the reading is both readings one after the other.
 use Rattle.std.proofs.Common.{◌≡◌, inl, inr, ℕ, ◌+◌, ◌-◌, ◌<◌, ◌≤◌, Bool, true, false, cond, codes, List, [], ◌∷◌, ◌++◌, length, take, drop, map, refl, sym, ap, ◌∙◌, subst, arith, append_assoc, length-append}
 use Rattle.std.specs.Prelude.{◌==◌, ◌&&◌, nat_lt, not}
 use Rattle.std.specs.List.{before_first, ends_with, position_or_len}
@@ -20,7 +20,7 @@ use Rattle.edit_entries.proofs.ZoneFacts.{Frame, Inside, Zone, char_there, insid
 use Rattle.edit_entries.proofs.GrammarFacts.{block_there, line_comment_there}
 use Rattle.edit_entries.proofs.MovedFacts.{body_within, file_there, run_within}
 
--- ---- what stays where it is
+-- ---- parts that aren't moved
 
 same_pieces : (ps : List Piece) → map (moved_piece (λ n. n)) ps ≡ ps
 same_pieces [] = refl
@@ -148,7 +148,7 @@ zone_second first second =
       cut = λ {u} {v} {c} same char below. omega (arith, char_left char, char.next, ap length same, length-append first (10 ∷ second));
     }
 
--- with a line feed between them
+-- two texts with a line feed between them parse to both readings one after the other
 feed_joined : (d more : Document) → IsDocument d → IsDocument more
     → IsRawReading (d.text ++ 10 ∷ more.text) (then d.says (moved_file (λ n. n + (length d.text + 1)) more.says))
 feed_joined d more read reads =
@@ -168,7 +168,7 @@ feed_joined d more read reads =
 
 -- ---- a carriage return after a text
 
--- nothing is said at the end of a text
+-- the reading at the end of a text is empty
 nothing_said : {u : Place} {says : FileReading} → AtEnd u → File longest u says → says ≡ empty_reading
 nothing_said end (file.end again) = refl
 nothing_said end (file.skipped char passes x) = absurd (no_char_at_end end char)

@@ -73,7 +73,7 @@ field_inside d k e j f read here there =
       end = omega (arith, field.ends, (ahead_fields_after g.rest).at, b.ends);
     }
 
--- entries are in the order of a text
+-- entries that may be cut out from a byte offset on begin at or after it
 start_past : (text : List ℕ) (at : ℕ) (es : List EntryReading) (k : ℕ) (e : EntryReading) → AreEntriesCut text at es
     → slice_get es k ≡ Some e → at ≤ e.start
 start_past text at [] k e cut here = absurd (cc)
@@ -100,7 +100,7 @@ fields_stay move [] each = refl
 fields_stay move (f ∷ fs) each =
     ap (λ g. g ∷ map (moved_field move) fs) (each 0 f refl) ∙ ap (λ gs. f ∷ gs) (fields_stay move fs (λ j. each (suc j)))
 
--- an entry that ends before another one is kept if byte offsets up to the start of that one are
+-- an entry before another one is kept if byte offsets up to the start of the other are
 pub entry_stays : (d : Document) (i k : ℕ) (x e : EntryReading) (move : ℕ → ℕ) → IsDocument d → slice_get d.says.entries i ≡ Some x
     → slice_get d.says.entries k ≡ Some e → i < k → ((n : ℕ) → n ≤ e.start → move n ≡ n) → moved_entry move x ≡ x
 entry_stays d i k x e move read first second less stays =
@@ -149,7 +149,7 @@ within_append text at mid low end [] ys small first second = within_earlier text
 within_append text at mid low end (x ∷ xs) ys small first second =
     (first.0, first.1, first.2, first.3, within_append text x.end mid low end xs ys small first.4 second)
 
--- the text before them is kept
+-- the text before these edits is kept
 pub front_kept : (text : List ℕ) (at end : ℕ) (edits : List Edit) → AreEditsWithin text at end edits
     → take at (edited_all edits text) ≡ take at text
 front_kept text at end [] within = refl
@@ -167,7 +167,7 @@ front_kept text at end (edit ∷ rest) within =
     length_take (suc n) [] = omega arith
     length_take (suc n) (x ∷ xs) = omega (arith, length_take n xs)
 
--- edits one after the other
+-- making two lists of edits is making the second, and then the first
 pub edited_append : (xs ys : List Edit) (text : List ℕ) → edited_all (xs ++ ys) text ≡ edited_all xs (edited_all ys text)
 edited_append [] ys text = refl
 edited_append (x ∷ xs) ys text = ap (edited x) (edited_append xs ys text)

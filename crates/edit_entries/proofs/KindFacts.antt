@@ -1,4 +1,4 @@
--- An entry with the name of its entry type replaced.
+-- An entry whose type has another name.
 use Rattle.std.proofs.Common.{◌≡◌, inr, ℕ, ◌+◌, ◌<◌, ◌≤◌, List, length, drop, sym, ap, ◌∙◌, subst, arith, Some}
 use Rattle.std.specs.Prelude.{slice_get}
 use Rattle.std.proofs.lemmas.Str.{len_utf8_bounds}
@@ -17,15 +17,15 @@ use Rattle.edit_entries.proofs.EntryFacts.{entry_edited_read, goes}
 use Rattle.edit_entries.proofs.ValueFacts.{run_stands}
 use Rattle.edit_entries.proofs.NameStandsFacts.{name_stands}
 
--- another name in the place of that of an entry's type
+-- the edit that replaces the name of an entry's type
 abbrev pub kind_stretch : EntryReading → List ℕ → Edit
 kind_stretch e name = record { start = e.kind.start; end = e.kind.end; bytes = name }
 
--- an entry with this name of its type, which begins where the other did
+-- an entry with this name of its type, which begins at the same byte offset
 abbrev pub with_kind : List ℕ → EntryReading → EntryReading
 with_kind name e = record e { kind = text_at e.kind.start name }
 
--- the place of a stretch that isn't empty, in the text
+-- a stretch isn't empty, and begins in the text or at its end
 pub record IsWithin (edit : Edit) (text : List ℕ) : Type 0 where
   pub some : edit.start < edit.end
   pub within : edit.start ≤ length text

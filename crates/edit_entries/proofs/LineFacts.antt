@@ -1,4 +1,4 @@
--- An entry without a field and its line.
+-- An entry without a field and without the field's line.
 use Rattle.std.proofs.Common.{◌≡◌, inr, ℕ, suc, ◌+◌, ◌-◌, ◌<◌, ◌≤◌, Bool, true, false, cond, List, [], ◌∷◌, ◌++◌, length, map, refl, sym, ap, ◌∙◌, subst, arith, Some}
 use Rattle.std.specs.Prelude.{◌==◌, slice_get}
 use Rattle.std.specs.List.{remove}
@@ -30,7 +30,7 @@ use Rattle.edit_entries.proofs.ValueFacts.{gap_stands}
 
 -- ---- the comma before a field
 
--- fields with the gaps before them, from after a comma to after a later one
+-- fields with the gaps and commas after them, from one place to another
 pub data UpTo : Place → List FieldReading → Place → Type 0 where
   nothing : {u : Place} → UpTo u [] u
   more : {u v w x y z : Place} {f : FieldReading} {fs : List FieldReading} → Gap longest u v → Field longest v f w → Gap longest w x
@@ -68,7 +68,7 @@ pub last_end : ℕ → List FieldReading → ℕ
 last_end end [] = end
 last_end end (f ∷ fs) = last_end f.value.end fs
 
--- where the key or the value before a field ends, and the comma after it
+-- the end of the key or value before a field, which is at the byte offset `end`, and the comma after it
 pub record CommaBefore (u : Place) (fs : List FieldReading) (end : ℕ) (a : Place) : Type 0 where
   pub from : Place
   pub sign : Place
@@ -115,7 +115,7 @@ end_is e j (b ∷ before) following f whole index =
 
 -- ---- the whole
 
--- an edit after the comma before a field that removes the field in a document: the new text has the reading without it
+-- an edit after the comma before a field removes it: the new text parses to the document without the field
 pub record LineRemoved (d : Document) (k : ℕ) (e : EntryReading) (j : ℕ) (f : FieldReading) (low : ℕ) (edit : Edit) : Type 0 where
   pub read : IsDocument (field_cut d k e j edit)
   pub past : e.key.end ≤ edit.start
@@ -126,14 +126,14 @@ pub record LineRemoved (d : Document) (k : ℕ) (e : EntryReading) (j : ℕ) (f 
   pub start_cut : IsCharBoundary d.text edit.start
   pub end_cut : IsCharBoundary d.text edit.end
 
--- the gap that an edit leaves between the comma before a field and what is after the stretch
+-- the text between the comma before a field and the next part is a gap after the edit
 abbrev pub LeftGap : (d : Document) (edit : Edit) (u v w : Place) → Type 0
 LeftGap d edit u v w =
     Zone (before_frame edit d.text) → Zone (after_frame edit d.text) → Inside (before_frame edit d.text) u
     → Inside (after_frame edit d.text) v → Inside (after_frame edit d.text) w → w.at < length d.text + 1
     → Gap longest (goes edit d.text u) (goes edit d.text w)
 
--- an edit from after the comma before a field to after its value
+-- an edit from after the comma before a field up to the next fields removes it, if a gap is left between them
 pub cut_removed : (d : Document) (k : ℕ) (e : EntryReading) (j : ℕ) (f : FieldReading) (edit : Edit)
     → (s : EntrySplit (place d.text 0) d.says e k) → (g : FieldSplit s.block.fields_start e.fields f j s.block.brace)
     → {end : ℕ} → (c : CommaBefore s.block.after_comma g.before end g.start)
@@ -196,7 +196,7 @@ cut_removed d k e j f edit s g {end} c r low low_is after_comma over some border
           subst (λ n. IsCharBoundary text n) r.is (subst (λ t. IsCharBoundary t r.from.at) r.same (char_boundary opens.here));
     }
 
--- no character goes over the place where an edit without new bytes cuts a text
+-- after an edit without new bytes before fields, a character or the end of the text is at its start
 pub border_left : (edit : Edit) (text : List ℕ) {fs : List FieldReading} {v w : Place} → edit.bytes ≡ [] → edit.start ≤ edit.end
     → FieldsFrom text edit.end fs v → CharAt v 125 w → Border (place (edited edit text) edit.start)
 border_left edit text none ordered r closes =
@@ -226,7 +226,7 @@ border_left edit text none ordered r closes =
           (char_there z2 jr jn opens.here),
     )
 
--- where a field's comma ends
+-- the comma of a field ends after the start of the field
 pub comma_past : (text : List ℕ) (e : EntryReading) (j : ℕ) (f : FieldReading) {u v : Place} → Field longest u f v
     → u.at < comma_end text e j f
 comma_past text e j f {u} field =
@@ -259,7 +259,7 @@ comma_past text e j f {u} field =
     by_case false true false past first last = omega (arith, first, last)
     by_case false false cr past first last = omega (arith, first)
 
--- the comma before a field
+-- the place of a field in its entry, with the comma before it
 pub record Preceded (d : Document) (k : ℕ) (e : EntryReading) (j : ℕ) (f : FieldReading) : Type 0 where
   pub s : EntrySplit (place d.text 0) d.says e k
   pub g : FieldSplit s.block.fields_start e.fields f j s.block.brace
@@ -319,7 +319,7 @@ before_name d k e j f read here there' =
       ),
     )
 
--- the place after the comma before a field
+-- the comma before a field is at `comma_before`, if a comma is there
 pub comma_place : (d : Document) (k : ℕ) (e : EntryReading) (j : ℕ) (f : FieldReading) → (a : Preceded d k e j f)
     → has_byte_at d.text (comma_before d.text e j f) 44 ≡ true → a.c.after ≡ place d.text (comma_before d.text e j f + 1)
 comma_place d k e j f a comma =
@@ -335,7 +335,7 @@ comma_place d k e j f a comma =
     same_place {u = c.after} {v = place text (comma_before text e j f + 1)} (c.comma.same ∙ ap (λ p. p.text) sign_is)
     (omega (arith, c.comma.next, len_utf8_ascii 44 (omega arith), ap (λ p. p.at) sign_is))
 
--- the comma before a field, which ends at a byte offset, and the fields from another one on
+-- the comma before a field, which ends at the byte offset `start`, and the following fields, from the byte offset `end` on
 pub record Surroundings (d : Document) (k : ℕ) (e : EntryReading) (j : ℕ) (f : FieldReading) (start end : ℕ) : Type 0 where
   pub s : EntrySplit (place d.text 0) d.says e k
   pub g : FieldSplit s.block.fields_start e.fields f j s.block.brace
@@ -360,7 +360,7 @@ surroundings d k e j f read here there' trimmed comma closed =
       after = comma_place d k e j f a comma;
     }
 
--- its own comma is in the entry
+-- the comma of a field ends in its entry, if commas or a brace are found around the field
 pub comma_within : (d : Document) (k : ℕ) (e : EntryReading) (j : ℕ) (f : FieldReading) → IsDocument d
     → slice_get d.says.entries k ≡ Some e → slice_get e.fields j ≡ Some f → IsTrimmed d.text f
     → has_byte_at d.text (comma_before d.text e j f) 44 ≡ true → is_closed d.text e j f ≡ true → comma_end d.text e j f ≤ e.end
@@ -368,7 +368,7 @@ comma_within d k e j f read here there' trimmed comma closed =
     let a = surroundings d k e j f read here there' trimmed comma closed in
     omega (arith, a.r.is, (ahead_gap a.r.rest.gap).at, (ahead_fields a.r.rest.fields).at, a.s.block.ends)
 
--- an edit from after the comma before a field to the fields after it
+-- an edit from after the comma before a field to the following fields removes the field
 pub line_cut : (d : Document) (k : ℕ) (e : EntryReading) (j : ℕ) (f : FieldReading) (start end : ℕ) → Surroundings d k e j f start end
     → start < end → f.name.start < end → LineRemoved d k e j f start (record { start = start; end = end; bytes = [] })
 line_cut d k e j f start end a some over =

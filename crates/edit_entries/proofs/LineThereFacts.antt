@@ -1,4 +1,4 @@
--- An edit that removes a field of an entry removes it after edits of later fields, too.
+-- An edit that removes a field also removes it after edits of later fields.
 use Rattle.std.proofs.Common.{◌≡◌, ℕ, zero, suc, ◌+◌, ◌<◌, ◌≤◌, true, List, [], ◌∷◌, length, take, refl, ap, ◌∙◌, arith, Some}
 use Rattle.std.specs.Prelude.{slice_get}
 use Rattle.std.specs.Option.{option_map_or}
@@ -20,7 +20,7 @@ byte_inside [] n c is = absurd (cc)
 byte_inside (b ∷ bs) zero c is = omega arith
 byte_inside (b ∷ bs) (suc n) c is = omega (arith, byte_inside bs n c is)
 
--- the next field or the closing brace is after what an edit removes
+-- the edit ends at or before the next field or the closing brace
 pub limit_after : (d : Document) (k : ℕ) (e : EntryReading) (j : ℕ) (f : FieldReading) (start end : ℕ)
     → Surroundings d k e j f start end → (end ≤ field_limit e j) × (field_limit e j ≤ length d.text)
 limit_after d k e j f start end a =
@@ -41,7 +41,7 @@ limit_after d k e j f start end a =
       ),
     )
 
--- a field with a comma and without a comment before it, in a document with the same text up to that comma
+-- a field between two commas is removed by the same edit in a document with the same text up to the second comma
 pub line_there : (d after : Document) (k : ℕ) (e x : EntryReading) (n : ℕ) (f : FieldReading) → IsDocument after
     → slice_get after.says.entries k ≡ Some x → slice_get x.fields n ≡ Some f → end_before x n ≡ end_before e n
     → take (comma_after d.text e n f + 1) after.text ≡ take (comma_after d.text e n f + 1) d.text

@@ -1,4 +1,4 @@
--- A document with names of types and fields exchanged, from the last to the first: one more name of a type.
+-- A document after names of types and fields are replaced, from the last to the first: one more name of a type.
 use Rattle.std.proofs.Common.{◌≡◌, inl, inr, ℕ, zero, suc, ◌<◌, ◌≤◌, List, [], ◌∷◌, ◌++◌, length, map, refl, sym, ap, ◌∙◌, subst, arith, Some}
 use Rattle.std.specs.Prelude.{option_map, slice_get, slice_set}
 use Rattle.std.proofs.lemmas.Bool.Decides.{eqb_tells}
@@ -20,15 +20,15 @@ use Rattle.edit_entries.proofs.KindFacts.{IsWithin, kind_exchanged_read, kind_st
 use Rattle.edit_entries.proofs.PutFacts.{fields_put, put_at, put_is}
 use Rattle.bib_text.proofs.ListFacts.{get_here, get_set, map_set}
 
--- ---- what is known where the edits from a place on are made
+-- ---- documents after the edits from a byte offset on
 
--- the names of the types of entries that stand before a place are where they were
+-- the names of types that end at or before a byte offset are the same at the same byte offsets
 abbrev pub KindsAgree : ℕ → Document → Document → Type 0
 KindsAgree at d after =
     (k : ℕ) (e : EntryReading) → slice_get d.says.entries k ≡ Some e → e.kind.end ≤ at
     → (entry : EntryReading) × (slice_get after.says.entries k ≡ Some entry) × (entry.kind ≡ e.kind)
 
--- what a file says, with these entries
+-- a reading with these entries instead of its own
 abbrev pub of_entries : FileReading → List EntryReading → FileReading
 of_entries says es = record says { entries = es }
 
@@ -51,7 +51,7 @@ less_made d edits entries at less small made = record {
   alike = made.alike;
 }
 
--- the field with an index of the entry with one begins at a place
+-- the entry at the index `k` has a field at the index `j`, which begins at a byte offset
 pub record StandsAt (after : Document) (k j at : ℕ) : Type 0 where
   pub entry : EntryReading
   pub field : FieldReading
@@ -59,12 +59,12 @@ pub record StandsAt (after : Document) (k j at : ℕ) : Type 0 where
   pub there : slice_get entry.fields j ≡ Some field
   pub start : field.name.start ≡ at
 
--- the first of some fields begins where it did
+-- if there are fields, the first of them begins at the same byte offset in the new document
 abbrev pub FirstStands : Document → ℕ → ℕ → List FieldReading → Type 0
 FirstStands after k j [] = Unit {0}
 FirstStands after k j (f ∷ fs) = StandsAt after k j f.name.start
 
--- the same, and the first of the fields from an index of an entry on begins where it did
+-- the edits are made, and the first of some fields begins at the same byte offset as before
 pub record MadeFrom (d : Document) (edits : List Edit) (entries : List EntryReading) (at k j : ℕ) (fs : List FieldReading) : Type 0 where
   pub made : Made d edits entries at
   pub first : FirstStands made.after k j fs
@@ -83,7 +83,7 @@ less_made_from d edits entries at less k j fs small from = record {
   first = from.first;
 }
 
--- a field that stays begins where it did
+-- if the edits after a field are made, the field begins at the same byte offset as before
 pub stays_made : (d : Document) (edits : List Edit) (entries : List EntryReading) (k j : ℕ) (e : EntryReading)
     (f : FieldReading) (fs : List FieldReading) → slice_get d.says.entries k ≡ Some e
     → slice_get e.fields j ≡ Some f → Made d edits entries f.value.end
@@ -103,7 +103,7 @@ stays_made d edits entries k j e f fs here there made =
 
 -- ---- the names of types
 
--- where the name of an entry's type stands
+-- the name of an entry's type isn't empty and ends at or before its key
 pub kind_some : (d : Document) (k : ℕ) (e : EntryReading) → IsDocument d → slice_get d.says.entries k ≡ Some e
     → (e.kind.start < e.kind.end) × (e.kind.end ≤ e.key.start)
 kind_some d k e read here =
@@ -151,7 +151,7 @@ kinds_edited d after edit k e entry read a some here kept i x there below =
           )
     ]
 
--- ---- what is said
+-- ---- readings without byte offsets
 
 map_put : {A B : Type 0} (view : A → B) (xs news : List A) (j : ℕ) → map view (put_at j news xs) ≡ put_at j (map view news) (map view xs)
 map_put view [] news j = refl
@@ -164,7 +164,7 @@ get_put (x ∷ xs) news zero i less = absurd (omega arith)
 get_put (x ∷ xs) news (suc j) zero less = refl
 get_put (x ∷ xs) news (suc j) (suc i) less = get_put xs news j i (omega arith)
 
--- without places
+-- an entry without byte offsets
 abbrev entry_alone_placeless : EntryReading → EntryReading
 entry_alone_placeless e = moved_entry (λ n. 0) e
 
@@ -179,7 +179,7 @@ module _ (d after : Document) (edit : Edit) (before others : List EntryReading) 
   moved_alike : placeless (moved_file move after.says) ≡ placeless (of_entries d.says (before ++ p ∷ others))
   moved_alike = file_placeless move after.says ∙ alike
 
-  -- an entry, once its places are moved
+  -- the entry at the index of `p`, moved, is `p` except for byte offsets
   pub entry_alike : (entry : EntryReading) → slice_get after.says.entries k ≡ Some entry
       → entry_alone_placeless (moved_entry move entry) ≡ entry_alone_placeless p
   entry_alike entry here =
@@ -207,7 +207,7 @@ module _ (d after : Document) (edit : Edit) (before others : List EntryReading) 
       ap (λ says. of_entries says (map view (slice_set all k entry))) moved_alike
       ∙ ap (of_entries (placeless (of_entries d.says (before ++ p ∷ others)))) entries
 
-  -- with other fields in the place of one
+  -- the reading with other fields instead of one is the reading with the new fields, except for byte offsets
   pub put_alike : (entry : EntryReading) (fb now : List FieldReading) (f : FieldReading) (news made : List FieldReading)
       → slice_get after.says.entries k ≡ Some entry → p.fields ≡ fb ++ f ∷ now
       → map (moved_field (λ n. 0)) made ≡ map (moved_field (λ n. 0)) news

@@ -1,4 +1,4 @@
--- A file that is cut around an entry, and an entry's fields that are cut around one of them, in an edited text.
+-- In an edited text: a file that is cut around an entry, and an entry's fields that are cut around one of them.
 use Rattle.std.proofs.Common.{◌≡◌, ℕ, ◌+◌, ◌<◌, ◌≤◌, Bool, List, ◌∷◌, ◌++◌, length, map, refl, sym, ap, ◌∙◌, subst, arith}
 use Rattle.std.specs.Prelude.{slice_set}
 use Rattle.std.proofs.lemmas.List.{length-map, map-append, set_at}
@@ -76,7 +76,7 @@ body_within (body.preamble quoted white closes is_brace) = char_within closes
 body_within (body.strings fs closes) = char_within closes
 body_within (body.entry key_end key white comma g list closes) = char_within closes
 
--- a place of the text from the start of a zone that has no end
+-- a place after one in a zone that goes to the end of the text is in the zone
 pub inside_rest : {f : Frame} {u v : Place} → Zone f → f.end ≡ length f.old + 1 → Inside f u → Ahead u v → v.at ≤ length v.text → Inside f v
 inside_rest {f} {u} {v} z whole iu ahead within =
     let text : v.text ≡ f.old = ahead.text ∙ iu.text in
@@ -100,16 +100,16 @@ file_there {f} {u} z whole sizes iu (file.block {first = first} {rest = rest} b 
     subst (λ says. File longest (there f u) says) (sym (moved-then f.move first rest))
     (file.block (block_there z iu a b) (file_there z whole sizes a x))
 
--- ---- what the whole says
+-- ---- the whole reading
 
--- lists with another element in the place of one
+-- a mapped list with one element replaced is the mapped lists around it, with the new element between them
 pub exchanged : {A B : Type 0} (move : A → B) (before following : List A) (x : A) (y : B) (k : ℕ) → length before ≡ k
     → slice_set (map move (before ++ x ∷ following)) k y ≡ map move before ++ y ∷ map move following
 exchanged move before following x y k index =
     ap (λ l. slice_set l k y) (map-append move before (x ∷ following))
     ∙ set_at (map move before) (move x) (map move following) y k (length-map before move ∙ index)
 
--- what is said with another entry in the place of one
+-- moved readings with another entry between them are the whole moved reading with the entry replaced
 pub says_exchanged : (move : ℕ → ℕ) (before following : FileReading) (e e' : EntryReading) (k : ℕ) → length before.entries ≡ k
     → then (moved_file move before) (then (entry_alone e') (moved_file move following))
     ≡ record (moved_file move (then before (then (entry_alone e) following)))

@@ -1,4 +1,4 @@
--- Facts on the new names of references.
+-- Facts about new names of references.
 use Rattle.std.proofs.Common.{◌≡◌, ℕ, suc, Bool, List, [], ◌∷◌, ◌++◌, Option, Some, None, codes, map, refl, ap, ap₂, ◌∙◌, if◌then◌else◌}
 use Rattle.std.specs.Prelude.{is_some, option_and_then}
 use Rattle.std.specs.Option.{option_map_or}
@@ -56,7 +56,7 @@ module _ (f g : List ℕ → List ℕ → Option (List ℕ)) (same : (field name
   renaming_same index (e ∷ es) =
       ap₂ (λ l m. (key_change (keys index) e ++ l) ++ m) (references_same e.fields) (renaming_same (suc index) es)
 
--- the changes that give entries new keys, by the new names as they are looked up
+-- the changes by the names that a lookup finds are those by `new_reference`, if the lookup agrees with it
 pub renaming_by : (names : Names) (keys : NewKeys) (entries : List EntryReading) → names.keys ≡ keys
     → ((field name : List ℕ) → name_for names field name ≡ new_reference entries (key_for keys) field name)
     → renaming (name_for names) (key_for names.keys) 0 entries ≡ key_renaming (key_for keys) entries
@@ -64,7 +64,7 @@ renaming_by names keys entries own same =
     ap (λ k. renaming (name_for names) (key_for k) 0 entries) own
     ∙ renaming_same (name_for names) (new_reference entries (key_for keys)) same (key_for keys) 0 entries
 
--- a name that means an entry, by the indices that are found
+-- a lookup of a name finds its new key if the maps contain the indices of all keys and names
 pub name_known : (names : Names) (entries : List EntryReading) (keys : NewKeys) (field name : List ℕ) → names.keys ≡ keys
     → index_for names.exact name ≡ first_position (is_keyed name) entries
     → index_for_word names.in_lowercase name ≡ first_position (has_key_word name) entries

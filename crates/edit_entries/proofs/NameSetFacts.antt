@@ -1,4 +1,4 @@
--- Facts on sets of names.
+-- Facts about sets of names.
 use Rattle.std.proofs.Common.{◌≡◌, ◌+◌, ◌||◌, ℕ, Bool, true, false, cond, List, [], ◌∷◌, ◌++◌, refl, sym, ap, ap₂, ◌∙◌, append-nil}
 use Rattle.std.specs.List.{list_any}
 use Rattle.std.proofs.lemmas.List.Concat.{flat_map-append}
@@ -30,7 +30,7 @@ word_more entries e name =
     ∙ list_any-append (λ own. is_word own name) (all_names entries) (entry_names e)
     ∙ or_turned (has_word (all_names entries) name) (has_word (entry_names e) name)
 
--- the names of some entries and one more
+-- if the names of one more entry are added to the set of the names of some entries, it is that of all of them
 pub names_more : (entries : List EntryReading) (e : EntryReading) (names : List (List ℕ)) (old new : List ℕ → Bool)
     → names ≡ entry_names e → AreNamesOf entries old
     → ((name : List ℕ) → holds_name new name ≡ (has_word names name || holds_name old name))
@@ -40,7 +40,7 @@ names_more entries e names old new same are added name =
     ∙ ap₂ (λ a b. a || b) (ap (λ l. has_word l name) same) (are name)
     ∙ sym (word_more entries e name)
 
--- whether an entry shares a name with some entries
+-- a set of the names of entries contains a name of an entry exactly if it shares one with them
 pub shared : (entries : List EntryReading) (e : EntryReading) (names : List (List ℕ)) (has : List ℕ → Bool)
     → names ≡ entry_names e → AreNamesOf entries has → list_any (holds_name has) names ≡ shares_name entries e
 shared entries e names has same are =

@@ -1,4 +1,4 @@
--- The bytes of the name of a type or of a field in a text, and their reading.
+-- The name of a type or of a field in a text: its bytes parse to it.
 use Rattle.std.proofs.Common.{◌≡◌, inr, ℕ, ◌+◌, ◌-◌, false, List, ◌++◌, length, take, drop, refl, sym, ap, ◌∙◌, subst, arith}
 use Rattle.std.proofs.lemmas.List.{take_at}
 use Rattle.bib_text.specs.Places.{Place, place, CharAt, Run, between}

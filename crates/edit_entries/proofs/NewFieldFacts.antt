@@ -1,4 +1,4 @@
--- Fields that are put in the place of one, as they are written with commas between them.
+-- Fields that replace one field, written with commas between them.
 use Rattle.std.proofs.Common.{◌≡◌, ℕ, ◌+◌, ◌-◌, ◌<◌, ◌≤◌, List, [], ◌∷◌, ◌++◌, length, drop, map, codes, refl, sym, ap, ◌∙◌, subst, arith, append_assoc, append-nil, Some}
 use Rattle.std.specs.Prelude.{◌==◌, slice_get}
 use Rattle.std.specs.Char.{is_whitespace}
@@ -31,9 +31,9 @@ use Rattle.edit_entries.proofs.FieldMadeFacts.{IsPut}
 use Rattle.edit_entries.proofs.PutFacts.{Begins, NewFields, fields_put, fields_put_read, new_opens}
 use Rattle.edit_entries.proofs.NameStandsFacts.{name_stands}
 
--- ---- one of them
+-- ---- one field
 
--- a field that can be put in: its name can be one, and its value is read wherever it stands
+-- a field that can be inserted: its name is a name, and its value parses to its pieces anywhere
 pub record CanBePut (n : NewField) : Type 0 where
   pub name : CanBeName n.name
   pub value : CanBeRead n.value
@@ -43,7 +43,7 @@ pub piece_placeless : (move : ℕ → ℕ) (e : Piece) → moved_piece (λ n. 0)
 piece_placeless move (literal p) = refl
 piece_placeless move (abbreviation p) = refl
 
--- the bytes of an element are read as it wherever they stand
+-- the bytes of a piece parse to this piece anywhere
 pub element_read : {a b : Place} {e : Piece} (bytes : List ℕ) → Element longest a e b → b.at ≤ length a.text
     → between a b ≡ bytes → CanBeRead (record { bytes = bytes; pieces = e ∷ [] })
 element_read {a} {b} {e} bytes x within is = λ u v w s ending over no_hash.
@@ -54,7 +54,7 @@ element_read {a} {b} {e} bytes x within is = λ u v w s ending over no_hash.
       alike = ap (λ p. p ∷ []) (piece_placeless move e);
     }
 
--- a field that is put in, where it stands
+-- a new field parses between two places, except for byte offsets
 pub record IsRead (n : NewField) (u w : Place) : Type 0 where
   pub reading : FieldReading
   pub field : Field longest u reading w
@@ -120,9 +120,9 @@ pub field_read : {u v w : Place} (n : NewField) → CanBePut n → Stands u (new
     → Longest is_whitespace v w → Stops (λ c. c == 35) w → IsRead n u w
 field_read n can s ending over no_hash = signed_read n (codes " = ") can usual_sign s ending over no_hash
 
--- ---- all of them
+-- ---- all fields
 
--- fields that are put in, where they stand
+-- new fields with commas between them parse between two places, except for byte offsets
 pub record AreFieldsRead (fields : List NewField) (u w : Place) : Type 0 where
   pub readings : List FieldReading
   pub news : NewFields u readings w
@@ -186,7 +186,7 @@ fields_read {u} {v} {w} n (m ∷ ms) space can all white s ending over no_hash =
           ∙ ap (λ rs. moved_field (λ n. 0) (field_reading n) ∷ rs) others.alike;
     }
 
--- ---- in the place of a field
+-- ---- instead of a field
 
 module _ (d : Document) (f : FieldReading) (n : NewField) (ns : List NewField) (space : List ℕ) (trimmed : IsTrimmed d.text f)
     (ordered : f.name.start < f.value.start) (can : CanBePut n) (all : AllByRecursion CanBePut ns) (blank_between : AreWhite space) where

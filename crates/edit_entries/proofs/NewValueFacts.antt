@@ -1,4 +1,4 @@
--- A field with another value: the bytes of the value are parsed as its elements wherever they occur.
+-- A field with another value: the bytes of the value parse to its pieces anywhere.
 use Rattle.std.proofs.Common.{◌≡◌, inr, ℕ, ◌+◌, ◌<◌, ◌≤◌, true, List, [], ◌∷◌, ◌++◌, length, drop, map, refl, sym, ap, ◌∙◌, subst, arith, Some}
 use Rattle.std.specs.Prelude.{◌==◌, not, ◌&&◌, slice_get}
 use Rattle.std.specs.Char.{is_whitespace, is_control}
@@ -29,21 +29,21 @@ use Rattle.edit_entries.proofs.ElementFacts.{Ending}
 use Rattle.edit_entries.proofs.StandsFacts.{Stands}
 use Rattle.edit_entries.specs.Changes.{NewValue}
 
--- ---- bytes that are read as elements
+-- ---- bytes that parse to pieces
 
--- elements that stand between two places
+-- the text between two places parses to these pieces, except for byte offsets
 pub record AreRead (pieces : List Piece) (u w : Place) : Type 0 where
   pub reading : List Piece
   pub elements : Elements longest u reading w
   pub alike : map (moved_piece (λ n. 0)) reading ≡ map (moved_piece (λ n. 0)) pieces
 
--- elements that stand between two places, about which this is known
+-- the text between two places parses to pieces with this property
 pub record ReadWith (known : Place → List Piece → Type 0) (u w : Place) : Type 0 where
   pub reading : List Piece
   pub elements : Elements longest u reading w
   pub is : known u reading
 
--- bytes are read so wherever they stand, up to where no name and no number goes on, and white space after that
+-- these bytes parse as `read` says wherever the next character can't continue a name or a number, and then white space but no `#` follows
 abbrev pub CanBeReadTo : (Place → Place → Type 0) → List ℕ → Type 0
 CanBeReadTo read bytes =
     (u v w : Place) → Stands u bytes v → Ending v → Longest is_whitespace v w → Stops (λ c. c == 35) w → read u w
@@ -51,7 +51,7 @@ CanBeReadTo read bytes =
 abbrev pub CanBeRead : NewValue → Type 0
 CanBeRead new = CanBeReadTo (AreRead new.pieces) new.bytes
 
--- ---- what stands after a value
+-- ---- the text after a value
 
 white_ending : {u v : Place} {c : ℕ} → CharAt u c v → is_whitespace c ≡ true → Ending u
 white_ending {u} {v} {c} char white = record {
@@ -81,7 +81,7 @@ after_ending (FieldsAfter.more g comma g' rest) closes =
 
 -- ---- a field
 
--- a field, where the places of its old value are known
+-- a field with the stretch of its old value, from the start of the value up to the white space after it
 record ValueStretch (edit : Edit) (text : List ℕ) (f : FieldReading) (u v : Place) : Type 0 where
   field : Field longest u f v
   same : u.text ≡ text
@@ -90,7 +90,7 @@ record ValueStretch (edit : Edit) (text : List ℕ) (f : FieldReading) (u v : Pl
   following : Ending v
   some : edit.start < edit.end
 
--- the elements in the place of a value's
+-- after the edit of a field's value, the new bytes parse as `read` says
 new_elements : (read : Place → Place → Type 0) (edit : Edit) (text bytes : List ℕ) (f : FieldReading) {u v : Place}
     → edit.bytes ≡ bytes → CanBeReadTo read bytes → ValueStretch edit text f u v
     → read (place (edited edit text) edit.start) (goes edit text v)
@@ -175,7 +175,7 @@ fits_value edit text f reading s all =
       border = inr (opens.char, opens.next, opens.here);
     }
 
--- a field with these elements as its value
+-- a field with these pieces as its value
 abbrev pub with_pieces : List Piece → FieldReading → FieldReading
 with_pieces pieces f = record f { value = record f.value { pieces = pieces } }
 
@@ -229,7 +229,7 @@ new_field edit text f reading {u} {v} s all_new =
 
 -- ---- a text with another value of a field
 
--- a document with another value of a field, about which this is known
+-- the edited text parses to the document with other pieces of a field, which have this property
 record IsReplaced (d : Document) (edit : Edit) (k : ℕ) (e : EntryReading) (j : ℕ) (f : FieldReading)
     (known : Place → List Piece → Type 0) : Type 0 where
   reading : List Piece
@@ -238,7 +238,7 @@ record IsReplaced (d : Document) (edit : Edit) (k : ℕ) (e : EntryReading) (j :
   within : edit.start ≤ length d.text
   read : IsDocument (field_edited d edit k e j (with_pieces reading (moved_field (moved_place edit) f)))
 
--- the stretch of a value up to the white space after it
+-- an edit replaces the value of a field without the white space after it
 abbrev pub IsStretch : List ℕ → FieldReading → Edit → Type 0
 IsStretch text f edit =
     (edit.start ≡ f.value.start) × (edit.start ≤ edit.end)
@@ -292,7 +292,7 @@ value_replaced known d edit k e j f new read here there' bytes can at =
         (ahead_then (ahead_char field.sign) (ahead_run field.white'.run))) in
         omega (arith, rest.at, field.name.here.next, (len_utf8_bounds field.name.first).0)
 
--- a document with another value of a field, up to byte offsets
+-- the edited text parses to the document with another value of a field, which is `new` except for byte offsets
 pub record IsExchanged (d : Document) (edit : Edit) (k : ℕ) (e : EntryReading) (j : ℕ) (f : FieldReading) (new : NewValue) : Type 0 where
   pub reading : List Piece
   pub alike : map (moved_piece (λ n. 0)) reading ≡ map (moved_piece (λ n. 0)) new.pieces
@@ -313,7 +313,7 @@ value_exchanged d edit k e j f new read here there bytes can at =
 
 -- ---- a value in braces
 
--- a text in braces is read as one literal, which begins after the brace
+-- a text in braces parses to one literal, which begins after the brace
 pub braced_elements : (value : List ℕ) → CanStandInBraces value
     → CanBeReadTo (ReadWith (λ u reading. reading ≡ literal (text_at (u.at + 1) value) ∷ [])) (in_braces value)
 braced_elements value can u v w stands ending white stops =

@@ -21,7 +21,7 @@ use Rattle.edit_entries.proofs.MadeFacts.{of_entries}
 use Rattle.edit_entries.proofs.RemovalFacts.{begins, field_cut_out, unnamed, with_fields}
 use Rattle.edit_entries.proofs.UnsetFacts.{field_cut}
 
--- an edit that removes a field and no comment of another one
+-- the edit `own_edit` removes a field
 own_removed : (d : Document) (k : ℕ) (e : EntryReading) (j : ℕ) (f : FieldReading) (edit : Edit) → IsDocument d
     → slice_get d.says.entries k ≡ Some e → slice_get e.fields j ≡ Some f → IsTrimmed d.text f → own_edit d.text e j f ≡ Some edit
     → LineRemoved d k e j f (comma_before d.text e j f + 1) edit
@@ -87,7 +87,7 @@ plain_parts text e j f edit is =
 
 -- ---- lists
 
--- the end before a field, if the fields before it are the same
+-- the value or key before a field ends at the same byte offset in two entries with the same key end and fields before it
 ends_same : (e x : EntryReading) (n : ℕ) → x.key.end ≡ e.key.end
     → ((i : ℕ) (f : FieldReading) → i < n → slice_get e.fields i ≡ Some f → slice_get x.fields i ≡ Some f) → n ≤ length e.fields
     → end_before x n ≡ end_before e n
@@ -122,7 +122,7 @@ none_unnamed name (f ∷ fs) none = by_case (has_name name f) (list_any (has_nam
 
 -- ---- the fields from an index on
 
--- the byte offset of the comma before the field with an index, or of the closing brace
+-- the byte offset at which the comma before the field with an index, or before the closing brace, is expected
 abbrev pub comma_at : List ℕ → EntryReading → ℕ → ℕ
 comma_at text e n = gap_end text (end_before e n) (begins e n)
 
@@ -150,7 +150,7 @@ module _ (d : Document) (before others : List EntryReading) (e : EntryReading) (
   is_here : slice_get d.says.entries k ≡ Some e
   is_here = ap (λ es. slice_get es k) whole ∙ get_here before e others
 
-  -- no field has the name
+  -- if no field has the name, nothing is edited
   abbrev untouched : (fb fs : List FieldReading) → e.fields ≡ fb ++ fs → list_any (has_name name) fs ≡ false
       → OwnRemoved d before others e name fb fs []
   untouched fb fs cut none = record {
@@ -170,7 +170,7 @@ module _ (d : Document) (before others : List EntryReading) (e : EntryReading) (
     none = λ is. refl;
   }
 
-  -- a field with the name is removed, after later ones
+  -- a field with the name is removed after later ones, if its edit removes it in the old and in the edited document
   one_more : (fb : List FieldReading) (f : FieldReading) (fs : List FieldReading) (edits : List Edit) (edit : Edit)
       → e.fields ≡ fb ++ f ∷ fs → (rest : OwnRemoved d before others e name (fb ++ f ∷ []) fs edits) → has_name name f ≡ true
       → LineRemoved d k e (length fb) f (comma_at d.text e (length fb) + 1) edit
@@ -205,14 +205,14 @@ module _ (d : Document) (before others : List EntryReading) (e : EntryReading) (
       clash true b named none = cc
       clash false b named none = cc
 
-  -- where a field begins and ends, by its index
+  -- the comma before a field with an index is at `comma_before`
   before_is : (n : ℕ) (f : FieldReading) → slice_get e.fields n ≡ Some f → comma_at d.text e n ≡ comma_before d.text e n f
   before_is n f there = ap (λ o. gap_end d.text (end_before e n) (option_map_or (λ g. g.name.start) o e.end)) there
 
   after_is : (n : ℕ) (f : FieldReading) → slice_get e.fields n ≡ Some f → comma_at d.text e (suc n) ≡ comma_after d.text e n f
   after_is n f there = ap (λ o. gap_end d.text (option_map_or (λ g. g.value.end) o e.key.end) (begins e (suc n))) there
 
-  -- a field without the name
+  -- a field without the name is kept
   passed : (fb : List FieldReading) (f : FieldReading) (fs : List FieldReading) (edits : List Edit) → e.fields ≡ fb ++ f ∷ fs
       → OwnRemoved d before others e name (fb ++ f ∷ []) fs edits → has_name name f ≡ false
       → OwnRemoved d before others e name fb (f ∷ fs) edits
@@ -253,7 +253,7 @@ module _ (d : Document) (before others : List EntryReading) (e : EntryReading) (
         none = λ found. rest.none (sym any ∙ found);
       }
 
-  -- the last field with the name
+  -- the last field with the name is removed by `own_edit`
   last_one : (fb : List FieldReading) (f : FieldReading) (fs : List FieldReading) (edit : Edit) → e.fields ≡ fb ++ f ∷ fs
       → has_name name f ≡ true → list_any (has_name name) fs ≡ false → own_edit d.text e (length fb) f ≡ Some edit
       → OwnRemoved d before others e name fb (f ∷ fs) (edit ∷ [])
@@ -265,7 +265,7 @@ module _ (d : Document) (before others : List EntryReading) (e : EntryReading) (
       (own_removed d k e n f edit read is_here there (trimmed n f there) is) in
       one_more fb f fs [] edit cut (untouched (fb ++ f ∷ []) fs (cut ∙ sym (append_assoc fb (f ∷ []) fs)) none) named own own own.within
 
-  -- a field with the name before another one
+  -- a field with the name before another one with it is removed by `plain_edit`
   earlier_one : (fb : List FieldReading) (f : FieldReading) (fs : List FieldReading) (edit : Edit) (edits : List Edit)
       → e.fields ≡ fb ++ f ∷ fs → OwnRemoved d before others e name (fb ++ f ∷ []) fs edits → has_name name f ≡ true
       → list_any (has_name name) fs ≡ true → plain_edit d.text e (length fb) f ≡ Some edit

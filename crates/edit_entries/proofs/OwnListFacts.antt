@@ -1,4 +1,4 @@
--- Lists of edits that remove fields by themselves, from the first field to the last.
+-- Lists of edits that remove each field by its own edit, from the first field to the last.
 use Rattle.std.proofs.Common.{◌≡◌, ℕ, suc, ◌+◌, ◌-◌, ◌<◌, Bool, true, false, cond, List, [], ◌∷◌, ◌++◌, length, drop, take, get_or, map, refl, sym, ap, ◌∙◌, arith, append_assoc, length-drop, Option, Some, None}
 use Rattle.std.specs.List.{list_any}
 use Rattle.std.proofs.lemmas.List.{drop_more, take_all}
@@ -7,7 +7,7 @@ use Rattle.edit_entries.specs.Documents.{has_name}
 use Rattle.edit_entries.specs.Edits.{Edit}
 use Rattle.edit_entries.specs.Unset.{edit_before, own_edits, with_edit}
 
--- edits and those after them, if there are all
+-- these edits and those after them, or `None` if the latter are missing
 abbrev pub with_edits : List Edit → Option (List Edit) → Option (List Edit)
 with_edits edits None = None
 with_edits edits (Some more) = Some (edits ++ more)

@@ -1,4 +1,4 @@
--- Where the names of types and the fields of a file stand: one after another, and where each may be cut out.
+-- The names of types and the fields of a file are in order, and each may be cut out.
 use Rattle.std.proofs.Common.{inl, inr, ◌≡◌, ℕ, ◌<◌, ◌≤◌, List, [], ◌∷◌, ◌++◌, sym, ap, ◌∙◌, subst, arith, append_assoc, Option, Some, None}
 use Rattle.std.specs.Str.{IsCharBoundary}
 use Rattle.std.specs.List.{AllByRecursion}
@@ -20,24 +20,24 @@ use Rattle.edit_entries.specs.Changes.{EntryChange, FieldChange, edits_of_entrie
 use Rattle.edit_entries.proofs.TrimmedFacts.{IsFieldPlaced, edits_earlier}
 use Rattle.bib_text.proofs.BoundaryFacts.{run_boundary, char_boundary}
 
--- a part that isn't empty, and where it may be cut out
+-- a part that isn't empty and may be cut out
 pub record IsCut (text : List ℕ) (p : Part) : Type 0 where
   pub some : p.start < p.end
   pub start : IsCharBoundary text p.start
   pub end : IsCharBoundary text p.end
 
--- a field, its name before its value
+-- a field whose name may be cut out, and whose value isn't empty and is after the name
 pub record IsIn (text : List ℕ) (f : FieldReading) : Type 0 where
   pub name : IsCut text f.name
   pub ordered : f.name.end ≤ f.value.start
   pub value : f.value.start < f.value.end
 
--- fields, from a place up to another
+-- fields in order between two byte offsets
 abbrev pub AreFieldsIn : List ℕ → ℕ → List FieldReading → ℕ → Type 0
 AreFieldsIn text at [] end = at ≤ end
 AreFieldsIn text at (f ∷ fs) end = (at ≤ f.name.start) × IsIn text f × AreFieldsIn text f.value.end fs end
 
--- the names of entries' types, and their fields, from a place on
+-- the names of types and the fields of entries in order from a byte offset on
 abbrev pub AreEntriesIn : List ℕ → ℕ → List EntryReading → Type 0
 AreEntriesIn text at [] = Unit {0}
 AreEntriesIn text at (e ∷ es) =
@@ -136,14 +136,14 @@ file_in text {u} same (file.block {v = v} {first = first} {rest = rest} b x) =
           subst (λ es. AreEntriesIn text u.at (es ++ rest.entries)) (sym listed) all
     ]
 
--- ---- the edits stand one after another
+-- ---- the edits are in order
 
 part_in_order : (text : List ℕ) (at : ℕ) (p : Part) (new : Option (List ℕ)) (more : List Edit) → at ≤ p.start
     → IsCut text p → AreEditsInOrder text p.end more → AreEditsInOrder text at (part_edits p new ++ more)
 part_in_order text at p None more before cut order = edits_earlier text p.end at more (omega (arith, cut.some)) order
 part_in_order text at p (Some new) more before cut order = (before, omega (arith, cut.some), cut.start, cut.end, order)
 
--- where the first of some fields begins, or else a place
+-- the byte offset at which the first of some fields begins, or else `at`
 abbrev first_place : ℕ → List FieldReading → ℕ
 first_place at [] = at
 first_place at (f ∷ fs) = f.name.start
@@ -153,7 +153,7 @@ first_in : (text : List ℕ) (at end : ℕ) (fs : List FieldReading) → AreFiel
 first_in text at end [] order = (omega arith, order)
 first_in text at end (f ∷ fs) order = (order.0, (omega arith, order.1, order.2))
 
--- an edit that ends where a value does, but for white space
+-- an edit that ends at the trimmed end of a value, and edits after the value, are in order
 stretch_in_order : (text : List ℕ) (at start : ℕ) (f : FieldReading) (bytes : List ℕ) (more : List Edit) → at ≤ start
     → start ≤ f.value.start → IsCharBoundary text start → IsFieldPlaced text f → AreEditsInOrder text f.value.end more
     → AreEditsInOrder text at ((record { start = start; end = value_end text f; bytes = bytes }) ∷ more)

@@ -1,10 +1,10 @@
--- What a file says, without places.
+-- Readings without byte offsets.
 use Rattle.std.proofs.Common.{◌≡◌, ℕ, List, [], ◌∷◌, map, refl, ap, ◌∙◌}
 use Rattle.bib_syntax.specs.Reading.{Piece, FieldReading, EntryReading, FileReading}
 use Rattle.bib_syntax.specs.Reading.Piece.{literal, abbreviation}
 use Rattle.edit_entries.specs.Edits.{moved_piece, moved_field, moved_entry, moved_file, placeless}
 
--- ---- what is said without places
+-- ---- readings without byte offsets
 
 pub pieces_placeless : (move : ℕ → ℕ) (ps : List Piece)
     → map (moved_piece (λ n. 0)) (map (moved_piece move) ps) ≡ map (moved_piece (λ n. 0)) ps

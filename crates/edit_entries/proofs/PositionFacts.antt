@@ -1,10 +1,10 @@
--- The first and the last index at which a test is passed, as a list is gone through.
+-- The first and the last index at which a test is passed, while a loop visits a list.
 use Rattle.std.proofs.Common.{◌≡◌, ℕ, zero, suc, ◌+◌, ◌<◌, Bool, true, false, cond, List, [], ◌∷◌, ◌++◌, length, map, take, drop, get_or, refl, sym, ap, ◌∙◌, arith, Option, Some, None}
 use Rattle.std.specs.Prelude.{slice_get}
 use Rattle.std.proofs.lemmas.List.{take_more, drop_more, take-append-drop, map-append, length-map, length-take-le}
 use Rattle.edit_entries.specs.Documents.{first_position, last_position, next_index, or_first}
 
--- one more element that fails
+-- if no element passes and one more fails, no element passes
 first-push : {A : Type 0} (test : A → Bool) (xs : List A) (x : A) → first_position test xs ≡ None → test x ≡ false
     → first_position test (xs ++ x ∷ []) ≡ None
 first-push test [] x none fails = ap (λ b. cond b (Some 0) None) fails
@@ -18,7 +18,7 @@ first-push test (y ∷ ys) x none fails =
     here false (Some i) all step none = absurd (cc)
     here false None all step none = ap next_index (step refl)
 
--- an element that passes, after others that fail
+-- an element that passes after others that fail has the first index
 first-here : {A : Type 0} (test : A → Bool) (xs ys : List A) (x : A) → first_position test xs ≡ None → test x ≡ true
     → first_position test (xs ++ x ∷ ys) ≡ Some (length xs)
 first-here test [] ys x none passes = ap (λ b. cond b (Some 0) (next_index (first_position test ys))) passes
@@ -67,7 +67,7 @@ module _ {A B : Type 0} (view : A → B) (test : B → Bool) (xs : List A) (i : 
       ap (first_position test) (ap (map view) whole ∙ map-append view (take i xs) (x ∷ drop (i + 1) xs))
       ∙ first-here test (map view (take i xs)) (map view (drop (i + 1) xs)) (view x) none passes ∙ ap Some size
 
--- what is seen of an element that stands in a list
+-- the element of a mapped list at an index is the image of the element there
 pub slice_get-map : {A B : Type 0} (view : A → B) (xs : List A) (k : ℕ) (x : A) → k < length xs → x ≡ get_or xs k x
     → slice_get (map view xs) k ≡ Some (view x)
 slice_get-map view [] k x within is = absurd (omega arith)

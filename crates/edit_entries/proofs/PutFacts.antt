@@ -17,9 +17,9 @@ use Rattle.edit_entries.proofs.MovedFacts.{fields_after_there}
 use Rattle.edit_entries.proofs.EntryFacts.{ahead_to_field, goes}
 use Rattle.edit_entries.proofs.UnsetFacts.{from_field_read}
 
--- ---- a list with others in the place of one
+-- ---- a list with several elements instead of one
 
--- some in the place of the one with an index
+-- a list in which several elements replace the one at an index
 abbrev pub put_at : {A : Type 0} → ℕ → List A → List A → List A
 put_at j news [] = []
 put_at zero news (x ∷ xs) = news ++ xs
@@ -33,16 +33,16 @@ put_is view [] following x news (suc j) index = absurd (omega arith)
 put_is view (b ∷ bs) following x news zero index = absurd (omega arith)
 put_is view (b ∷ bs) following x news (suc j) index = ap (λ xs. view b ∷ xs) (put_is view bs following x news j (omega arith))
 
--- ---- the fields that are put in
+-- ---- the new fields
 
--- fields the first of which begins at a place
+-- there are fields, and the first of them begins at this byte offset
 pub record Begins (fields : List FieldReading) (at : ℕ) : Type 0 where
   pub first : FieldReading
   pub others : List FieldReading
   pub are : fields ≡ first ∷ others
   pub start : first.name.start ≡ at
 
--- fields from one place to another, with commas between them
+-- fields between two places, with a comma after each except the last
 pub record NewFields (u : Place) (fs : List FieldReading) (v : Place) : Type 0 where
   pub first : List FieldReading
   pub last : FieldReading
@@ -51,7 +51,7 @@ pub record NewFields (u : Place) (fs : List FieldReading) (v : Place) : Type 0 w
   pub field : Field longest middle last v
   pub are : fs ≡ first ++ last ∷ []
 
--- where a name begins
+-- a character that can begin a name is at this place
 pub record NameStarts (u : Place) : Type 0 where
   pub char : ℕ
   pub next : Place
@@ -78,7 +78,7 @@ before_append (FieldsBefore.more field gap comma gap' first) others = FieldsBefo
 
 -- ---- the whole
 
--- an edit that puts fields in the place of one of an entry's
+-- the document after an edit that replaces one field of an entry by several
 abbrev pub fields_put : Document → Edit → ℕ → EntryReading → ℕ → List FieldReading → Document
 fields_put d edit k e j news =
     entry_edited d edit k

@@ -4,7 +4,7 @@ use Rattle.std.specs.Prelude.{◌||◌, is_some, option_map}
 use Rattle.std.specs.List.{find, flat_map, join_by, list_any}
 use Rattle.bib_text.proofs.OptionFacts.{some_mapped}
 
--- the first element that passes a test, if none before it does
+-- an element that passes a test is the first one if none before it does
 pub found_at : {A : Type 0} (test : A → Bool) (xs : List A) (k : ℕ) (x : A) → k < length xs → x ≡ get_or xs k x
     → find test (take k xs) ≡ None → test x ≡ true → find test xs ≡ Some x
 found_at test [] k x within is before passes = absurd (omega arith)
@@ -19,7 +19,7 @@ found_at test (y ∷ ys) (suc k) x within is before passes =
     by_case true clash rest = absurd (cc)
     by_case false none rest = rest none
 
--- no element passes a test, with one more that doesn't
+-- if no element passes a test and one more fails, no element passes
 pub none_found : {A : Type 0} (test : A → Bool) (xs : List A) (x : A) → find test xs ≡ None → test x ≡ false
     → find test (xs ++ x ∷ []) ≡ None
 none_found test [] x none fails = ap (λ b. cond b (Some x) None) fails
@@ -38,12 +38,12 @@ some_found test (x ∷ xs) = by_case (test x) (some_found test xs)
     by_case true rest = refl
     by_case false rest = rest
 
--- whether an element passes a test, by the first one that does
+-- an optional result of a search is `Some` exactly if an element passes the test
 pub any_found : {A B C : Type 0} (f : A → B) (g : C → B) (test : A → Bool) (xs : List A) (o : Option C)
     → option_map g o ≡ option_map f (find test xs) → is_some o ≡ list_any test xs
 any_found f g test xs o same = sym (some_mapped g o) ∙ ap is_some same ∙ some_mapped f (find test xs) ∙ some_found test xs
 
--- texts that are joined, by what they are
+-- two lists with the same images are joined to the same text
 flat_read : {A B C : Type 0} (f : A → List C) (g : B → List C) (sep : List C) (xs : List A) (ys : List B)
     → map f xs ≡ map g ys → flat_map (λ x. sep ++ f x) xs ≡ flat_map (λ y. sep ++ g y) ys
 flat_read f g sep [] [] same = refl

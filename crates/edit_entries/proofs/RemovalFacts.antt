@@ -1,4 +1,4 @@
--- Several fields of an entry are taken out, from the last to the first.
+-- Several fields of an entry are removed, from the last to the first.
 use Rattle.std.proofs.Common.{◌≡◌, ℕ, zero, suc, ◌+◌, ◌<◌, ◌≤◌, Bool, true, false, cond, List, [], ◌∷◌, ◌++◌, length, map, take, get_or, refl, sym, ap, ◌∙◌, subst, arith, append_assoc, append-nil, length-append, Option, Some, None}
 use Rattle.std.specs.Prelude.{filter, not, option_map, slice_get}
 use Rattle.std.specs.List.{remove}
@@ -33,19 +33,19 @@ get_remove_at [] (suc k) = refl
 get_remove_at (x ∷ xs) zero = refl
 get_remove_at (x ∷ xs) (suc k) = get_remove_at xs k
 
--- the fields that haven't a name
+-- the fields that don't have a name
 abbrev pub unnamed : List ℕ → List FieldReading → List FieldReading
 unnamed name fs = filter (λ f. not (has_name name f)) fs
 
--- an entry with these fields
+-- an entry with these fields instead of its own
 abbrev pub with_fields : EntryReading → List FieldReading → EntryReading
 with_fields e fs = record e { fields = fs }
 
--- where the field with an index begins, or else where the closing brace stands
+-- the byte offset at which the field with an index begins, or else that of the closing brace
 abbrev pub begins : EntryReading → ℕ → ℕ
 begins e n = option_map_or (λ f. f.name.start) (slice_get e.fields n) e.end
 
--- what is known where the fields from an index on were gone through
+-- the document after the fields `fs` with the name are removed from the entry; the fields `fb` before them are kept
 pub record Removed (d : Document) (before others : List EntryReading) (e : EntryReading) (name : List ℕ)
     (fb fs : List FieldReading) : Type 0 where
   pub after : Document
@@ -65,7 +65,7 @@ start_in_fields d k e j f read here there =
     let at = entry_inside d k e read here in
     omega (arith, at.kind_start, at.kind, at.key_start, at.key, (field_inside d k e j f read here there).start)
 
--- where what stands after a field that is taken out begins then
+-- after a field is removed, the next field or the closing brace begins at the start of the edit
 limit_moved : (edit : Edit) (o : Option FieldReading) (end : ℕ) → option_map_or (λ f. f.name.start) o end ≡ edit.end
     → edit.bytes ≡ []
     → option_map_or (λ f. f.name.start) (option_map (moved_field (moved_place edit)) o) (moved_place edit end)
@@ -73,7 +73,7 @@ limit_moved : (edit : Edit) (o : Option FieldReading) (end : ℕ) → option_map
 limit_moved edit None end is none = omega (arith, moved_after edit end (omega arith), is, ap length none)
 limit_moved edit (Some f) end is none = omega (arith, moved_after edit f.name.start (omega arith), is, ap length none)
 
--- a document without a field of an entry: the edit ends before the fields that were gone through, and begins after the others
+-- an edit removes the field after `fb` of an entry: the fields and entries before it are kept, and the reading is that without the field
 pub record FieldCutOut (d after : Document) (before others : List EntryReading) (e x : EntryReading) (name : List ℕ)
     (fb fs : List FieldReading) (edit : Edit) : Type 0 where
   pub here : slice_get (field_cut after (length before) x (length fb) edit).says.entries (length before)
@@ -223,7 +223,7 @@ module _ (d : Document) (before others : List EntryReading) (e : EntryReading) (
 
 -- ---- the edits
 
--- the next field, or the closing brace
+-- the next field or the closing brace is at or before the end of the entry
 begins_inside : (d : Document) (k : ℕ) (e : EntryReading) (n : ℕ) → IsDocument d → slice_get d.says.entries k ≡ Some e → begins e n ≤ e.end
 begins_inside d k e n read here = by_case (slice_get e.fields n) refl
   where

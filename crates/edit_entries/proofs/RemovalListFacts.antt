@@ -13,7 +13,7 @@ removals_append text (e ∷ es) fs [] more removals second = elim removals [ ]
 removals_append text (e ∷ es) fs (x ∷ xs) more (AreRemovals.next white rest) second =
     AreRemovals.next white (removals_append text es fs xs more rest second)
 
--- the edits of some entries, added to earlier ones, with those of the entries that follow
+-- the edits of some entries, after earlier edits and before those of the following entries, remove all entries
 pub removals_added : (text : List ℕ) (all es fs : List EntryReading) (old new more : List Edit) → AreRemovalsAdded text es old new
     → ((edits : List Edit) → AreRemovals text (es ++ fs) edits → AreRemovals text all (old ++ edits)) → AreRemovals text fs more
     → AreRemovals text all (new ++ more)

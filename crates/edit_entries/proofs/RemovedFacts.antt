@@ -26,7 +26,7 @@ use Rattle.edit_entries.proofs.SplitFacts.{ahead_file_before, joined_file, split
 use Rattle.edit_entries.proofs.MovedFacts.{file_before_there, file_there, run_within}
 use Rattle.edit_entries.proofs.EntryFacts.{ahead_entry, ahead_to_fields, goes}
 
--- white space between blocks is passed over
+-- white space between blocks is skipped
 white_skipped : (c : ℕ) → is_whitespace c ≡ true → is_skipped c ≡ true
 white_skipped c white = grind (arith, nat_tests)
 
@@ -34,14 +34,14 @@ pub after_run : {u v : Place} {says : FileReading} → Run is_whitespace u v →
 after_run stop x = x
 after_run (step {c = c} char white others) x = after_run others (skipped_rest char (white_skipped c white) x)
 
--- a file ends or begins with a character
+-- at the start of a file there is a character or the end of the text
 file_border : {u : Place} {says : FileReading} → File longest u says → Border u
 file_border (file.end end) = inl end
 file_border (file.skipped char passes x) = inr (_, _, char)
 file_border (file.line_comment m x) = inr (_, _, m.sign)
 file_border (file.block b x) = inr (_, _, b.head.sign)
 
--- a list without one element
+-- a mapped list without one element is the mapped lists before and after it
 pub taken_out : {A B : Type 0} (move : A → B) (before following : List A) (x : A) (k : ℕ) → length before ≡ k
     → remove (map move (before ++ x ∷ following)) k ≡ map move before ++ map move following
 taken_out move before following x k index =
@@ -128,12 +128,12 @@ entry_removed_read d k e at read here white =
     subst (λ n. File longest (place (edited edit d.text) n) (entry_removed d k e at).says) zero
     (subst (λ says. File longest (goes edit d.text (place d.text 0)) says) (said ∙ named) whole)
 
--- a text may be cut where it ends or a character stands
+-- a text may be cut where a character begins, and at its end
 border_boundary : {u : Place} → Border u → IsCharBoundary u.text u.at
 border_boundary {u} (inl end) = subst (λ n. IsCharBoundary u.text n) (sym end) (IsCharBoundary-end u.text)
 border_boundary (inr here) = char_boundary here.2
 
--- where an entry may be cut out
+-- an entry of a document may be cut out of its text
 pub entry_placed : (d : Document) (k : ℕ) (e : EntryReading) → IsDocument d → slice_get d.says.entries k ≡ Some e → IsEntryPlaced d.text e
 entry_placed d k e read here =
     let s = split_file k e read here in
@@ -154,7 +154,7 @@ entry_placed d k e read here =
           (border_boundary (file_border s.rest)));
     }
 
--- an entry was removed
+-- if a call returns the text without an entry and the white space after it, the entry is removed
 pub entry_taken : {S : Type 0} (bytes : S → List ℕ) (d : Document) (key : List ℕ) (k : ℕ) (e : EntryReading) (new : S)
     → IsDocument d → HasEntry d key k e
     → (at : ℕ) × Longest is_whitespace (place d.text (e.end + 1)) (place d.text at)

@@ -24,7 +24,7 @@ use Rattle.edit_entries.proofs.EntryFacts.{entry_edited_read, goes}
 use Rattle.edit_entries.proofs.ValueFacts.{run_stands}
 use Rattle.bib_syntax.proofs.LawFacts.{key_dark}
 
--- a key, where it stands
+-- a key is at a byte offset: it has at least one character, and only characters of keys
 record KeyRead (whole key : List ℕ) (at : ℕ) : Type 0 where
   char : ℕ
   next : Place
@@ -178,7 +178,7 @@ entry_renamed_read d k e key read here some can =
     (omega (arith, start_is, b.head.sign.next, after_sign.at, (len_utf8_bounds 64).0)) (omega (arith, end_is))
     (block_of block)
 
--- where a key may be cut out
+-- the key of an entry may be cut out of the text
 pub key_placed : (d : Document) (k : ℕ) (e : EntryReading) → IsDocument d → slice_get d.says.entries k ≡ Some e → IsKeyPlaced d.text e
 key_placed d k e read here =
     let s = split_file k e read here in
@@ -200,7 +200,7 @@ key_placed d k e read here =
           (subst (λ t. IsCharBoundary t b.key_end.at) at_end.text (char_boundary last.here));
     }
 
--- an entry with a key that is some text has a key of that many bytes
+-- if the text of a key isn't empty, neither is its span
 pub key_some : (d : Document) (k : ℕ) (e : EntryReading) → IsDocument d → slice_get d.says.entries k ≡ Some e
     → 0 < length e.key.text → e.key.start < e.key.end
 key_some d k e read here some =
@@ -209,7 +209,7 @@ key_some d k e read here some =
     let size : length e.key.text ≡ length (take (b.key_end.at - b.inside.at) bytes) = ap (λ p. length p.text) b.key_is in
     omega (arith, size, length-take (b.key_end.at - b.inside.at) bytes, ap (λ p. p.start) b.key_is, ap (λ p. p.end) b.key_is)
 
--- what passes at the first index passes
+-- if the test is passed at the first index in the rest of a list, it is passed at the first index in the list
 first_step : (test : EntryReading → Bool) (x : EntryReading) (xs : List EntryReading) (k : ℕ) (e : EntryReading)
     → ((i : ℕ) → first_position test xs ≡ Some i → slice_get xs i ≡ Some e → test e ≡ true)
     → first_position test (x ∷ xs) ≡ Some k → slice_get (x ∷ xs) k ≡ Some e → test e ≡ true

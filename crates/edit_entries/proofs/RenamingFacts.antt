@@ -1,4 +1,4 @@
--- The changes that give entries new keys are of pieces that stand one after another.
+-- The changes that give entries new keys are of parts that are in order.
 use Rattle.std.proofs.Common.{◌≡◌, ◌⊎◌, inl, inr, ℕ, zero, suc, ◌+◌, ◌<◌, ◌≤◌, Bool, true, false, cond, List, [], ◌∷◌, ◌++◌, map, refl, sym, ap, ◌∙◌, subst, arith, append-nil, Option, Some, None, Result, Ok, Err}
 use Rattle.std.specs.Prelude.{IfErr, IfOk, bytes_eq, slice_get}
 use Rattle.std.specs.List.{AllByRecursion}
@@ -107,7 +107,7 @@ module _ (names : List ℕ → List ℕ → Option (List ℕ)) (keys : ℕ → O
             subst (λ es. (end : ℕ) × Ordered u.at (renaming names keys index (es ++ rest.entries)) end) (sym same) (others.0, all)
       ]
 
--- ---- pieces of the document
+-- ---- parts of the document
 
 value_piece : (d : Document) (k : ℕ) (e : EntryReading) (j : ℕ) (f : FieldReading) (new : Option (List ℕ))
     → slice_get d.says.entries k ≡ Some e → slice_get e.fields j ≡ Some f
@@ -131,7 +131,7 @@ key_piece : (d : Document) (k : ℕ) (e : EntryReading) (o : Option (List ℕ)) 
 key_piece d k e (Some new) here some = ((k, e, here, refl, some new refl), tt)
 key_piece d k e None here some = tt
 
--- an entry that gets a new key has one of some bytes
+-- the key of each entry that gets a new key isn't empty
 abbrev HaveKeys : Document → (ℕ → Option (List ℕ)) → Type 0
 HaveKeys d keys =
     (k : ℕ) (e : EntryReading) (new : List ℕ) → slice_get d.says.entries k ≡ Some e → keys k ≡ Some new → e.key.start < e.key.end
@@ -192,7 +192,7 @@ apart_known d keys read can =
 pub entries_placed : (d : Document) → IsDocument d → AreEntriesPlaced d.text d.says.entries
 entries_placed d read k e here j f there = field_placed d k e j f read here there
 
--- the entry at a position
+-- the first index at which a test is passed is that of an entry
 pub first_there : (test : EntryReading → Bool) (es : List EntryReading) (k : ℕ) → first_position test es ≡ Some k
     → (e : EntryReading) × (slice_get es k ≡ Some e)
 first_there test [] k found = absurd (cc)
@@ -204,7 +204,7 @@ first_there test (e ∷ es) (suc k) found = first_there test es k (later (test e
     later false None n is = absurd (cc)
     later false (Some i) n is = let same : suc i ≡ suc n = cc in let index : i ≡ n = omega arith in ap Some index
 
--- what the call that gives entries new keys answers
+-- if a call returns the text after the changes that give entries new keys, it returns the document with the new keys
 pub renamed_answer : {S : Type 0} (bytes : S → List ℕ) (d : Document) (listed : List EntryReading) (keys : ℕ → Option (List ℕ))
     (r : Result S EditError) → IsDocument d → listed ≡ d.says.entries → CanGetKeys d.says.entries keys
     → IfOk r (λ made. bytes made ≡ edited_all (map (change_edit d.text) (key_renaming keys listed)) d.text)
@@ -238,7 +238,7 @@ renamed_refusal d listed keys (Err error) same can (inr braces) =
 
 -- ---- one key is renamed
 
--- the entry whose key was looked up
+-- the index that a lookup by a key returns is that of an entry with this key
 pub entry_found : (d : Document) (listed : List EntryReading) (key : List ℕ) (k : ℕ) → listed ≡ d.says.entries
     → first_position (is_keyed key) listed ≡ Some k → (e : EntryReading) × HasEntry d key k e
 entry_found d listed key k same first =
@@ -247,7 +247,7 @@ entry_found d listed key k same first =
     let found = first_there (is_keyed key) d.says.entries k first' in
     (found.0, record { first = first'; here = found.1 })
 
--- what the call that renames a key answers
+-- if a call returns the document with a new key for the first entry with a key, it returns the document with this key renamed
 pub key_answer : {S : Type 0} (bytes : S → List ℕ) (d : Document) (old new : List ℕ) (k : ℕ) (e : EntryReading) (r : Result S EditError)
     → HasEntry d old k e → bytes_eq old new ≡ false → IfOk r (λ made. IsEdited (KeysRenamed d (only k new)) (bytes made))
     → IfOk r (λ made. IsEdited (KeyRenamed d old new) (bytes made))

@@ -29,7 +29,7 @@ use Rattle.edit_entries.proofs.ValueFacts.{field_placed}
 
 -- ---- the edits of an entry depend on the text up to its end
 
--- a value ends at the end of its span or before it
+-- the trimmed end of a value is at or before the end of its span
 value_end_within : (text : List ℕ) (f : FieldReading) → IsTrimmed text f → value_end text f ≤ f.value.end
 value_end_within text f trimmed = (ahead_run trimmed).at
 
@@ -113,14 +113,14 @@ module _ (x y : List ℕ) (e : EntryReading) (at : ℕ) (same : take at x ≡ ta
       ∙ ap (λ n. cond (has_byte_at y (comma_after y e j f) 44) (n + 1) (own_end x e j f)) (after_gap_same j f there)
       ∙ ap (cond (has_byte_at y (comma_after y e j f) 44) (comma_after y e j f + 1)) (own_end_same j f there)
 
-  -- what the edit of a field after a comment depends on
+  -- the edit of a field after a comment, by the tests and byte offsets that it depends on
   abbrev chosen : EntryReading → ℕ → Bool → Bool → Bool → Bool → ℕ → ℕ → ℕ → ℕ → Option Edit
   chosen e j sign feed next ends start from n q =
       cond (sign && feed)
       (cond next (Some (record { start = start; end = from; bytes = codes " " }))
       (cond ((from == field_limit e j) && ends) (Some (record { start = n + 1; end = q + 1; bytes = [] })) None)) None
 
-  -- the comma before a field
+  -- the comma before a field is at the same byte offset in both texts
   first_same : (j : ℕ) (f : FieldReading) → slice_get e.fields j ≡ Some f → comma_before x e j f ≡ comma_before y e j f
   first_same j f there =
       let at_field = inside j f there in
@@ -288,7 +288,7 @@ pub record Chain (d : Document) (later : List Edit) (before rest : List EntryRea
   pub alike : placeless after.says ≡ placeless (of_entries d.says (before ++ rest))
   pub within : AreEditsWithin d.text at (length d.text) later
 
--- an entry that is kept
+-- if later entries are edited, an entry before them can be kept
 abbrev pub chain_kept : (d : Document) (before rest : List EntryReading) (later : List Edit) (e : EntryReading) (at high : ℕ) → at ≤ high
     → Chain d later (before ++ e ∷ []) rest high → Chain d later before (e ∷ rest) at
 chain_kept d before rest later e at high less more = record {
@@ -382,7 +382,7 @@ module _ (d : Document) (selected : List ℕ → Bool) (name : List ℕ) (read :
       by_case false more =
           chain_kept d before rest later e at (e.end + 1) (omega (arith, cut.0.ordered, cut.1.whole.ordered)) more
 
-  -- the whole document
+  -- the document after the field is unset in all selected entries
   pub fields_unset : Chain d (flat_map (unset_if_selected selected d.text name) d.says.entries) []
       (map (without_if_selected selected name) d.says.entries) 0
   fields_unset = all_unset [] d.says.entries 0 refl (document_cut d.text d.says read)
@@ -391,7 +391,7 @@ module _ (d : Document) (selected : List ℕ → Bool) (name : List ℕ) (read :
   unsets_in_order =
       within_order d.text 0 (length d.text) (flat_map (unset_if_selected selected d.text name) d.says.entries) fields_unset.within
 
--- a field of the entries was unset
+-- if a call returns the text with the edits that unset a field of selected entries, it returns the document without these fields
 pub selection_unset : {S : Type 0} (bytes : S → List ℕ) (d : Document) (selected : List ℕ → Bool) (name : List ℕ) (new : S) → IsDocument d
     → IsUtf8 d.text → list_any (would_be_empty selected name) d.says.entries ≡ false
     → bytes new ≡ edited_all (flat_map (unset_if_selected selected d.text name) d.says.entries) d.text

@@ -35,9 +35,9 @@ use Rattle.edit_entries.proofs.SplitFacts.{ahead_file_before, split_file}
 use Rattle.edit_entries.proofs.ValueFacts.{field_placed, run_stands}
 use Rattle.edit_entries.proofs.WhiteBeforeFacts.{before_white}
 
--- ---- what the text of an entry offers
+-- ---- the text of an entry
 
--- where the comma after an entry's key stands
+-- a comma is after the key of each entry
 pub comma_known : (d : Document) (k : ℕ) (e : EntryReading) → IsDocument d → slice_get d.says.entries k ≡ Some e → HasComma d.text e
 comma_known d k e read here =
     let s = split_file k e read here in
@@ -92,7 +92,7 @@ names_placed text at zero (x ∷ xs) e order here =
     subst (λ y. AllByRecursion (IsNamePlaced text) y.fields) same (names_in text x.kind.end order.0 x.fields order.3)
 names_placed text at (suc k) (x ∷ xs) e order here = names_placed text order.0 k xs e order.4 here
 
--- the edits of the fields that get a value are those of their entry
+-- each entry of a document meets the condition under which one of its fields can be set
 pub set_asked : (d : Document) (k : ℕ) (e : EntryReading) (name : List ℕ) (value : SetValue) → IsDocument d → IsUtf8 d.text
     → slice_get d.says.entries k ≡ Some e → CanBeSetIn d.text e name value
 set_asked d k e name value read utf8 here = record {
@@ -168,7 +168,7 @@ pub no_element : {A : Type 0} (xs : List A) → length xs < 1 → xs ≡ []
 no_element [] short = refl
 no_element (x ∷ xs) short = absurd (omega (arith, short))
 
--- a field before the first one
+-- if no field has the name, the text with a new field before the first one is the text after the field is set
 pub put_made : (definitions : List FieldReading) (text : List ℕ) (e : EntryReading) (name : List ℕ) (value : SetValue)
     (first : FieldReading)
     (others : List FieldReading) (new : List ℕ) → list_any (has_name name) e.fields ≡ false → e.fields ≡ first ∷ others
@@ -253,7 +253,7 @@ text_set d key name value new k e read utf8 entry (IsSetText.only {at = at} none
       read = x.read;
     }
 
--- the entry that was looked up
+-- the entry at the index that a lookup by a key returns is the first one with this key
 pub has_entry : (d : Document) (listed : List EntryReading) (key : List ℕ) (k : ℕ) (e : EntryReading)
     → listed ≡ d.says.entries → first_position (is_keyed key) listed ≡ Some k → slice_get listed k ≡ Some e
     → HasEntry d key k e
@@ -262,7 +262,7 @@ has_entry d listed key k e same first here = record {
   here = subst (λ es. slice_get es k ≡ Some e) same here;
 }
 
--- there is one first entry with a key
+-- only one entry is the first one with a key
 same_entry : (d : Document) (key : List ℕ) (k n : ℕ) (e x : EntryReading) → HasEntry d key k e → HasEntry d key n x → e ≡ x
 same_entry d key k n e x one other =
     let index : k ≡ n = cc in

@@ -54,7 +54,7 @@ last_mapped view test other same (x ∷ xs) =
     ap (λ b. or_first b (last_position other (map view xs))) (same x)
     ∙ ap (or_first (test x)) (last_mapped view test other same xs)
 
--- an element of a mapped list comes from one of the list
+-- each element of a mapped list is the image of an element of the list
 from_mapped : {A B : Type 0} (view : A → B) (xs : List A) (k : ℕ) (y : B) → slice_get (map view xs) k ≡ Some y
     → (x : A) × (slice_get xs k ≡ Some x) × (view x ≡ y)
 from_mapped view [] k y here = absurd (cc)
@@ -82,7 +82,7 @@ passes_first {A} test (z ∷ zs) k x first here = by_case (test z) refl first (�
         ap test (sym head) ∙ is
     by_case false is found rest = shift (first_position test zs) refl found rest
 
--- the last element that passes, if one does
+-- an element passes, and none after it does
 record HasLast {A : Type 0} (test : A → Bool) (xs : List A) : Type 0 where
   index : ℕ
   element : A
@@ -148,7 +148,7 @@ value_no_offsets move (SetValue.bare_text text) (literal p ∷ []) = refl
 value_no_offsets move (SetValue.bare_text text) (abbreviation p ∷ []) = refl
 value_no_offsets move (SetValue.bare_text text) (p ∷ other ∷ rest) = refl
 
--- the changed entry, in the document after the change
+-- the document after the change has the changed entry as the first one with the key, except for byte offsets
 record IsThere (after : Document) (key : List ℕ) (k : ℕ) (changed : EntryReading) : Type 0 where
   entry : EntryReading
   has : HasEntry after key k entry
@@ -174,7 +174,7 @@ entry_there d after key k e changed entry same alike =
 
 -- ---- the law
 
--- a new value is the value
+-- the pieces of a new value are this value
 new_is_same : (value : SetValue) → is_same_value value (new_value value).pieces ≡ true
 new_is_same (SetValue.plain_text text) = bytes_itself text
 new_is_same (SetValue.bare_text text) = by_case (is_bare_number text) refl
@@ -184,7 +184,7 @@ new_is_same (SetValue.bare_text text) = by_case (is_bare_number text) refl
     by_case true is = ap (λ n. n && bytes_eq text text) is ∙ bytes_itself text
     by_case false is = bytes_itself (str_to_ascii_lowercase text)
 
--- a field after its value is set
+-- a field after its value is set, if it has the name and another value
 abbrev set_field : List ℕ → SetValue → FieldReading → FieldReading
 set_field name value f =
     cond (has_other_value name value f) (record f { value = record f.value { pieces = (new_value value).pieces } }) f
@@ -235,7 +235,7 @@ map_map : {A B C : Type 0} (f : A → B) (g : B → C) (xs : List A) → map g (
 map_map f g [] = refl
 map_map f g (y ∷ ys) = ap (λ zs. g (f y) ∷ zs) (map_map f g ys)
 
--- an entry that begins with a new field has the value, if its other fields haven't the name
+-- an entry that begins with a new field has the value, if its other fields don't have the name
 new_there : {after : Document} {key name : List ℕ} {value : SetValue} {k : ℕ} {changed : EntryReading} (rest : List FieldReading)
     → (x : IsThere after key k changed) → changed.fields ≡ field_reading (field_with_value name value) ∷ rest
     → list_any (has_name name) rest ≡ false → HasValue after key name value

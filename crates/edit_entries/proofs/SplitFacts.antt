@@ -1,4 +1,4 @@
--- A file cut around one of its entries, and an entry's fields cut around one of them.
+-- A file that is cut around one of its entries, and an entry's fields that are cut around one of them.
 use Rattle.std.proofs.Common.{◌≡◌, ◌⊎◌, inl, inr, ℕ, zero, suc, true, List, [], ◌∷◌, ◌++◌, length, refl, sym, ap, ◌∙◌, subst, Some}
 use Rattle.std.specs.Prelude.{◌==◌, not, ◌&&◌, slice_get}
 use Rattle.std.specs.Char.{is_whitespace}
@@ -80,7 +80,7 @@ block_of {u} {v} {e} b = record {
       (entry_found e.kind e.key e.start e.end (sym b.starts) b.ends b.key_is b.key b.white b.comma b.gap b.fields b.closes);
 }
 
--- a block says one entry or none
+-- the reading of a block has no entry or is one entry
 pub one_entry : {start u v : Place} {kind : Part} {k : BlockKind} {says : FileReading}
     → Body longest start kind k u says v → (says.entries ≡ []) ⊎ ((e : EntryReading) × (says ≡ entry_alone e))
 one_entry (body.comment brace chars closes) = inl refl
@@ -195,7 +195,7 @@ pub record EntrySplit (u : Place) (says : FileReading) (e : EntryReading) (k : �
   pub whole : says ≡ then before (then (entry_alone e) following)
   pub index : length before.entries ≡ k
 
--- after a block that says no entry, and after one that says another
+-- a block without entries before a split file only extends the part before the entry
 after_none : {u v : Place} {first rest : FileReading} {e : EntryReading} {k : ℕ} → Block longest u first v
     → first.entries ≡ [] → EntrySplit v rest e k → EntrySplit u (then first rest) e k
 after_none {u} {v} {first} {rest} {e} {k} b no_entry others = record {

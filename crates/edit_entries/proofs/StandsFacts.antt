@@ -1,4 +1,4 @@
--- Bytes that stand in a text from one place to another.
+-- Bytes in a text from one place to another.
 use Rattle.std.proofs.Common.{◌≡◌, inr, ℕ, zero, suc, ◌+◌, ◌-◌, ◌<◌, ◌≤◌, true, List, [], ◌∷◌, ◌++◌, length, take, drop, refl, sym, ap, ◌∙◌, subst, arith, append_assoc, length-append, length-drop}
 use Rattle.std.specs.Prelude.{encode_utf8, replicate}
 use Rattle.std.specs.Char.{is_whitespace}
@@ -69,7 +69,7 @@ run_white {u} {v} (b ∷ bs) all s =
     step (ascii b all.0.0 (first_part (b ∷ []) bs s)) all.0.1
     (run_white {u = past u (b ∷ [])} {v = v} bs all.1 (last_part (b ∷ []) bs s))
 
--- ---- what stands between two places
+-- ---- the text between two places
 
 pub between_stands : {u v : Place} (bytes : List ℕ) → Stands u bytes v → between u v ≡ bytes
 between_stands {u} {v} bytes s =
@@ -104,7 +104,7 @@ joined {u} {v} {w} xs ys first rest =
 
 -- ---- bytes of another text
 
--- what stands between two places of a text, from a place of another on
+-- the zone between `a` and `b`, which is moved to `u`
 abbrev pub copy_frame : Place → Place → Place → Frame
 copy_frame a b u = record { old = a.text; new = u.text; move = λ n. n - a.at + u.at; from = a.at; to = u.at; end = b.at }
 
@@ -133,7 +133,7 @@ copied {a} {b} {u} {v} ahead within s cut =
       goes_end = same_place (sym s.same) (omega (arith, ends, ahead.at));
     }
 
--- where a character follows
+-- the bytes between two places are copied to a place if a character follows them there
 pub copied_before : {a b u v w : Place} {c : ℕ} → Ahead a b → b.at ≤ length a.text → Stands u (between a b) v → CharAt v c w → Copy a b u v
 copied_before {a} {b} {u} {v} {w} {c} ahead within s following =
     let border : Border (place u.text v.at) =

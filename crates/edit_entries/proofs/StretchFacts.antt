@@ -1,15 +1,15 @@
--- Edits of a text that are made in one go over it.
+-- Edits that are made in one pass over a text.
 use Rattle.std.proofs.Common.{◌≡◌, ℕ, ◌+◌, ◌-◌, ◌≤◌, List, [], ◌∷◌, ◌++◌, length, take, drop, sym, ap, ◌∙◌, arith, append_assoc}
 use Rattle.std.proofs.lemmas.List.{take_at, drop_at, drop-take, take-take, take-append-drop, length-take-le}
 use Rattle.edit_entries.specs.Edits.{Edit, edited_all}
 use Rattle.edit_entries.specs.EditList.{AreEditsInOrder}
 
--- the text from a place on, with edits made after it
+-- the text from a byte offset on, with the edits after it made
 abbrev pub rest_edited : ℕ → List Edit → List ℕ → List ℕ
 rest_edited at [] text = drop at text
 rest_edited at (edit ∷ edits) text = take (edit.start - at) (drop at text) ++ (edit.bytes ++ rest_edited edit.end edits text)
 
--- a text up to a place, cut at one before it
+-- the text up to a byte offset is the text up to an earlier one and the text between them
 cut_front : (text : List ℕ) (at start : ℕ) → at ≤ start → take start text ≡ take at text ++ take (start - at) (drop at text)
 cut_front text at start ordered =
     let n : ℕ = start - at in
@@ -17,7 +17,7 @@ cut_front text at start ordered =
     sym (take-append-drop at (take start text)) ∙ ap (λ xs. xs ++ drop at (take start text)) (take-take at start text ordered)
     ∙ ap (λ m. take at text ++ drop at (take m text)) (sym whole) ∙ ap (λ xs. take at text ++ xs) (drop-take at n text)
 
--- what comes of edits is the text up to a place before them, and the rest with the edits made
+-- a text after edits is the text up to a byte offset before them and the rest with the edits made
 pub edited_is : (edits : List Edit) (text : List ℕ) (at : ℕ) → at ≤ length text → AreEditsInOrder text at edits
     → edited_all edits text ≡ take at text ++ rest_edited at edits text
 edited_is [] text at within order = sym (take-append-drop at text)

@@ -1,4 +1,4 @@
--- Facts on the names that entries have already.
+-- Facts about names that entries already have.
 use Rattle.std.proofs.Common.{◌≡◌, ◌⊎◌, ◌||◌, inl, inr, ℕ, zero, suc, ◌+◌, ◌<◌, Bool, true, false, List, [], ◌∷◌, ◌++◌, length, map, take, get_or, Option, Some, None, refl, sym, ap, ◌∙◌, subst, arith, append_assoc, append-nil}
 use Rattle.std.specs.Prelude.{is_some, option_to_list, slice_get}
 use Rattle.std.proofs.lemmas.List.{length-map, length-take-le}
@@ -25,7 +25,7 @@ within_of [] j b here = absurd (cc)
 within_of (x ∷ xs) zero b here = omega arith
 within_of (x ∷ xs) (suc j) b here = let less = within_of xs j b here in omega (arith, less)
 
--- what holds of the elements before an index, and of the element at the index, holds of those before the next one
+-- a property of the elements before an index and of the element there is one of the elements before the next index
 pub each_more : {A B : Type 0} (P : ℕ → B → Type 0) (view : A → B) (xs : List A) (i : ℕ) (x : A) → i < length xs
     → x ≡ get_or xs i x
     → ((j : ℕ) (b : B) → j < i → slice_get (map view xs) j ≡ Some b → P j b) → P i (view x)
@@ -75,7 +75,7 @@ module _ {A : Type 0} (view : A → EntryReading) (keys : ℕ → Option (List �
   size : 0 + length (map view (take i xs)) ≡ i
   size = omega (arith, taken_size)
 
-  -- the names of some entries and one more that stay
+  -- a name stays among some entries and one more if it is a kept name of the last one or stays among the others
   pub staying_more : (name : List ℕ) → has_word (staying_names keys 0 (map view (take (i + 1) xs))) name
       ≡ (has_word (kept_names (is_some (keys i)) (view x)) name || has_word (staying_names keys 0 (map view (take i xs))) name)
   staying_more name =
@@ -93,7 +93,7 @@ module _ {A : Type 0} (view : A → EntryReading) (keys : ℕ → Option (List �
       ∙ new_append keys 0 (map view (take i xs)) (view x)
       ∙ ap (λ n. new_keys keys 0 (map view (take i xs)) ++ option_to_list (keys n)) size
 
-  -- one more entry, with a new key or without one
+  -- a name is taken after one more entry with a new key if it is this key or was taken before
   pub key_more : (staying : List (List ℕ)) (key : List ℕ) → keys i ≡ Some key → (name : List ℕ)
       → has_word (staying ++ new_keys keys 0 (map view (take (i + 1) xs))) name
       ≡ (is_word key name || has_word (staying ++ new_keys keys 0 (map view (take i xs))) name)
@@ -114,7 +114,7 @@ module _ {A : Type 0} (view : A → EntryReading) (keys : ℕ → Option (List �
       new_more ∙ ap (λ o. new_keys keys 0 (map view (take i xs)) ++ option_to_list o) none
       ∙ append-nil (new_keys keys 0 (map view (take i xs)))
 
--- what holds of the new keys before an index, and of that at the index, holds of those before the next one
+-- a property of the new keys before an index and of the one there is one of the new keys before the next index
 pub keys_more : (P : ℕ → List ℕ → Type 0) (keys : ℕ → Option (List ℕ)) (i : ℕ)
     → ((k : ℕ) (new : List ℕ) → k < i → keys k ≡ Some new → P k new) → ((new : List ℕ) → keys i ≡ Some new → P i new)
     → (k : ℕ) (new : List ℕ) → k < i + 1 → keys k ≡ Some new → P k new
@@ -124,7 +124,7 @@ keys_more P keys i all one k new below gets =
       | inr same ↦ subst (λ n. P n new) (sym same) (one new (sym (ap keys same) ∙ gets))
     ]
 
--- no new key is taken, if none before the number of entries is
+-- no new key is taken if none at an index below the number of entries is
 pub none_taken : (entries : List EntryReading) (keys : ℕ → Option (List ℕ))
     → ((k : ℕ) (new : List ℕ) → k < length entries → keys k ≡ Some new
     → has_word (staying_names keys 0 entries ++ new_keys keys 0 (take k entries)) new ≡ false)

@@ -10,7 +10,7 @@ use Rattle.bib_text.specs.Places.{place, Run}
 use Rattle.bib_text.specs.Places.Run.{stop, step}
 use Rattle.bib_text.proofs.PlaceFacts.{char_here}
 
--- characters of white space that stand in a text
+-- the bytes of white space characters are a run of white space
 run_spelt : (cs : List ℕ) (text rest : List ℕ) (a : ℕ) → NonePass is_not_whitespace cs
     → drop a text ≡ encode_utf8_all cs ++ rest
     → Run is_whitespace (place text a) (place text (a + length (encode_utf8_all cs)))
@@ -26,7 +26,7 @@ run_spelt (c ∷ cs) text rest a all here =
     step (char_here text (encode_utf8_all cs ++ rest) a c first) (not-false (is_whitespace c) all.0)
     (subst (λ n. Run is_whitespace (place text (a + len_utf8 c)) (place text n)) end others)
 
--- white space from some bytes of a part on to the part's end
+-- if no character after the first `n` bytes of a part is other than white space, white space goes on to the end of the part
 pub white_rest : (text part : List ℕ) (start end n : ℕ) → part ≡ take (end - start) (drop start text) → start ≤ end
     → end ≤ length text → n ≤ length part → NoCharPasses is_not_whitespace (drop n part)
     → Run is_whitespace (place text (start + n)) (place text end)
@@ -41,7 +41,7 @@ white_rest text part start end n is ordered within small white =
     let last : start + n + length (encode_utf8_all white.0) ≡ end = omega arith in
     subst (λ m. Run is_whitespace (place text (start + n)) (place text m)) last (run_spelt white.0 text rest (start + n) white.2 here)
 
--- a text may be cut in a part of it where the part may be
+-- a text may be cut within a part of it after a prefix of the part that is UTF-8
 pub cut_in_part : (text part front : List ℕ) (start end n : ℕ) → IsUtf8 text → IsCharBoundary text start
     → part ≡ take (end - start) (drop start text) → start ≤ end → end ≤ length text
     → front ≡ take n part → n ≤ length part → IsUtf8 front → IsCharBoundary text (start + n)

@@ -1,4 +1,4 @@
--- Where a value's stretch ends: at white space that goes on to the value's end.
+-- The trimmed end of a value: white space goes on from there to the end of its span.
 use Rattle.std.proofs.Common.{◌≡◌, ℕ, ◌≤◌, Bool, true, false, cond, not, List, [], ◌∷◌, ◌++◌, length, drop, refl, sym, ap, ◌∙◌, arith, length-append}
 use Rattle.std.specs.Prelude.{encode_utf8_all, ◌&&◌, ◌==◌}
 use Rattle.std.specs.Char.{is_whitespace, is_not_whitespace}
@@ -13,9 +13,9 @@ use Rattle.edit_entries.specs.Placed.{IsPlaced}
 use Rattle.edit_entries.specs.EditList.{AreEditsInOrder}
 use Rattle.edit_entries.proofs.TrimFacts.{white_rest}
 
--- ---- where a value's stretch ends
+-- ---- the trimmed end of a value
 
--- the white space at the end of characters
+-- characters are those up to the last that isn't white space, and then white space
 trailing : (cs : List ℕ) → (ws : List ℕ) × (cs ≡ drop_trailing_whitespace cs ++ ws) × NonePass is_not_whitespace ws
 trailing [] = ([], refl, tt)
 trailing (c ∷ cs) = let rest = trailing cs in by_case (is_whitespace c) (drop_trailing_whitespace cs) rest.0 refl rest.1 rest.2
@@ -52,9 +52,9 @@ trimmed_known text f utf8 placed =
     let t = trimmed_at part (IsUtf8-between text f.value.start f.value.end utf8 placed.ordered placed.start placed.end) in
     white_rest text part f.value.start f.value.end (length (trim_end part)) refl placed.ordered placed.end.0 t.0 t.1
 
--- ---- the stretches stand one after another
+-- ---- the stretches are in order
 
--- where a value's stretch stands
+-- the value of a field may be cut out, and only white space is after its trimmed end
 pub record IsFieldPlaced (text : List ℕ) (f : FieldReading) : Type 0 where
   pub placed : IsPlaced text f
   pub trimmed : IsTrimmed text f

@@ -17,7 +17,7 @@ use Rattle.edit_entries.proofs.RemovalFacts.{all_removed, begins, removals_withi
 
 -- ---- lists
 
--- a list around an element that it has
+-- a list is the elements before an index, the element there, and the elements after it
 pub record Around {A : Type 0} (xs : List A) (k : ℕ) (x : A) : Type 0 where
   pub before : List A
   pub following : List A
@@ -46,7 +46,7 @@ set_here (b ∷ bs) rest x y = ap (λ l. b ∷ l) (set_here bs rest x y)
 
 -- ---- an entry
 
--- the new text of a document in which a field of an entry is unset: its reading
+-- the text after a field of an entry is unset parses to the document without the fields with the name
 pub record EntryUnset (d : Document) (before others : List EntryReading) (e : EntryReading) (name : List ℕ) : Type 0 where
   pub after : Document
   pub read : IsDocument after
@@ -64,7 +64,7 @@ module _ (d : Document) (before others : List EntryReading) (e : EntryReading) (
   is_here : slice_get d.says.entries k ≡ Some e
   is_here = ap (λ es. slice_get es k) whole ∙ get_here before e others
 
-  -- each field with the name is removed up to the next one
+  -- the fields with the name can be removed up to the next fields, if `unset_edits` are these edits
   several : unset_edits d.text name e ≡ removals name e 0 e.fields → EntryUnset d before others e name
   several edits =
       let all = all_removed d before others e name read whole [] e.fields refl in
@@ -77,7 +77,7 @@ module _ (d : Document) (before others : List EntryReading) (e : EntryReading) (
         kept = all.kept;
       }
 
-  -- each field with the name is removed by itself
+  -- the fields with the name can be removed by their own edits, if there is one for each of them
   each : (edits : List Edit) → own_edits d.text name e 0 e.fields ≡ Some edits → EntryUnset d before others e name
   each edits is =
       let x = own_edits_removed d before others e name read whole trimmed [] e.fields edits refl is in
@@ -109,7 +109,7 @@ module _ (d : Document) (before others : List EntryReading) (e : EntryReading) (
       by_case None is = several (ap (or_removals name e) is)
       by_case (Some edits) is = each edits is
 
--- a field was unset
+-- if a call returns the text with `unset_edits` and a field without the name remains, it returns the document without the fields
 pub field_unset : {S : Type 0} (bytes : S → List ℕ) (d : Document) (key name : List ℕ) (k : ℕ) (e : EntryReading)
     (new : S) → IsDocument d → ((j : ℕ) (f : FieldReading) → slice_get e.fields j ≡ Some f → IsTrimmed d.text f)
     → HasEntry d key k e → have_only name e.fields ≡ false
@@ -129,7 +129,7 @@ field_unset bytes d key name k e new read trimmed entry left is =
       read = x.read;
     }
 
--- its edits are in order
+-- the edits that unset a field of an entry are in order
 pub unset_ordered : (d : Document) (name : List ℕ) (k : ℕ) (e : EntryReading) → IsDocument d
     → ((j : ℕ) (f : FieldReading) → slice_get e.fields j ≡ Some f → IsTrimmed d.text f)
     → slice_get d.says.entries k ≡ Some e → AreEditsInOrder d.text 0 (unset_edits d.text name e)

@@ -29,22 +29,22 @@ use Rattle.bib_text.proofs.BoundaryFacts.{char_boundary}
 
 -- ---- the document without one field of an entry
 
--- after an edit that removes it
+-- the document after an edit that removes a field of an entry
 abbrev pub field_cut : Document → ℕ → EntryReading → ℕ → Edit → Document
 field_cut d k e j edit =
     entry_edited d edit k (record (moved_entry (moved_place edit) e) { fields = remove (map (moved_field (moved_place edit)) e.fields) j })
 
--- after the one that removes it up to the next field or the closing brace
+-- the document after the edit that removes a field up to the next field or the closing brace
 abbrev pub field_removed : Document → ℕ → EntryReading → ℕ → FieldReading → Document
 field_removed d k e j f = field_cut d k e j (field_edit e j f)
 
--- ---- what is left after a field
+-- ---- the fields after a field
 
 unfoldable pub limit_of : List FieldReading → ℕ → ℕ
 limit_of [] end = end
 limit_of (f ∷ fs) end = f.name.start
 
--- the fields after one, from the next field's name or the closing brace on
+-- the fields after one: they begin at `limit_of`, with a character that is neither white space nor `%`
 record RestFields (u : Place) (fs : List FieldReading) (v : Place) : Type 0 where
   start : Place
   before : Ahead u start
@@ -110,7 +110,7 @@ rest_fields (FieldsAfter.more gap comma gap' rest) closes =
     from_fields (ahead_then (ahead_gap gap) (ahead_then (ahead_char comma) (ahead_gap gap'))) (ahead_fields rest) rest
     closes
 
--- where they begin, by the entry's fields
+-- `limit_of` the following fields is the byte offset of the next field, or else of the closing brace
 pub limit_is : (before following : List FieldReading) (f : FieldReading) (j end : ℕ) → length before ≡ j
     → option_map_or (λ g. g.name.start) (slice_get (before ++ f ∷ following) (suc j)) end ≡ limit_of following end
 unfolding limit_of
@@ -120,7 +120,7 @@ limit_is [] following f (suc j) end index = absurd (omega arith)
 limit_is (b ∷ bs) following f zero end index = absurd (omega arith)
 limit_is (b ∷ bs) following f (suc j) end index = limit_is bs following f j end (omega arith)
 
--- ---- the fields before one, in the new text
+-- ---- the fields before a field, in the new text
 
 joined_rest : {u a v : Place} {before fs : List FieldReading} → FieldsBefore u before a → Fields longest a fs v
     → Fields longest u (before ++ fs) v
@@ -160,7 +160,8 @@ fields_before_until {f} z iu iv char other white stops (FieldsBefore.more field 
     (char_there z b c comma) (gap_before z c d iv char other white stops gap' others)
     (fields_before_until z d iv char other white stops others)
 
--- an entry with other fields from one of its fields on: the new text has a character there that is neither white space nor `%`
+-- an edit from the start of a field on gives an entry with other fields, if a character that is neither white space nor `%` is there and
+-- the fields parse
 pub from_field_read : (d : Document) (edit : Edit) (k : ℕ) (e : EntryReading) (j : ℕ) (f : FieldReading) (news : List FieldReading)
     {c : ℕ} {next : Place} → (s : EntrySplit (place d.text 0) d.says e k)
     → (g : FieldSplit s.block.fields_start e.fields f j s.block.brace) → edit.start ≡ g.start.at → edit.start < edit.end
@@ -254,7 +255,7 @@ field_removed_read d k e j f read here there' =
     from_field_read d edit k e j f (remove (map (moved_field move) e.fields) j) s g start_is some past char r.dark r.plain (λ before.
     subst (λ fs. Fields longest (goes edit d.text b.fields_start) fs (goes edit d.text b.brace)) listed (joined_rest before rest))
 
--- where each field may be cut out
+-- each field of an entry may be cut out, up to the next one or the closing brace
 pub fields_placed : (d : Document) (k : ℕ) (e : EntryReading) → IsDocument d → slice_get d.says.entries k ≡ Some e
     → AreFieldsPlaced d.text e
 fields_placed d k e read here j f there' =
@@ -279,7 +280,7 @@ fields_placed d k e read here j f there' =
           (subst (λ t. IsCharBoundary t r.start.at) (ahead_then at_field over).text (char_boundary r.here));
     }
 
--- a field takes some bytes
+-- a field begins before the next field or the closing brace
 pub limit_past : (d : Document) (k : ℕ) (e : EntryReading) (j : ℕ) (f : FieldReading) → IsDocument d
     → slice_get d.says.entries k ≡ Some e → slice_get e.fields j ≡ Some f → f.name.start < field_limit e j
 limit_past d k e j f read here there' =
@@ -308,7 +309,7 @@ limit_past d k e j f read here there' =
       r.before.at,
     )
 
--- fields end before those after them
+-- each of these fields ends at or before the place after them
 before_ends : {u v : Place} {fs : List FieldReading} (i : ℕ) (f : FieldReading) → FieldsBefore u fs v
     → slice_get fs i ≡ Some f → f.value.end ≤ v.at
 before_ends i f FieldsBefore.none found = absurd (cc)

@@ -1,4 +1,4 @@
--- Where a value begins and ends, and a text in braces in another text.
+-- The first and the last character of a value, and a text in braces in another text.
 use Rattle.std.proofs.Common.{◌≡◌, inl, inr, ℕ, ◌+◌, ◌-◌, ◌<◌, ◌≤◌, Bool, false, List, [], ◌∷◌, ◌++◌, length, drop, refl, sym, ap, ◌∙◌, subst, arith, Some, length-append}
 use Rattle.std.specs.Prelude.{slice_get}
 use Rattle.std.specs.Char.{is_whitespace}
@@ -28,9 +28,9 @@ use Rattle.edit_entries.proofs.GrammarFacts.{braced_there}
 use Rattle.edit_entries.proofs.SplitFacts.{FieldsAfter, split_file, split_fields}
 use Rattle.edit_entries.proofs.EntryFacts.{ahead_to_field}
 
--- ---- where a value begins and ends
+-- ---- the start and the end of a value
 
--- it begins with a character that is no white space
+-- a character that isn't white space is at `u` and ends at or before `v`
 pub record Opens (u v : Place) : Type 0 where
   pub char : ℕ
   pub next : Place
@@ -93,15 +93,15 @@ elements_opens (elements.more e white sign white' rest) =
           (ahead_then (ahead_char sign) (ahead_then (ahead_run white'.run) (ahead_elements rest))));
     }
 
--- no white space begins with such a character
+-- a run of white space that begins at another character is empty
 dark_run : {u v w : Place} {c : ℕ} → Run is_whitespace u v → CharAt u c w → is_whitespace c ≡ false → u ≡ v
 dark_run stop char dark = refl
 dark_run (step first white rest) char dark =
     absurd (test_clash _ white (subst (λ d. is_whitespace d ≡ false) (same_char char first).0 dark))
 
--- ---- what stands after a value
+-- ---- the character after a value
 
--- a character stands here
+-- a character is at this place
 pub record Stands (u : Place) : Type 0 where
   pub char : ℕ
   pub next : Place
@@ -139,7 +139,7 @@ braced_part value b =
     (omega (arith, b.closes.next, length-in_braces value)) in
     b.reading ∙ ap (λ u. part u b.following) first ∙ ap (part (place (in_braces value) 1)) last
 
--- a part of a text in braces, moved
+-- the text between braces, moved to a byte offset, is the text there
 moved_inner : (value : List ℕ) (start at : ℕ) → at ≡ start
     → moved_part (λ n. n + start) (part (place (in_braces value) 1) (place (in_braces value) (length value + 1)))
     ≡ text_at (at + 1) value
@@ -150,7 +150,7 @@ moved_inner value start at is =
     ap (λ t. build t (1 + start) (length value + 1 + start)) (inner_text value)
     ∙ ap (λ n. build value n (length value + 1 + start)) first ∙ ap (build value (at + 1)) last
 
--- a text in braces, where it stands
+-- the bytes of a text in braces parse to this text anywhere
 pub braced_stands : (whole rest value : List ℕ) (at : ℕ) → CanStandInBraces value
     → drop at whole ≡ in_braces value ++ rest → Border (place whole (at + length (in_braces value)))
     → Braced (place whole at) (text_at (at + 1) value) (place whole (at + length (in_braces value)))
@@ -171,7 +171,7 @@ braced_stands whole rest value at can here border =
 
 -- ---- the stretch of a value
 
--- the first character of a value is replaced
+-- a value isn't empty without the white space after it
 pub value_some : {edit_end : ℕ} {text : List ℕ} {u v : Place} {es : List Piece} → Elements longest u es v
     → u.text ≡ text → u.at ≤ edit_end → Run is_whitespace (place text edit_end) v → u.at < edit_end
 value_some {edit_end} {text} {u} {v} all same ordered white =
@@ -184,7 +184,7 @@ value_some {edit_end} {text} {u} {v} all same ordered white =
           absurd (omega (arith, ap (λ p. p.at) none, opens.ahead.at, opens.here.next, (len_utf8_bounds opens.char).0))
     ]
 
--- where a value may be cut out of its text
+-- the value of a field may be cut out of its text
 pub field_placed : (d : Document) (k : ℕ) (e : EntryReading) (j : ℕ) (f : FieldReading) → IsDocument d
     → slice_get d.says.entries k ≡ Some e → slice_get e.fields j ≡ Some f → IsPlaced d.text f
 field_placed d k e j f read here there' =

@@ -1,4 +1,4 @@
--- Another value in the place of a field's, as fields that are put in its place.
+-- A field with another value as one field that replaces it.
 use Rattle.std.proofs.Common.{◌≡◌, ℕ, zero, suc, List, [], ◌∷◌, map, refl, ap, ◌∙◌, subst, arith, Some}
 use Rattle.std.specs.Prelude.{option_map, slice_get, slice_set}
 use Rattle.std.specs.Char.{is_whitespace}
@@ -15,13 +15,13 @@ use Rattle.edit_entries.proofs.NewValueFacts.{CanBeRead, value_exchanged, with_p
 use Rattle.edit_entries.proofs.PartFacts.{IsIn}
 use Rattle.edit_entries.proofs.PutFacts.{put_at}
 
--- one in the place of the element with an index
+-- replacing an element is replacing it by a list of one element
 set_put : {A : Type 0} (xs : List A) (j : ℕ) (x y : A) → slice_get xs j ≡ Some x → slice_set xs j y ≡ put_at j (y ∷ []) xs
 set_put [] j x y there = absurd (cc)
 set_put (z ∷ zs) zero x y there = refl
 set_put (z ∷ zs) (suc j) x y there = ap (λ l. z ∷ l) (set_put zs j x y there)
 
--- a field with other pieces, without places
+-- a moved field with pieces that are the new ones except for byte offsets is the field with the new pieces, except for byte offsets
 valued_placeless : (move : ℕ → ℕ) (f : FieldReading) (reading pieces : List Piece)
     → map (moved_piece (λ n. 0)) reading ≡ map (moved_piece (λ n. 0)) pieces
     → map (moved_field (λ n. 0)) (with_pieces reading (moved_field move f) ∷ [])

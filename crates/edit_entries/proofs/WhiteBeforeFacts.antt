@@ -21,7 +21,7 @@ places (suc n) (suc k) below = by_rest (places n k (omega (arith, below)))
     by_rest (inr earlier) = inr (omega (arith, earlier))
 
 module _ {A : Type 0} (p : A → Bool) (xs : List A) (d : A) where
-  -- each element of the longest suffix that passes, among the first elements of a list
+  -- each element of the longest suffix of the first `n` elements that passes does pass
   suffix_passes : (n k : ℕ) → n ≤ length xs → n - suffix_len p (take n xs) ≤ k → k < n → p (get_or xs k d) ≡ true
   suffix_passes zero k within from below = absurd (omega (arith, below))
   suffix_passes (suc n) k within from below =
@@ -72,7 +72,7 @@ before_white text at within =
     (subst (λ xs. at - suffix_len is_ascii_whitespace xs ≤ k) (sym (take_all at before (omega (arith, size)))) from)
     (omega (arith, below, size))))
 
--- the rest of the text before a byte offset after its trimmed start
+-- the text between the trimmed end of a prefix and its end is `white_before`
 pub white_cut : (text before rest white : List ℕ) (at : ℕ) → at ≤ length text → before ≡ take at text → IsTrimAsciiEnd before rest
     → white ≡ drop (length rest) before → white ≡ white_before text at
 white_cut text before rest white at within is trimmed cut =

@@ -4,7 +4,7 @@ use Rattle.std.specs.Str.{IsUtf8, IsCharBoundary}
 use Rattle.std.proofs.lemmas.Bool.{cases_lt}
 use Rattle.std.proofs.lemmas.Str.{IsCharBoundary-end, IsCharBoundary-from_drop}
 
--- a text may be cut where what is left of it is a text
+-- a text may be cut at the start of a suffix that is UTF-8
 pub start_cut : (text rest : List ℕ) (n : ℕ) → rest ≡ drop n text → length rest ≤ length text → IsUtf8 rest
     → IsCharBoundary text (length text - length rest)
 start_cut text rest n is small utf8 =

@@ -1,4 +1,4 @@
--- Two texts that have the same bytes in a zone: what stands in it in the one stands in it in the other.
+-- Two texts that have the same bytes in a zone: the parts of the first in the zone are also in the second.
 use Rattle.std.proofs.Common.{◌≡◌, ℕ, ◌+◌, ◌-◌, ◌<◌, ◌≤◌, Bool, List, ◌++◌, length, take, drop, refl, sym, ap, ◌∙◌, subst, arith, inl, inr}
 use Rattle.std.specs.Prelude.{encode_utf8}
 use Rattle.std.specs.Char.{len_utf8}
@@ -14,8 +14,8 @@ use Rattle.bib_syntax.proofs.FieldFacts.{ahead_parts}
 use Rattle.bib_syntax.specs.Reading.{Part, part}
 use Rattle.edit_entries.specs.Edits.{moved_part}
 
--- two texts, where each place of the first goes in the second, and the zone: from a place up to another, and where that
--- place goes
+-- two texts, the function that moves byte offsets from the first to the second, and a zone: from `from` to `end`, which begins at `to` in
+-- the second
 pub record Frame : Type 0 where
   pub old : List ℕ
   pub new : List ℕ
@@ -24,18 +24,17 @@ pub record Frame : Type 0 where
   pub to : ℕ
   pub end : ℕ
 
--- the zone has the same bytes in both texts, its places keep their distances, and no character of the second text goes
--- over its end
+-- the zone has the same bytes in both texts, its byte offsets keep their distances, and no character of the second text crosses its end
 pub record Zone (f : Frame) : Type 0 where
   pub moves : (n : ℕ) → f.from ≤ n → n < f.end → f.move n + f.from ≡ n + f.to
   pub same : take (f.end - f.from) (drop f.from f.old) ≡ take (f.end - f.from) (drop f.to f.new)
   pub cut : {u v : Place} {c : ℕ} → u.text ≡ f.new → CharAt u c v → u.at + f.from < f.end + f.to → v.at + f.from ≤ f.end + f.to
 
--- where a place of the first text goes
+-- the place in the second text of a place of the first
 abbrev pub there : Frame → Place → Place
 there f u = place f.new (f.move u.at)
 
--- a place of the zone, or its end
+-- a place of the first text is in the zone or at its end
 pub record Inside (f : Frame) (u : Place) : Type 0 where
   pub text : u.text ≡ f.old
   pub start : f.from ≤ u.at
@@ -45,7 +44,7 @@ pub record Inside (f : Frame) (u : Place) : Type 0 where
 pub inside : {f : Frame} {u : Place} → Zone f → u.text ≡ f.old → f.from ≤ u.at → u.at < f.end → Inside f u
 inside {f} {u} z text start below = record { text = text; start = start; end = omega arith; moved = z.moves u.at start below }
 
--- what stands between two places of the zone is of it
+-- a place between two places of the zone is in the zone
 pub inside_between : {f : Frame} {u v w : Place} → Zone f → Inside f u → Inside f v → Ahead u w → Ahead w v → Inside f w
 inside_between {f} {u} {v} {w} z iu iv first second =
     let text : w.text ≡ f.old = first.text ∙ iu.text in
@@ -58,13 +57,13 @@ inside_between {f} {u} {v} {w} z iu iv first second =
           record { text = text; start = start; end = end; moved = subst (λ n. f.move n + f.from ≡ n + f.to) last iv.moved }
     ]
 
--- some bytes of the first bytes of a list
+-- bytes within the first bytes of a list are the same in the whole list
 pub inner : (size k n : ℕ) (xs : List ℕ) → k + n ≤ size → take n (drop k (take size xs)) ≡ take n (drop k xs)
 inner size k n xs fits =
     let whole : size ≡ k + (size - k) = omega arith in
     ap (λ m. take n (drop k (take m xs))) whole ∙ ap (take n) (drop-take k (size - k) xs) ∙ take-take n (size - k) (drop k xs) (omega arith)
 
--- bytes between two places of the zone
+-- bytes of the zone are the same in the second text
 pub bytes_there : {f : Frame} → Zone f → (a n b : ℕ) → f.from ≤ a → a + n ≤ f.end → b + f.from ≡ a + f.to
     → take n (drop b f.new) ≡ take n (drop a f.old)
 bytes_there {f} z a n b start end is =
@@ -78,7 +77,7 @@ bytes_there {f} z a n b start end is =
     ∙ ap (λ xs. take n (drop k xs)) (sym z.same)
     ∙ inner size k n (drop f.from f.old) fits ∙ ap (take n) (drop-drop k f.from f.old) ∙ ap (λ m. take n (drop m f.old)) from_old
 
--- a character stands where its bytes do
+-- a character is parsed at a place with its bytes
 pub copied : (old new rest : List ℕ) (a b c : ℕ) → drop a old ≡ encode_utf8 c ++ rest
     → take (len_utf8 c) (drop b new) ≡ take (len_utf8 c) (drop a old)
     → CharAt (place new b) c (place new (b + len_utf8 c))
@@ -88,7 +87,7 @@ copied old new rest a b c here same =
     char_here new (drop (len_utf8 c) (drop b new)) b c
     (sym (take-append-drop (len_utf8 c) (drop b new)) ∙ ap (λ xs. xs ++ drop (len_utf8 c) (drop b new)) bytes)
 
--- a character of the zone
+-- a character of the zone is at the moved place in the second text
 pub char_there : {f : Frame} {u v : Place} {c : ℕ} → Zone f → Inside f u → Inside f v → CharAt u c v → CharAt (there f u) c (there f v)
 char_there {f} {u} {v} {c} z iu iv char =
     let next : v.at ≡ u.at + len_utf8 c = char.next in
@@ -100,7 +99,7 @@ char_there {f} {u} {v} {c} z iu iv char =
     let width : f.move u.at + len_utf8 c ≡ f.move v.at = omega (arith, iu.moved, iv.moved) in
     subst (λ n. CharAt (there f u) c (place f.new n)) width stands
 
--- the zone's last character
+-- a character that ends at or before the end of the zone is at the moved place in the second text
 pub char_there_last : {f : Frame} {u v : Place} {c : ℕ} → Zone f → Inside f u → v.at ≤ f.end → CharAt u c v
     → CharAt (there f u) c (place f.new (f.move u.at + len_utf8 c))
 char_there_last {f} {u} {v} {c} z iu end char =
@@ -110,7 +109,7 @@ char_there_last {f} {u} {v} {c} z iu end char =
     copied f.old f.new (drop v.at f.old) u.at (f.move u.at) c here
     (bytes_there z u.at (len_utf8 c) (f.move u.at) iu.start (omega arith) iu.moved)
 
--- a character of the second text stands in the first
+-- a character at a moved place of the zone is in the first text, too
 pub char_back : {f : Frame} {u w : Place} {c : ℕ} → Zone f → Inside f u → u.at < f.end → CharAt (there f u) c w
     → CharAt u c (place u.text (u.at + len_utf8 c))
 char_back {f} {u} {w} {c} z iu below char =
@@ -153,7 +152,7 @@ parts_there z iu iv (nested opens parts closes rest) =
     let c = inside_between z b iv (ahead_char closes) (ahead_parts rest) in
     nested (char_there z iu a opens) (parts_there z a b parts) (char_there z b c closes) (parts_there z c iv rest)
 
--- what stands between two places of the zone
+-- the text between two places of the zone is the same in the second text
 pub between_there : {f : Frame} {u v : Place} → Zone f → Inside f u → Inside f v → Ahead u v → between (there f u) (there f v) ≡ between u v
 between_there {f} {u} {v} z iu iv ahead =
     let size : f.move v.at - f.move u.at ≡ v.at - u.at = omega (arith, iu.moved, iv.moved, ahead.at, iu.start) in
@@ -167,7 +166,8 @@ part_there {f} {u} {v} z iu iv ahead =
     let build : List ℕ → Part = λ (t : List ℕ). record { text = t; start = f.move u.at; end = f.move v.at } in
     ap build (between_there z iu iv ahead)
 
--- where the whole rest of both texts is the zone, both end at once
+-- if both texts have the same number of bytes from the start of the zone on, a place at the end of the first is moved to the end of the
+-- second
 pub end_there : {f : Frame} {u : Place} → Inside f u → length f.old + f.to ≡ length f.new + f.from → AtEnd u → AtEnd (there f u)
 end_there {f} {u} iu same end =
     let size : length u.text ≡ length f.old = ap length iu.text in

@@ -10,7 +10,7 @@ use Rattle.edit_entries.specs.Setting.{IsAfterComma}
 use Rattle.edit_entries.specs.Placed.{HasComma}
 use Rattle.edit_entries.proofs.adding.after_comma.Goals as goal
 
--- the comma that is taken after the white space after the key
+-- the place after the comma that the parser takes after white space is the one of `IsAfterComma`
 comma : (text : List ℕ) (e : EntryReading) (at : ℕ) (answer : Bool) {u a v : Place} → HasComma text e
     → u ≡ place text e.key.end → Longest is_whitespace u a
     → MatchBool answer (CharAt a 44 v) ((v ≡ a) × ((w : Place) → CharAt a 44 w → ⊥))

@@ -11,7 +11,7 @@ use Rattle.edit_entries.proofs.braces.is_braced.Goals as goal
 braced : {u a b v : Place} → CharAt u 123 a → Parts a b → CharAt b 125 v → Braced u (part a b) v
 braced opens parts closes = record { inside = _; following = _; opens = opens; parts = parts; closes = closes; reading = refl }
 
--- a text from its first brace to the one that closes it
+-- if a brace, parts and a closing brace are parsed, the text is in braces exactly if the text ends there
 whole : (text : List ℕ) (answer : Bool) {u a b v : Place} → u ≡ place text 0 → CharAt u 123 a → Parts a b
     → CharAt b 125 v → MatchBool answer (AtEnd v) (AtEnd v → ⊥)
     → MatchBool answer ((p : Part) × Braced (place text 0) p (place text (length text)))
@@ -33,7 +33,7 @@ returns-in-Some c =
     whole c.args.text.now c.closes.result c.new-s.ensures c.if-not-eat_if.ensures c.in-Some.ensures.0
     c.closes.ensures.brace c.closes.ensures.end
 
--- where no parts are closed, no text in braces begins
+-- if no closing brace is after parts, no text in braces begins there
 none : (text : List ℕ) {u a v : Place} {p : Part} → u ≡ place text 0 → CharAt u 123 a
     → ((x y : Place) → Parts a x → CharAt x 125 y → ⊥) → Braced (place text 0) p v → ⊥
 none text {u} {a} {v} {p} start opens stuck b =

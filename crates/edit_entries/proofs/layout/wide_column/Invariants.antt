@@ -5,7 +5,7 @@ use Rattle.edit_entries.specs.Layouts as spec
 use Rattle.edit_entries.specs.Placed.{IsSignPlaced}
 use Rattle.edit_entries.proofs.layout.wide_column.Given as goal
 
--- the fields still to visit decide
+-- the fields that are left decide the column
 abbrev pub invariant-fields : goal.invariant-fields
 invariant-fields l = record {
   left : spec.wide_column l.text (map field_of l.fields) ≡ spec.wide_column l.text (map field_of (drop l.field-index l.fields));

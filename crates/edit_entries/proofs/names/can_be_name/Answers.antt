@@ -9,7 +9,7 @@ use Rattle.bib_syntax.proofs.WordFacts.{identifier_found}
 use Rattle.edit_entries.specs.Documents.{CanBeName}
 use Rattle.edit_entries.proofs.names.can_be_name.Goals as goal
 
--- an identifier begins with a character that one may begin with
+-- a text isn't a name if its first character can't begin one
 no_name : (text : List ℕ) {u : Place} → u ≡ place text 0 → ((c : ℕ) (v : Place) → CharAt u c v → is_id_start c ≡ false) → CanBeName text → ⊥
 no_name text {u} start none can =
     test_clash _ can.1.starts
@@ -18,7 +18,7 @@ no_name text {u} start none can =
 pub returns-then-not-begins_name : goal.returns-then-not-begins_name
 returns-then-not-begins_name c = no_name c.args.text.now c.new-s.ensures c.if-not-begins_name.ensures
 
--- a text that begins with one is one if the longest goes on to its end
+-- a text whose first character can begin a name is a name exactly if the longest run of a name's characters goes on to its end
 whole : (text : List ℕ) (answer : Bool) {u v : Place} → u ≡ place text 0
     → ((c : ℕ) × (w : Place) × CharAt u c w × (is_id_start c ≡ true)) → Longest is_id_continue u v
     → IsTrue answer ↔ AtEnd v

@@ -4,7 +4,7 @@ use Rattle.bib_syntax.specs.Views.{entry_reading_of}
 use Rattle.edit_entries.specs.Quotes as spec
 use Rattle.edit_entries.proofs.quotes.contain_unbalanced_quote.Given as goal
 
--- the entries still to visit decide
+-- an entry has an unbalanced quote exactly if one of those that are left has
 abbrev pub invariant-entries : goal.invariant-entries
 invariant-entries l =
     list_any (spec.contains_unbalanced_quote l.text) (map entry_reading_of l.entries)

@@ -4,7 +4,7 @@ use Rattle.bib_syntax.specs.Views.{field_of, piece_of}
 use Rattle.edit_entries.specs.Quotes as spec
 use Rattle.edit_entries.proofs.quotes.has_unbalanced_quote.Given as goal
 
--- the pieces still to visit decide
+-- a piece is an unbalanced quote exactly if one of those that are left is
 abbrev pub invariant-pieces : goal.invariant-pieces
 invariant-pieces l =
     spec.has_unbalanced_quote l.text (field_of l.field)

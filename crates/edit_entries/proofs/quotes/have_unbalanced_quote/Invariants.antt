@@ -4,7 +4,7 @@ use Rattle.bib_syntax.specs.Views.{field_of}
 use Rattle.edit_entries.specs.Quotes as spec
 use Rattle.edit_entries.proofs.quotes.have_unbalanced_quote.Given as goal
 
--- the fields still to visit decide
+-- a field has an unbalanced quote exactly if one of those that are left has
 abbrev pub invariant-fields : goal.invariant-fields
 invariant-fields l =
     list_any (spec.has_unbalanced_quote l.text) (map field_of l.fields)

@@ -5,7 +5,7 @@ use Rattle.bib_text.specs.Places.{Longest, Place, place}
 use Rattle.bib_text.proofs.PlaceFacts.{ahead_run, same_place}
 use Rattle.edit_entries.proofs.removing.after_white.Goals as goal
 
--- white space from a place of a text on
+-- the longest run of white space from a byte offset of a text on
 record Taken (text : List ℕ) (start at : ℕ) (v : Place) : Type 0 where
   white : Longest is_whitespace (place text start) (place text at)
   same : v.text ≡ text

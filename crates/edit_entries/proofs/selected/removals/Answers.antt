@@ -10,7 +10,7 @@ use Rattle.edit_entries.specs.Selected.{AreRemovals, has_selected_key}
 use Rattle.edit_entries.proofs.RemovalListFacts.{removals_added}
 use Rattle.edit_entries.proofs.selected.removals.Goals as goal
 
--- the first element and the others that pass a test
+-- a filtered list is the filtered first element and then the filtered rest
 filter_first : {A : Type 0} (test : A → Bool) (x : A) (xs : List A) → filter test (x ∷ xs) ≡ filter test (x ∷ []) ++ filter test xs
 filter_first test x xs = by_case (test x)
   where

@@ -28,7 +28,7 @@ removals-requires c =
           (all_found (IsEntryPlaced d.text) d.says.entries (λ k e here. entry_placed d k e read here)));
     }
 
--- the edits are those of the document
+-- the edits are those that remove the selected entries of the document
 made : (c : After-deref-2) → AreRemovals c.args.self.now.text
     (filter (has_selected_key (is_in_set c.args.keys.now)) c.args.self.now.says.entries) (map edit_of c.deref-2.result.now)
 made c =

@@ -19,7 +19,7 @@ use Rattle.edit_entries.proofs.ValueFacts.{field_placed}
 use Rattle.edit_entries.proofs.document.RawDocument.unset_field.Goals as goal
 use Rattle.edit_entries.proofs.document.RawDocument.unset_field.Goals.{In-Some}
 
--- what is known of the entry
+-- the entry is the first one with the key, and the values of its fields may be cut out and trimmed
 record Known (d : Document) (key : List ℕ) (e : EntryReading) : Type 0 where
   index : ℕ
   read : IsDocument d
