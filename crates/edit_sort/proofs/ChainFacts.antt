@@ -28,7 +28,7 @@ chain_after entries n child parent there refers chain =
     (and_from (refers_to parent.key.text child) (has_chain entries n child) refers chain)
 
 module _ (entries : List EntryReading) where
-  -- the child at the end of a chain to an entry
+  -- an entry that names `e`, and to which a chain of `n` references leads
   record Child (n : ℕ) (e : EntryReading) : Type 0 where
     index : ℕ
     child : EntryReading
@@ -68,7 +68,7 @@ module _ (entries : List EntryReading) where
       (Contains-from_any eqb-true q visited h))
 
   module _ (last : EntryReading) (fine : IsAfterCycle entries last → ⊥) where
-    -- an entry that names another is none of the entries to which that entry leads
+    -- if an entry leads to `last`, none of the entries to which it leads names it
     no_cycle_at : (q v : ℕ) (child e : EntryReading) → slice_get entries q ≡ Some child → Contains entries child
         → refers_to e.key.text child ≡ true → (m : ℕ) → IsChain entries m e last → LeadsTo e v → q ≡ v → ⊥
     no_cycle_at q v child e here there refers m reached leads same =

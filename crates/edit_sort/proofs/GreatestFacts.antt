@@ -47,7 +47,7 @@ greatest_same p q zero same = refl
 greatest_same p q (suc n) same =
     ap (λ b. cond b (suc n) (greatest p n)) (same (suc n)) ∙ ap (cond (q (suc n)) (suc n)) (greatest_same p q n same)
 
--- if no number from `m` on passes, the bound can be `m`
+-- if no number from `m + 1` to `m + k` passes, the bound can be `m`
 pub greatest_skip : (test : ℕ → Bool) (m k : ℕ) → ((j : ℕ) → m < j → j ≤ m + k → test j ≡ false) → greatest test (m + k) ≡ greatest test m
 greatest_skip test m zero fails = (let same : m + 0 ≡ m = omega arith in ap (greatest test) same)
 greatest_skip test m (suc k) fails =
@@ -93,7 +93,8 @@ after_bound test zero first = ap (λ b. cond b 1 0) first
 after_bound test (suc m) first =
     after_step m (greatest (one_after test) (suc m)) (greatest test m) (test (suc m)) (after_bound test m first)
 
--- the greatest such number is one more than the greatest that passes the test, but at most the bound
+-- if 0 passes, and each number passes if the next one does, the greatest such number is one more than the greatest that passes the test,
+-- but at most the bound
 pub greatest_after : (test : ℕ → Bool) (m : ℕ) → test 0 ≡ true → ((n : ℕ) → test (suc n) ≡ true → test n ≡ true)
     → greatest (one_after test) m ≡ min (greatest test m + 1) m
 greatest_after test zero first closed = omega arith

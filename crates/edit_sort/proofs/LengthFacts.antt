@@ -3,11 +3,11 @@ use Rattle.std.proofs.Common.{◌≡◌, ℕ, ◌+◌, ◌<◌, max, min, List, 
 use Rattle.std.proofs.lemmas.List.{drop_more}
 use Rattle.edit_sort.specs.Ranks.{one_above}
 
--- the greatest length before the first index is 0
+-- before the first index, the greatest length so far is 0, which doesn't change the result
 pub above_none : (n : ℕ) → max 0 n ≡ n
 above_none n = omega arith
 
--- the greatest length after one more index
+-- the greatest length so far, after one more index, gives the same result with the indices after it
 pub above_more : (most : ℕ) (f : ℕ → ℕ) (indices : List ℕ) (i found next : ℕ) → i < length indices
     → next ≡ max found (min (f (get_or indices i 0) + 1) most)
     → max next (one_above most (map f (drop (i + 1) indices))) ≡ max found (one_above most (map f (drop i indices)))
@@ -17,6 +17,6 @@ above_more most f indices i found next within is =
     let same : max next rest ≡ max found (max first rest) = omega (arith, is) in
     same ∙ ap (λ l. max found (one_above most (map f l))) (sym (drop_more indices i 0 within))
 
--- the greatest length after the last index is the result
+-- after the last index, the greatest length so far is the result
 pub above_all : (found : ℕ) → max found 0 ≡ found
 above_all found = omega arith

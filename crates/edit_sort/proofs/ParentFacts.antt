@@ -28,7 +28,7 @@ chain_of_rank entries e =
       | inr passes ↦ passes
     ]
 
--- a child has a smaller rank than its parent
+-- a child has a smaller rank than its parent, if the parent is neither on a cycle nor after one
 rank_rises : (entries : List EntryReading) (child parent : EntryReading) → Contains entries child
     → refers_to parent.key.text child ≡ true → (IsAfterCycle entries parent → ⊥) → rank entries child < rank entries parent
 rank_rises entries child parent there refers fine =

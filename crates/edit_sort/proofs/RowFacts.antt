@@ -43,7 +43,7 @@ pub record AreFirstCut (graph : Graph) (marks : List Bool) (i : ℕ) (left : Gra
 pub cut_none : (graph : Graph) (marks : List Bool) → AreFirstCut graph marks 0 graph
 cut_none graph marks = record { same_length = refl; each = λ index. refl }
 
--- one more mark
+-- the index `i` is marked among the first `i + 1` marks exactly if it is marked
 marked_here : (marks : List Bool) (i : ℕ) → is_marked (take (i + 1) marks) i ≡ is_marked marks i
 marked_here marks i = get_or-take (i + 1) marks i false (omega arith)
 

@@ -53,7 +53,7 @@ pub any_through : {A : Type 0} (p : A → Bool) (g : A → A) (xs : List A) → 
 any_through p g [] same = refl
 any_through p g (x ∷ xs) same = ap (λ b. b || list_any p (map g xs)) (same x) ∙ ap (λ b. p x || b) (any_through p g xs same)
 
--- disjunctions of tests with one more of them
+-- `(s && t) || (o && t)` is `(s || o) && t`, also after another alternative
 pub one_more_or : (a s o t : Bool) → ((a || (s && t)) || (o && t)) ≡ (a || ((s || o) && t))
 one_more_or true s o t = refl
 one_more_or false true true true = refl

@@ -39,7 +39,7 @@ use Rattle.edit_sort.proofs.StepFacts.{items_are, listed, listed_order}
 has-append : (xs ys : List ℕ) → has_byte 64 (xs ++ ys) ≡ (has_byte 64 xs || has_byte 64 ys)
 has-append xs ys = list_any-append (λ b. b == 64) xs ys
 
--- a comment that moves contains no at sign
+-- a text without an at sign has none after the white space at its start is removed
 white_clear : (bytes : List ℕ) → has_byte 64 bytes ≡ false → has_byte 64 (without_white bytes) ≡ false
 white_clear bytes clear =
     let end = white_end bytes in
@@ -60,7 +60,7 @@ comment_clear is_first gap = by_run (begins_run is_first gap) refl
     by_run true is = by_sign (has_block_sign near) refl
     by_run false is = white_clear gap (or_false_right is_first (has_byte 64 gap) is)
 
--- a comment after a space doesn't change the run
+-- a comment without an at sign after a space doesn't change the run
 run_of_space : (run : ℕ) (space comment : List ℕ) → has_byte 64 comment ≡ false → run_after run (space ++ comment) ≡ run_after run space
 run_of_space run space comment clear =
     ap (λ b. cond b (run + 1) run) (has-append space comment ∙ ap (λ b. has_byte 64 space || b) clear ∙ or-false (has_byte 64 space))
@@ -215,7 +215,7 @@ entries_are all text places index at run (e ∷ es) =
 abbrev without_places : List EntryReading → List EntryReading
 without_places es = map (moved_entry (λ n. 0)) es
 
--- the entries in another order pass the same tests
+-- entries that are those of a sorted document except for byte offsets pass the same tests as the entries of the document
 any_alike : (d : Document) (places : List ℕ) (order : List Item) (es : List EntryReading)
     → AreEntriesInOrder (items d places) order
     → without_places es ≡ without_places (map (λ i. i.entry) order) → PassAlike d.says.entries es
