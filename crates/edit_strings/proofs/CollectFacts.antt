@@ -49,7 +49,7 @@ use Rattle.bib_text.proofs.ListFacts.{all_push, all_weaker, found_has}
 
 -- ---- names that can be read
 
--- a name is read as one where it stands: it is an identifier without a leading digit
+-- a name parses as the name of an abbreviation: it is an identifier without a leading digit
 pub record IsReadAsName (name : List ℕ) : Type 0 where
   pub can : CanBeName name
   pub no_digit : NoDigit (place name 0)
@@ -156,14 +156,14 @@ edits_known d edits fields texts names index text es same listed is are =
 
 -- ---- lines before the first entry
 
--- readings that are equal without spans are so with definitions before them too
+-- definitions before a reading, both without spans, are the reading after the definitions without spans
 after_placeless : (definitions : List FieldReading) (says : FileReading)
     → placeless (after_definitions definitions says) ≡ after_definitions (map (moved_field (λ n. 0)) definitions) (placeless says)
 after_placeless definitions says =
     ap (λ fs. let x : FileReading = record (placeless says) { abbreviations = fs } in x)
     (map-append (moved_field (λ n. 0)) definitions says.abbreviations)
 
--- a reading of two parts, with definitions between them
+-- definitions inserted before the second part of a reading are after the definitions of the first part
 between_parts : (first rest whole : FileReading) (definitions following : List FieldReading) → then first rest ≡ whole
     → whole.abbreviations ≡ first.abbreviations ++ following
     → then first (after_definitions definitions rest)
@@ -229,7 +229,7 @@ module _ (d : Document) (read : IsDocument d) (utf8 : IsUtf8 d.text) (exchange :
       subst (AreEditsInOrder d.text (e.start + 1)) (sym (edits_are_changes (λ e. exchange) d.text (e ∷ es)))
       (edits_in_order (exchanges exchange) d.text (e.start + 1) (e ∷ es) (order.0, f.kind, order.2, order.3, order.4) placed)
 
-  -- they come after an insertion before the first entry
+  -- an insertion before the first entry and the edits of replaced values are in order
   pub lines_in_order : (lines : List ℕ) → AreEditsInOrder d.text 0
       ((record { start = first_entry_start d.says.entries; end = first_entry_start d.says.entries; bytes = lines })
       ∷ entry_edits exchange d.text d.says.entries)
@@ -266,7 +266,7 @@ module _ (d : Document) (read : IsDocument d) (utf8 : IsUtf8 d.text) (exchange :
   abbrev changed_says : FileReading
   changed_says = file_changed (exchanges exchange) d.says
 
-  -- a document with a first entry
+  -- with the lines before its first entry, the text with replaced values parses to the reading with the definitions of the lines
   some_read : (e : EntryReading) (es : List EntryReading) → d.says.entries ≡ e ∷ es
       → IsReadPlaceless (with_definitions e.start readings changed_says)
       (edited (record { start = e.start; end = e.start; bytes = lines }) now)
@@ -339,7 +339,7 @@ module _ (d : Document) (read : IsDocument d) (utf8 : IsUtf8 d.text) (exchange :
             ∙ split_from at f.before.abbreviations f.following.abbreviations f.are_before f.are_from))));
       }
 
-  -- a document without entries, from which no text is collected
+  -- if a document has no entries, and no text is collected from it, its text without lines parses to the same reading
   none_read : (es : List EntryReading) → d.says.entries ≡ es → length es ≡ 0 → texts ≡ [] → names ≡ []
       → IsReadPlaceless (with_definitions 0 readings changed_says) (edited (record { start = 0; end = 0; bytes = lines }) now)
   none_read es is none no_texts no_names =
@@ -474,7 +474,7 @@ all_edits_known d edits first fields texts names bytes text index start es same 
     (let e : Edit = record { start = first_entry_start d.says.entries; end = first_entry_start d.says.entries; bytes = bytes } in e) ∷ more)
     (edits_known d (entry_edits (collection_by fields index names) text es) fields texts names index text es same listed is refl)
 
--- the bytes of a result, by an equation
+-- the bytes of a result are also each text that is equal to them
 pub made_known : {S E : Type 0} (bytes : S → List ℕ) (r : Result S E) (one other : List ℕ) → one ≡ other
     → IfOk r (λ new. bytes new ≡ one) → IfOk r (λ new. bytes new ≡ other)
 made_known bytes (Err e) one other same is = _

@@ -55,7 +55,7 @@ edits_front text at (edit ∷ edits) within order =
 
 -- ---- names of definitions
 
--- a name in a text is one by itself
+-- the text of a parsed name can be a name
 name_can : {a b : Place} {p : Part} → b.at ≤ length a.text → Identifier longest a p b → CanBeName (between a b)
 name_can {a} {b} {p} within i =
     let text : List ℕ = between a b in

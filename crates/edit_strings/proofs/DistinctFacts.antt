@@ -57,7 +57,7 @@ module _ (Meets : List ℕ → Type 0) where
   those_meet (those.kept text own others) = (own, those_meet others)
   those_meet (those.left text fails others) = those_meet others
 
-  -- the texts so far and one more, which is new or was listed before
+  -- a new text that meets the condition is one more text that meets it
   pub new_kept : (texts found : List (List ℕ)) (x : List ℕ) → is_listed texts x ≡ false → Meets x
       → AreThoseThat Meets (distinct texts) found → AreThoseThat Meets (distinct (texts ++ x ∷ [])) (found ++ x ∷ [])
   new_kept texts found x new meets so_far =

@@ -46,7 +46,7 @@ pub piece_below : (size : ℕ) (index : Index) (piece : Piece) → IsBelow size 
 piece_below size index (literal p) below = tt
 piece_below size index (abbreviation p) below = below p.text
 
--- the indices of a map as a function
+-- the indices of a map are those of `index_before`
 pub indices_are : (definitions : List FieldReading) (count : ℕ) (indices : BTreeMap (String Global) ℕ)
     → AreIndices indices definitions count
     → lowercase_index_in indices ≡ index_before definitions count
@@ -84,7 +84,7 @@ none_before start at end (f ∷ fs) between le =
 abbrev pub start_of : List FieldReading → ℕ → ℕ
 start_of fs i = get_or (map (λ f. f.name.start) fs) i 0
 
--- the definitions that begin before a byte offset are counted by the index of the first that doesn't
+-- if the first `n` definitions begin before a byte offset and the next one doesn't, `n` definitions begin before it
 pub count_is : (start at end : ℕ) (fs : List FieldReading) (n : ℕ) → BeginBetween at end fs → n ≤ length fs
     → ((i : ℕ) → i < n → start_of fs i < start) → (n < length fs → start_of fs n < start → ⊥)
     → count_by (λ f. nat_lt f.name.start start) fs ≡ n

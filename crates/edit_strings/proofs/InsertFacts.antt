@@ -103,7 +103,7 @@ zone_back text whole at within here =
           omega (arith, char_left char, char.next, ap length same, length-drop at whole, ap length here, within);
     }
 
--- a file at the end of another text
+-- a file parses at the end of another text, with moved byte offsets
 pub back_read : (text whole : List ℕ) (at : ℕ) {says : FileReading} → at ≤ length whole → drop at whole ≡ text → IsRawReading text says
     → File longest (place whole at) (moved_file (λ n. n + at) says)
 back_read text whole at {says} within here x =
@@ -115,7 +115,7 @@ back_read text whole at {says} within here x =
 
 -- ---- where definitions begin
 
--- definitions that begin before an offset, and from an offset on
+-- the definitions begin before a byte offset
 abbrev pub AreBefore : ℕ → List FieldReading → Type 0
 AreBefore at fs = AllByRecursion (λ f. f.name.start < at) fs
 
@@ -220,7 +220,7 @@ none_from at (f ∷ fs) all =
     ap (λ b. cond (not b) (f ∷ filter (λ f. not (is_before at f)) fs) (filter (λ f. not (is_before at f)) fs))
     (lt-ltb f.name.start at all.0) ∙ none_from at fs all.1
 
--- definitions before an offset, and definitions from it on, are told apart by it
+-- the definitions before a byte offset are the first ones, if the others begin at or after it
 pub split_before : (at : ℕ) (fs gs : List FieldReading) → AreBefore at fs → AreFrom at gs → filter (is_before at) (fs ++ gs) ≡ fs
 split_before at [] gs before from = none_before at gs from
 split_before at (f ∷ fs) gs before from =

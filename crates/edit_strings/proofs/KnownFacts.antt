@@ -20,7 +20,7 @@ pub counted_name : (name : List ℕ) (fs : List FieldReading) (f : FieldReading)
 counted_name name fs f old count counted before =
     by_case (bytes_eq (str_to_ascii_lowercase f.name.text) (str_to_ascii_lowercase name)) refl ∙ sym (count_more (has_name name) fs f)
   where
-    -- definitions are counted for names in any case
+    -- names that are equal in lowercase have the same count
     same_counts : (gs : List FieldReading) → str_to_ascii_lowercase f.name.text ≡ str_to_ascii_lowercase name
         → count_by (has_name f.name.text) gs ≡ count_by (has_name name) gs
     same_counts gs same = ap (λ lower. count_by (λ g. bytes_eq (str_to_ascii_lowercase g.name.text) lower) gs) same
@@ -33,7 +33,7 @@ counted_name name fs f old count counted before =
         ap (λ n. n + 1) (counted ∙ same_counts fs same)
     by_case false is = let none : count_by (has_name name) fs ≡ count_by (has_name name) fs + 0 = omega arith in before ∙ none
 
--- the name for a text after one more definition
+-- after one more definition, a text has its learned name
 pub learned_more : (says : FileReading) (text : List ℕ) (fs : List FieldReading) (f : FieldReading) (own : Option (List ℕ))
     → own ≡ reusable_text says f
     → learned (option_map (λ g. g.name.text) (find (is_reusable says text) fs)) own f text
@@ -56,7 +56,7 @@ learned_more says text fs f own is =
         cases true = refl
         cases false = refl
 
--- the name for a text after a name for another text, or the first for this text
+-- if a map has a new name for a text only if the text had none, this is the learned name
 pub learned_first : (old now : Option (List ℕ)) (own : List ℕ) (f : FieldReading) (text : List ℕ) → (own ≡ text → old ≡ None)
     → now ≡ cond (bytes_eq own text) (Some f.name.text) old → now ≡ learned old (Some own) f text
 learned_first None now own f text unknown is = is

@@ -20,13 +20,13 @@ count_within definitions e = count_by-le-length (λ f. nat_lt f.name.start e.sta
 
 module _ (says : FileReading) (rows : List (List IndexedPiece))
     (known : AreRows says.abbreviations (length says.abbreviations) rows) where
-  -- the expansion of a value by the rows
+  -- the expansion of a value by the rows is the expansion of the value
   pub writes_by : (e : EntryReading) (f : FieldReading)
       → WritesOut says.abbreviations (count_before says.abbreviations e) (elements f) (written_by says.abbreviations rows e f)
   writes_by e f =
       expanded_writes says.abbreviations rows known (count_before says.abbreviations e) (count_within says.abbreviations e) (elements f)
 
-  -- the expansions of all values by the rows
+  -- the expansions of all values by the rows are their expansions
   pub all_written : AreWrittenOut says (written_by says.abbreviations rows)
   all_written =
       all_true
@@ -40,7 +40,7 @@ module _ (says : FileReading) (rows : List (List IndexedPiece))
       (writes_by e) e.fields)
       says.entries
 
-  -- the references that stay, by the rows and by names that are looked up
+  -- the references that stay are those by the rows, and by names that a lookup finds
   pub are_left : (keys : ℕ → Option (List ℕ)) (names : List ℕ → List ℕ → Option (List ℕ))
       → ((field name : List ℕ) → names field name ≡ new_reference says.entries keys field name) → (left : List Left)
       → left ≡ flat_map (left_in names (written_by says.abbreviations rows)) says.entries → AreLeft says keys left

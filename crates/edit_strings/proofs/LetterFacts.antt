@@ -103,7 +103,7 @@ words_after met (word ∷ words) = cond met [] (first_letters 1 word) ++ flat_ma
 white_no_letter : (c : ℕ) → is_whitespace c ≡ true → is_ascii_alphabetic c ≡ false
 white_no_letter c is = grind (arith, nat_tests)
 
--- a character that is a part of a word
+-- a character of a word adds its letter to the first letters of words, if it is the first letter of the word
 word_char : (met alphabetic : Bool) (c : ℕ) (words : List (List ℕ)) → is_ascii_alphabetic c ≡ alphabetic
     → cond (not met && alphabetic) (encode_utf8 (to_ascii_lowercase c)) [] ++ words_after (met || alphabetic) words
     ≡ words_after met (onto_first c words)
@@ -173,7 +173,7 @@ letters_words met (c ∷ cs) =
         ap (λ l. cond (not met && is_ascii_alphabetic c) (encode_utf8 (to_ascii_lowercase c)) [] ++ l) same
         ∙ word_char met (is_ascii_alphabetic c) c (slice_split is_whitespace cs) refl
 
--- the first letter of each word
+-- the first letters of words, found character by character, are the initials
 pub initials_are : (text : List ℕ) → letters_in false (chars text) ≡ initials text
 unfolding words_after
 initials_are text = letters_words false (chars text) ∙ from_start (slice_split is_whitespace (chars text))

@@ -58,7 +58,7 @@ name_stands whole rest name at can here =
 
 -- ---- a line
 
--- what stands between the closing brace of a line and its line feed
+-- the carriage return between the closing brace of a line and its line feed, if the line end has one
 abbrev return_if : Bool → List ℕ
 return_if b = cond b (13 ∷ []) []
 
@@ -70,7 +70,7 @@ line_end_by b = cond b (13 ∷ 10 ∷ []) (10 ∷ [])
 abbrev line_text : Bool → List ℕ → List ℕ → List ℕ
 line_text b name text = codes "@string{" ++ (name ++ (codes " = " ++ (in_braces text ++ (125 ∷ return_if b))))
 
--- the definition of a line
+-- the definition that a line parses to
 abbrev line_field : List ℕ → List ℕ → FieldReading
 line_field name text =
     let start : ℕ = 8 + length name + 3 in
@@ -89,7 +89,7 @@ line_says name text = record { preamble = []; entries = []; abbreviations = line
 abbrev line_document : Bool → List ℕ → List ℕ → Document
 line_document b name text = record { text = line_text b name text; says = line_says name text }
 
--- the end of a line, after its closing brace
+-- the text after the closing brace of a line has an empty reading
 return_read : (whole : List ℕ) (b : Bool) (at : ℕ) → drop at whole ≡ return_if b → at + length (return_if b) ≡ length whole
     → File longest (place whole at) empty_reading
 return_read whole false at here size = file.end (omega (arith, size))
@@ -201,7 +201,7 @@ line_is false name text rest = ap (λ t. codes "@string{" ++ t)
     ∙ sym (append_assoc (text ++ 125 ∷ []) (125 ∷ []) (10 ∷ rest)))
     ∙ sym (append_assoc name (codes " = " ++ (in_braces text ++ (125 ∷ []))) (10 ∷ rest)))
 
--- the lines before a text, and what they begin with
+-- lines before the text of a document
 module _ (says : FileReading) (b : Bool) (d : Document) (read : IsDocument d) where
   pub lines_read : (names texts : List (List ℕ)) → AllByRecursion CanBeName names → AllByRecursion CanStandInBraces texts
       → IsReadPlaceless (after_definitions (line_readings says names texts) d.says)

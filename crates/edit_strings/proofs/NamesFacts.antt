@@ -34,7 +34,7 @@ pub still_below : (old new : Taken) (name : List ℕ)
     → AreUsedBelow old base number → AreUsedBelow new base number
 still_below old new name others base number used n some below = still_used old new name others (base ++ number_after n) (used n some below)
 
--- the numbers after one more start of a name
+-- after a name is taken with a number, all numbers below the known ones still make used names
 pub closed_more : (old new : Taken) (before after : BTreeMap (String Global) ℕ) (name base : List ℕ) (number : ℕ)
     → ((other : List ℕ) → is_taken new other ≡ (is_word name other || is_taken old other))
     → ((other : List ℕ) → get_by_text after other ≡ cond (bytes_eq base other) (Some number) (get_by_text before other))
@@ -54,19 +54,19 @@ closed_more old new before after name base number others set closed free other n
     by_case false differ found =
         let known = closed other n found in (known.0, still_below old new name others other n known.1)
 
--- no start of a name has a number yet
+-- if no start of a name has a number, each number below a known one makes a used name
 pub none_closed : (taken : Taken) (numbers : BTreeMap (String Global) ℕ) → ((base : List ℕ) → get_by_text numbers base ≡ None)
     → AreBelowUsed taken numbers
 none_closed taken numbers none base number is = let clash : None ≡ Some number = sym (none base) ∙ is in absurd (cc)
 
--- the number from which the search for a name begins
+-- each number below the one from which the search for a name begins makes a used name
 pub from_known : (taken : Taken) (base : List ℕ) (found : Option ℕ) (numbers : BTreeMap (String Global) ℕ)
     → found ≡ get_by_text numbers base → AreBelowUsed taken numbers
     → (1 ≤ unwrap_or found 1) × AreUsedBelow taken base (unwrap_or found 1)
 from_known taken base None numbers is closed = (omega arith, λ n some below. absurd (omega (arith, some, below)))
 from_known taken base (Some n) numbers is closed = closed base n (sym is)
 
--- one more number that makes a used name
+-- if each number below this one makes a used name, and this one does, each number below the next one does
 pub one_used : (taken : Taken) (base name : List ℕ) (number : ℕ) → name ≡ base ++ number_after number → is_used taken name ≡ true
     → AreUsedBelow taken base number → AreUsedBelow taken base (number + 1)
 one_used taken base name number is used before n some below =
@@ -88,7 +88,7 @@ find_passes test (y ∷ ys) x is = by_case (test y) refl (find_passes test ys x)
     by_case true passes later found = let same : y ≡ x = cc in sym (ap test same) ∙ passes
     by_case false fails later found = later found
 
--- the definition of a known name
+-- the first definition that can be reused for a text has this name
 pub record IsKnown (says : FileReading) (text name : List ℕ) : Type 0 where
   pub definition : FieldReading
   pub found : find (is_reusable says text) says.abbreviations ≡ Some definition
@@ -153,7 +153,7 @@ first_new says names taken text name number are free = record {
   first = λ n some below. new_is says names taken are (numbered_name text n) ∙ ap not (free.first n some below);
 }
 
--- what is known of the names so far
+-- these are the names of the texts so far, and the taken names are these and those of the file
 pub record AreNamed (says : FileReading) (texts names : List (List ℕ)) (now : Taken) : Type 0 where
   pub named : AreNames says texts names
   pub taken : AreTaken says names now
@@ -163,7 +163,7 @@ absorbed true true c held = refl
 absorbed true false c held = held refl
 absorbed false b c held = refl
 
--- one more name
+-- after one more name, these are the names of the texts so far
 pub named_more : (says : FileReading) (texts names : List (List ℕ)) (text name : List ℕ) (old new : Taken)
     (numbers : BTreeMap (String Global) ℕ) (known : Option (List ℕ)) → known ≡ known_name says text
     → GetsName old new numbers known text name → AreNamed says texts names old

@@ -114,7 +114,8 @@ pub record IsAhead (definitions : List FieldReading) (next : ℕ) (es : List Ent
   pub passed : (i : ℕ) → i < next → start_at definitions i < at
   pub within : next ≤ length definitions
 
--- the definitions before the next entry
+-- if `next` is the index of the first definition that doesn't begin before an entry, it is the number of definitions before it. The first
+-- `next` definitions begin before the entries after it.
 pub ahead_step : (definitions : List FieldReading) (end : ℕ) → BeginBetween 0 end definitions → (from next : ℕ) (e : EntryReading)
     (es : List EntryReading) → IsAhead definitions from (e ∷ es) → next ≤ length definitions
     → BeginBefore definitions e.start from next → IsNextAfter definitions e.start next
@@ -130,7 +131,7 @@ ahead_step definitions end between from next e es ahead within before after = (
       | inr past ↦ before i past less
     ]
 
--- the indices are those before an entry, and the definitions before the next entry
+-- if a map has the indices of the first `next` definitions, these are the indices before the entry
 pub indices_step : (xs : List Pair) (end : ℕ) → BeginBetween 0 end (map field_of xs) → (from next : ℕ) (e : EntryReading)
     (es : List EntryReading) (indices : BTreeMap (String Global) ℕ) → IsAhead (map field_of xs) from (e ∷ es) → next ≤ length xs
     → BeginBefore (map field_of xs) e.start from next → IsNextAfter (map field_of xs) e.start next

@@ -23,7 +23,7 @@ times_push : (text : List ℕ) (ts : List (List ℕ)) (t : List ℕ)
     → times_of text (ts ++ t ∷ []) ≡ times_of text ts + cond (bytes_eq t text) 1 0
 times_push text ts t = fold_push (λ a u. a + cond (bytes_eq u text) 1 0) 0 ts t
 
--- the counts after one more text
+-- the count of a text after one more text is added
 pub counted_more : (text t : List ℕ) (ts : List (List ℕ)) (old : Option ℕ) (count : ℕ) → count ≡ times_of t ts
     → option_map_or (λ n. n) old 0 ≡ times_of text ts
     → option_map_or (λ n. n) (cond (bytes_eq t text) (Some (count + 1)) old) 0 ≡ times_of text (ts ++ t ∷ [])
@@ -33,7 +33,7 @@ counted_more text t ts old count counted before = by_case (bytes_eq t text) refl
     by_case true same = let is : t ≡ text = (bytes_eq-Decides t text).0 same in ap (λ n. n + 1) (counted ∙ ap (λ u. times_of u ts) is)
     by_case false other = let none : times_of text ts ≡ times_of text ts + 0 = omega arith in before ∙ none
 
--- the lines after one more name
+-- the lines for names and one more are the lines for the names and the line for the last one
 pub lines_push : (says : FileReading) (line_end : List ℕ) (names texts : List (List ℕ)) (name text : List ℕ) → length names ≡ length texts
     → definition_lines says line_end (names ++ name ∷ []) (texts ++ text ∷ [])
     ≡ definition_lines says line_end names texts ++ cond (is_some (known_name says text)) [] (string_line line_end name text)

@@ -73,7 +73,7 @@ name_of_pair xs i x within is =
     ∙ ap (λ (f : FieldReading). f.name.text) (get_or-map field_of xs i x (field_of x) within)
     ∙ ap (λ (y : Pair). y.key.v.now) (sym is)
 
--- whether a definition uses its own name, or a name before its definition, by the maps of the code
+-- by the indices of two maps, a definition uses its own name, or a name before its definition, exactly if `is_early` says so
 pub early_is : (xs : List Pair) (i : ℕ) (x : Pair) → i < length xs → x ≡ get_or xs i x → (all earlier : BTreeMap (String Global) ℕ)
     → AreIndices all (map field_of xs) (length xs) → AreIndices earlier (map field_of xs) i
     → list_any (is_early_use x.key.v.now (lowercase_index_in all) (lowercase_index_in earlier)) (map piece_of x.value.v.items)
@@ -92,7 +92,7 @@ early_is xs i x within is all earlier whole before =
     ∙ ap (list_any (is_early_use (name_at defined i) (index_before defined (length defined)) (index_before defined i)))
     (sym (elements_of_pair xs i x within is))
 
--- one more row
+-- the rows of some definitions and the row of the next one are the rows of one definition more
 pub row_push : (definitions : List FieldReading) (n : ℕ) (rows : List (List IndexedPiece)) (row : List IndexedPiece)
     → AreRows definitions n rows → row ≡ row_at definitions n → AreRows definitions (n + 1) (rows ++ row ∷ [])
 row_push definitions n rows row known is = record {
@@ -108,7 +108,7 @@ row_push definitions n rows row known is = record {
         get_or-append_right rows (row ∷ []) n i [] known.as_many past ∙ ap (λ k. get_or (row ∷ []) k []) first ∙ is
         ∙ ap (row_at definitions) at
 
--- no early use below one more index
+-- if no definition below an index has an early use, nor has the one there, none below the next index has
 pub none_more : (definitions : List FieldReading) (n : ℕ) → ((i : ℕ) → i < n → is_early definitions i ≡ false)
     → is_early definitions n ≡ false → (i : ℕ) → i < n + 1 → is_early definitions i ≡ false
 none_more definitions n none last i less = elim (cases_lt i n) [
@@ -218,7 +218,7 @@ module _ (definitions : List FieldReading) (rows : List (List IndexedPiece)) (kn
   writes_down zero count le within ps = step zero (λ i less. absurd (omega arith)) count le within ps
   writes_down (suc n) count le within ps = step (suc n) (λ i less inside qs. writes_down n i (omega arith) inside qs) count le within ps
 
-  -- the expansion by the rows of the definitions
+  -- the expansion by the rows of the definitions is the expansion of the pieces
   pub expanded_writes : (count : ℕ) → count ≤ length definitions → (ps : List Piece)
       → WritesOut definitions count ps (down (suc (length rows)) count ps)
   expanded_writes count within ps = writes_down (length rows) count (omega (arith, known.as_many)) within ps

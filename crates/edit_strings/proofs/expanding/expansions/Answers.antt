@@ -13,7 +13,7 @@ use Rattle.edit_strings.proofs.WrittenFacts.{rows_ordered}
 use Rattle.edit_strings.proofs.expanding.expansions.Goals as goal
 use Rattle.edit_strings.proofs.expanding.expansions.Goals.{In_ok-next}
 
--- the indices are those before the entry, and the definitions before the next one
+-- the map has the indices before the entry, and its definitions begin before the following entries
 reached : (c : In_ok-next) → (lowercase_index_in c.add_before.new.indices ≡ index_before (map field_of c.args.names.now.definitions.now)
     (count_before (map field_of c.args.names.now.definitions.now) (entry_reading_of c.entry-item.result)))
     × IsAhead (map field_of c.args.names.now.definitions.now) c.in_ok-next.next

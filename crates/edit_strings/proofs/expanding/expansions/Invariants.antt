@@ -5,7 +5,7 @@ use Rattle.edit_entries.specs.EditList.{edit_of}
 use Rattle.edit_strings.proofs.OrderFacts.{IsAhead}
 use Rattle.edit_strings.proofs.expanding.expansions.Given as goal
 
--- the edits so far and those of the entries still to visit are those of all entries, and the map has the definitions before the next
+-- the edits so far and those of the entries still to visit are those of all entries, and the map has the first `next` definitions
 abbrev pub invariant-entries : goal.invariant-entries
 invariant-entries l = record {
   added : map edit_of l.edits.items

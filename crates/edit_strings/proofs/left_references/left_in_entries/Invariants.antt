@@ -7,7 +7,7 @@ use Rattle.edit_strings.specs.Tables.{AreIndices, lent_left, rows_of, written_by
 use Rattle.edit_strings.proofs.OrderFacts.{IsAhead}
 use Rattle.edit_strings.proofs.left_references.left_in_entries.Given as goal
 
--- the references so far and those of the entries still to visit are those of all entries, and the map has the definitions before the next
+-- the references so far and those of the entries still to visit are those of all entries, and the map has the first `next` definitions
 abbrev pub invariant-entries : goal.invariant-entries
 invariant-entries l = record {
   added : lent_left l.left.items

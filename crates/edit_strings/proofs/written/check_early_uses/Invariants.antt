@@ -4,7 +4,7 @@ use Rattle.edit_strings.specs.Expanded.{is_early}
 use Rattle.edit_strings.specs.Tables.{AreIndices}
 use Rattle.edit_strings.proofs.written.check_early_uses.Given as goal
 
--- none of the definitions so far uses a name before its definition
+-- none of the definitions so far uses its own name, or a name before the name's first definition
 abbrev pub invariant-definitions : goal.invariant-definitions
 invariant-definitions l = record {
   indices : AreIndices l.indices (map field_of l.definitions) l.index;
