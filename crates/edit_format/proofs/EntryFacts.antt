@@ -58,7 +58,7 @@ unbalanced_content (f ∷ fs) =
     ap (λ b. b || list_any has_unbalanced (map field_content fs)) (pieces_moved (λ n. 0) f.value.pieces)
     ∙ ap (λ b. has_unbalanced f || b) (unbalanced_content fs)
 
--- fields with the same content have the same literals
+-- if two lists of fields have the same content, both have an unbalanced literal or neither has
 unbalanced_alike : (fs gs : List FieldReading) → map field_content fs ≡ map field_content gs
     → list_any has_unbalanced fs ≡ list_any has_unbalanced gs
 unbalanced_alike fs gs alike = sym (unbalanced_content fs) ∙ ap (list_any has_unbalanced) alike ∙ unbalanced_content gs
@@ -71,7 +71,7 @@ all_balanced : (fs : List FieldReading) → AllByRecursion (λ f. has_unbalanced
 all_balanced [] all = refl
 all_balanced (f ∷ fs) all = or_from _ _ all.0 (all_balanced fs all.1)
 
--- no literal is unbalanced in any order of the fields
+-- if no literal is unbalanced, none is in another order of the fields
 unbalanced_ordered : (names : List (List ℕ)) (fs : List FieldReading) → list_any has_unbalanced fs ≡ false
     → list_any has_unbalanced (in_order names fs) ≡ false
 unbalanced_ordered names fs is =

@@ -101,12 +101,12 @@ separates line_end style width name elements ends = by_choice (is_broken style w
     by_choice true = in_next_line line_end style.indent (max width (length (chars name))) ends
     by_choice false = in_line
 
--- the line of a field and the field with its comma, given its name in lowercase, the length of the name in characters, and its
--- pieces
+-- the line of a field, given its name in lowercase, the length of the name in characters, and the output for its pieces
 abbrev line_of : Style → ℕ → List ℕ → List ℕ → ℕ → List (List ℕ) → List ℕ
 line_of style width next name count elements =
     spaces style.indent ++ (name ++ (spaces (width - count) ++ value_laid_out (codes " = ") next elements))
 
+-- a field on its line or lines, with the comma before it, given the same parts
 abbrev field_by : List ℕ → Style → ℕ → List ℕ → ℕ → List (List ℕ) → List ℕ
 field_by line_end style width name count elements =
     let next : List ℕ =
@@ -426,6 +426,6 @@ zip_again line_end style new old width (f ∷ fs) (g ∷ gs) all =
     ap (λ t. t ++ flat_map (field_laid_out line_end style new width) fs) all.0.again
     ∙ ap (λ t. field_laid_out line_end style old width g ++ t) (zip_again line_end style new old width fs gs all.1)
 
--- fields with the same name in lowercase have the same names
+-- fields with the same content have the same names in any ASCII case
 pub same_named : (n : List ℕ) (f g : FieldReading) → field_content f ≡ field_content g → has_name n f ≡ has_name n g
 same_named n f g same = ap (λ h. bytes_eq h.name.text (str_to_ascii_lowercase n)) same

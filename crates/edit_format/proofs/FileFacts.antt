@@ -70,7 +70,7 @@ pub record FileRead (line_end : List ℕ) (style : Style) (blank_lines : Option 
   pub gaps : AreGapsInStyle line_end style blank_lines u.text a.text u.at a.at reading.entries says.entries
   pub again : rest_in_style line_end style blank_lines u.text u.at reading.entries ≡ drop u.at u.text
 
--- the bytes that a text has from a place on are there
+-- if the text from a place on begins with some bytes, these are in the text from this place on
 pub stands_here : (u : Place) (xs ys : List ℕ) → drop u.at u.text ≡ xs ++ ys → Stands u xs (past u xs)
 stands_here u xs ys here = record { same = refl; here = here ∙ ap (λ t. xs ++ t) (sym (text_stands u.text xs ys u.at here)); next = refl }
 

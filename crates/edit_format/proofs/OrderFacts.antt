@@ -194,7 +194,7 @@ pub padded_ordered : (style : Style) (names : List (List ℕ)) (fs : List FieldR
     → padded_width style (in_order names fs) ≡ padded_width style fs
 padded_ordered style names fs = ap (λ n. if style.aligned then n else 0) (widest_ordered names fs)
 
--- the last comma doesn't depend on the order of the fields
+-- ordering fields keeps their number
 some_pass : (names : List (List ℕ)) (fs : List FieldReading) → length (in_order names fs) ≡ length fs
 some_pass [] fs = refl
 some_pass (n ∷ ns) fs =
@@ -203,6 +203,7 @@ some_pass (n ∷ ns) fs =
     let both = parted_length (has_name n) fs in
     omega (arith, parts, rest, both)
 
+-- the last comma doesn't depend on the order of the fields
 pub last_ordered : (style : Style) (names : List (List ℕ)) (fs : List FieldReading)
     → last_comma style (in_order names fs) ≡ last_comma style fs
 last_ordered style names fs = by_length (in_order names fs) fs (some_pass names fs)
@@ -248,7 +249,7 @@ listed_more before n f =
     either_right true = refl
     either_right false = refl
 
--- the fields that have neither a name nor one of the names `before`
+-- the fields without the names `before` and without one more name are those without all of these names
 neither_named : (before : List (List ℕ)) (n : List ℕ) (fs : List FieldReading)
     → others_than n (unlisted before fs) ≡ unlisted (before ++ n ∷ []) fs
 neither_named before n [] = refl

@@ -58,12 +58,13 @@ quoted_written way {u} {v} {p} q =
     (cond (ends_with eqb (before q.inside) (codes "\"")) (quoted_in_style way content) content)) is.0
     ∙ ap (λ c. cond c (quoted_in_style way content) content) is.1
 
--- a literal that the style rewrites in quotes stays in quotes, and one that it rewrites in braces stays in braces
+-- a literal that the style rewrites in quotes stays in quotes if it is in quotes already
 stays_quoted : (way : Delimiters) (content : List ℕ) → goes_in_quotes way content ≡ true → quoted_in_style way content ≡ in_quotes content
 stays_quoted Keep content is = absurd (cc)
 stays_quoted Braces content is = absurd (cc)
 stays_quoted Quotes content is = refl
 
+-- a literal that the style rewrites in braces stays in braces if it is in braces already
 stays_braced : (way : Delimiters) (content : List ℕ) → goes_in_braces way content ≡ true → braced_in_style way content ≡ in_braces content
 stays_braced Keep content is = absurd (cc)
 stays_braced Braces content is = refl
@@ -96,7 +97,7 @@ pub record PieceRead (way : Delimiters) (text : List ℕ) (e : Piece) (u v : Pla
 literal_of : List ℕ → Piece
 literal_of content = literal (record { text = content; start = 0; end = 0 })
 
--- the content of a braced literal parses in braces
+-- the content of a braced literal parses in braces, if the style writes it so
 made_braced : (way : Delimiters) (text : List ℕ) (p : Part) {a b u v : Place} → Parts a b → b.at ≤ length a.text
     → p.text ≡ between a b → piece_as_written way text (literal p) ≡ in_braces (between a b)
     → braced_in_style way (between a b) ≡ in_braces (between a b)
@@ -124,7 +125,7 @@ made_braced way text p {a} {b} {u} {v} inner within says written stays s =
       again = braced_written way braced ∙ ap (braced_in_style way) bytes ∙ stays ∙ sym written;
     }
 
--- the content of a quoted literal parses in quotes
+-- the content of a quoted literal parses in quotes, if the style writes it so
 made_quoted : (way : Delimiters) (text : List ℕ) (p : Part) {a b u v : Place} → QuotedParts a b → b.at ≤ length a.text
     → p.text ≡ between a b → piece_as_written way text (literal p) ≡ in_quotes (between a b)
     → quoted_in_style way (between a b) ≡ in_quotes (between a b)

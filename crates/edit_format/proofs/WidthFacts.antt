@@ -6,7 +6,7 @@ use Rattle.std.specs.Str.{chars, chars_after, continuation_len, lead_bits, str_t
 use Rattle.std.proofs.lemmas.Bool.{cases_lt, lt-ltb}
 use Rattle.std.proofs.lemmas.Str.Ascii.{lowercase_is}
 
--- a byte in ASCII lowercase has as many continuation bytes after it as the byte itself
+-- a byte and its ASCII lowercase announce the same number of continuation bytes
 same_continuation : (b : ℕ) → continuation_len (to_ascii_lowercase b) ≡ continuation_len b
 same_continuation b =
     elim (cases_lt b 65) [

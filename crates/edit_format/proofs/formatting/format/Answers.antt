@@ -11,7 +11,7 @@ use Rattle.edit_entries.proofs.CutFacts.{document_cut}
 use Rattle.edit_format.proofs.FileFacts.{text_read}
 use Rattle.edit_format.proofs.formatting.format.Goals as goal
 
--- the output of the code is the text in the style, given the line end and the entries of the document
+-- if the code returns the output for its line end and entries, this is the document's text in the style
 formatted_is : {S E : Type 0} (bytes : S → List ℕ) (r : Result S E) (style : Style) (text text' line_end : List ℕ)
     (says : FileReading) (entries : List EntryReading) → text' ≡ text → line_end ≡ line_end_of text'
     → entries ≡ says.entries

@@ -12,7 +12,7 @@ use Rattle.edit_format.specs.Unlisted.{has_name_first, name_texts, unlisted}
 use Rattle.edit_format.proofs.OrderFacts.{none_listed, one_name}
 use Rattle.edit_format.proofs.order.push_fields.Goals as goal
 
--- the text still to append, after the fields of one more name
+-- after the fields of one more name are written, the text so far and that of the remaining fields are the text of all fields
 written_more : (write : FieldReading → List ℕ) (old new all : List ℕ) (order : List (Bor (List ℕ))) (i : ℕ)
     (d : Bor (List ℕ)) (fs : List FieldReading) → i < length order
     → new ≡ old ++ flat_map write (filter (has_name_first (name_texts (take i order)) (get_or order i d).now) fs)
