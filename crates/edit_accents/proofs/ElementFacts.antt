@@ -1,4 +1,4 @@
--- A recoded piece is read wherever it is written with its delimiters.
+-- A recoded piece parses from its output with its delimiters.
 use Rattle.std.proofs.Common.{◌≡◌, ℕ, ◌+◌, ◌-◌, ◌<◌, ◌≤◌, Bool, true, false, cond, List, [], ◌∷◌, ◌++◌, length, map, codes, refl, sym, ap, ◌∙◌, subst, arith, append-nil}
 use Rattle.std.specs.Prelude.{◌==◌, ◌||◌, not, encode_utf8_all}
 use Rattle.std.specs.Char.{is_ascii_digit, is_whitespace}
@@ -47,7 +47,7 @@ use Rattle.edit_accents.proofs.ReducedFacts.{decoded_fit}
 
 -- ---- the new text of a literal
 
--- characters with the braces and quotes of a literal, which are its new text
+-- the new text of a literal is the bytes of characters whose braces and quotes fit
 record IsRecodedBy (form : Form) (q : Bool) (old : List ℕ) : Type 0 where
   characters : List ℕ
   spelt : text_recoded form old ≡ encode_utf8_all characters
@@ -127,13 +127,13 @@ module _ (form : Form) where
 
 -- ---- one piece
 
--- a piece is read between two places, except for positions
+-- a piece parses between two places, except for positions
 record IsReadAt (e : Piece) (u v : Place) : Type 0 where
   reading : Piece
   element : Element longest u reading v
   alike : moved_piece (λ n. 0) reading ≡ moved_piece (λ n. 0) e
 
--- a piece that stays
+-- a piece parses again from its output, if neither a brace nor a quote was before it
 kept_read : {a b u v : Place} {e : Piece} → Element longest a e b → b.at ≤ length a.text → NotOpened a
     → Stands u (piece_as_written Keep a.text e) v → Ending v → IsReadAt e u v
 kept_read {a} {b} {u} {v} {e} x within opened s ending = record {
@@ -146,7 +146,7 @@ choice : (b q : Bool) (x y z : List ℕ) → b ≡ false → q ≡ true → cond
 choice b q x y z no_brace quote = ap (λ c. cond c x (cond q y z)) no_brace ∙ ap (λ c. cond c y z) quote
 
 module _ (form : Form) where
-  -- the text of a literal without positions
+  -- a literal with the recoded text is the recoded literal, except for positions
   bare_literal : (p : Part) (text : List ℕ) (start end : ℕ) → text ≡ text_recoded form p.text
       → moved_piece (λ n. 0) (literal (record { text = text; start = start; end = end }))
       ≡ moved_piece (λ n. 0) (piece_recoded form (literal p))
@@ -297,7 +297,7 @@ module _ (form : Form) where
             ∙ ap (λ ps. moved_piece (λ n. 0) (piece_recoded form e) ∷ ps) others.alike;
       }
 
-  -- the recoded pieces of a value can be read
+  -- the output for the recoded pieces of a value parses to them
   pub can_be_read : (text : List ℕ) (es : List Piece) → IsUtf8 text → IsSome es → AllByRecursion (IsElement text) es
       → CanBeRead (record { bytes = laid_out text (map (piece_recoded form) es); pieces = map (piece_recoded form) es })
   can_be_read text [] utf8 some all = absurd some

@@ -15,7 +15,7 @@ use Rattle.edit_entries.specs.Documents.{in_braces}
 use Rattle.edit_accents.specs.declared.signs.Stretch.{Stretch}
 use Rattle.edit_accents.proofs.FitFacts.{IsDull, back_again, close_opened, over_dull}
 
--- before any text, braces and quotes are the same with and without this text
+-- this text before another one doesn't change whether braces and quotes fit
 abbrev IsNeutral : List ℕ → Type 0
 IsNeutral text = (q : Bool) (d : ℕ) (cs : List ℕ) → text_fits q false d (text ++ cs) ≡ text_fits q false d cs
 
@@ -116,7 +116,7 @@ command_neutral_for c = by_range (is_beyond_ascii c)
 
 -- ---- a text
 
--- the text of a character without a meaning
+-- the output for a character other than a backslash, a quote or a brace doesn't change whether braces and quotes fit
 dull_neutral : (stretch : Stretch) (c : ℕ) (rest : List ℕ) → IsDull c → IsNeutral (character_text stretch c rest)
 dull_neutral stretch c rest dull = by_test (writes_commands stretch && not (begins_mark rest))
   where
@@ -128,7 +128,7 @@ dull_neutral stretch c rest dull = by_test (writes_commands stretch && not (begi
     by_test true = by_command (command_for c) (command_neutral_for c)
     by_test false = λ q d cs. over_dull q d c cs dull
 
--- the text of a character with a meaning
+-- a backslash doesn't become a command
 slash_stays : (stretch : Stretch) (rest : List ℕ) → character_text stretch 92 rest ≡ 92 ∷ []
 slash_stays stretch rest = by_test (writes_commands stretch && not (begins_mark rest))
   where

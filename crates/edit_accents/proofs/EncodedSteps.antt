@@ -7,7 +7,7 @@ use Rattle.edit_accents.specs.Accents.{stretch_after}
 use Rattle.edit_accents.specs.Encoded.{character_text, encoded}
 use Rattle.edit_accents.specs.declared.signs.Stretch.{Stretch}
 
--- a character that a backslash escapes
+-- after a character that a backslash escapes, the text so far and that of the remaining characters are the whole text
 pub escaped_step : (cs : List ℕ) (i c : ℕ) (old new whole : List ℕ) (stretch stretch' : Stretch) (is_escaped is_escaped' : Bool)
     → i < length cs → c ≡ get_or cs i c → new ≡ old ++ encode_utf8 c → is_escaped ≡ true → stretch' ≡ stretch → is_escaped' ≡ false
     → old ++ encode_utf8_all (encoded stretch is_escaped (drop i cs)) ≡ whole
@@ -20,7 +20,7 @@ escaped_step cs i c old new whole stretch stretch' is_escaped is_escaped' within
     ∙ ap (λ l. old ++ encode_utf8_all (encoded stretch true l)) (sym (drop_is cs i c within is))
     ∙ ap (λ b. old ++ encode_utf8_all (encoded stretch b (drop i cs))) (sym escaped) ∙ so_far
 
--- any other character
+-- after any other character, the text so far and that of the remaining characters are the whole text
 pub plain_step : (cs : List ℕ) (i c : ℕ) (old new whole : List ℕ) (stretch stretch' : Stretch) (is_escaped is_escaped' : Bool)
     → i < length cs → c ≡ get_or cs i c → new ≡ old ++ encode_utf8_all (character_text stretch c (drop (i + 1) cs)) → is_escaped ≡ false
     → stretch' ≡ stretch_after stretch c (drop (i + 1) cs) → is_escaped' ≡ (c == 92)

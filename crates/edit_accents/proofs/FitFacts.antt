@@ -1,4 +1,4 @@
--- The signs of a text have its braces and quotes, and so has the text of signs.
+-- If the braces and quotes of a text fit, so do those of its signs. If those of signs fit, so do those of their text.
 use Rattle.std.proofs.Common.{◌≡◌, inl, inr, ℕ, suc, ◌<◌, Bool, true, false, cond, List, [], ◌∷◌, ◌++◌, refl, sym, ap, ◌∙◌, subst, arith}
 use Rattle.std.specs.Prelude.{◌==◌, ◌&&◌, not}
 use Rattle.std.proofs.lemmas.Bool.{and_from, and_parts, cases_eq, lt-ltb, ne_eqb}
@@ -14,14 +14,14 @@ use Rattle.edit_accents.specs.declared.writing.Spot.TheVariants.{Free, Begun, Wo
 
 -- ---- characters without a meaning
 
--- a character that is no backslash, quote or brace
+-- a character other than a backslash, a quote or a brace
 pub record IsDull (c : ℕ) : Type 0 where
   pub no_slash : c ≡ 92 → ⊥
   pub no_quote : c ≡ 34 → ⊥
   pub no_open : c ≡ 123 → ⊥
   pub no_close : c ≡ 125 → ⊥
 
--- the test of a character by its cases
+-- the value for a character: one for the backslash, the quote and each brace, and one for all other characters
 abbrev by_cases : ℕ → Bool → Bool → Bool → Bool → Bool → Bool
 by_cases c hidden quote open_ close_ over =
     cond (c == 92) hidden (cond (c == 34) quote (cond (c == 123) open_ (cond (c == 125) close_ over)))
@@ -73,7 +73,7 @@ neutral_dull q c dull =
     never true = refl
     never false = refl
 
--- a plain character without a meaning before signs
+-- signs that fit also fit after a neutral plain character
 pub plain_fit : (q : Bool) (d c : ℕ) (ss : List Sign) → (c ≡ 92 → ⊥) → is_neutral q c ≡ true → fit q false d ss ≡ true
     → fit q false d (Plain c ∷ ss) ≡ true
 plain_fit q d c ss no_slash neutral is =
@@ -85,7 +85,7 @@ quote_fit : (q : Bool) (d : ℕ) (ss : List Sign) (rest : Bool) → (rest ≡ tr
 quote_fit true d ss rest on is = cc
 quote_fit false d ss rest on is = on is
 
--- the signs of a text, with the braces and quotes of the text
+-- if a text fits, its signs fit
 pub signs_fit : (q h : Bool) (d : ℕ) (stretch : Stretch) (cs : List ℕ) → text_fits q h d cs ≡ true → fit q h d (signs stretch h cs) ≡ true
 signs_fit q h d stretch [] is = is
 signs_fit q true d stretch (c ∷ cs) is = signs_fit q false d stretch cs is
@@ -122,7 +122,7 @@ signs_fit q false d stretch (c ∷ cs) is =
 
 -- ---- the text of signs
 
--- an opening brace and a closing one after it
+-- a closing brace may come after an opening one
 pub close_opened : (q : Bool) (d : ℕ) → can_close q (depth_opened q d) ≡ true
 close_opened true d = refl
 close_opened false d = lt-ltb 0 (suc d) (omega arith)
@@ -131,14 +131,14 @@ pub back_again : (q : Bool) (d : ℕ) → depth_closed q (depth_opened q d) ≡ 
 back_again true d = refl
 back_again false d = omega arith
 
--- a closing brace after an opening one, before others
+-- a text that fits also fits after a pair of braces
 pub closes_again : (q : Bool) (d : ℕ) (cs : List ℕ) → text_fits q false d cs ≡ true
     → can_close q (depth_opened q d) && text_fits q false (depth_closed q (depth_opened q d)) cs ≡ true
 closes_again q d cs is =
     and_from (can_close q (depth_opened q d)) (text_fits q false (depth_closed q (depth_opened q d)) cs) (close_opened q d)
     (subst (λ n. text_fits q false n cs ≡ true) (sym (back_again q d)) is)
 
--- a plain character that has no meaning as a sign
+-- a text that fits also fits after a neutral character
 plain_fits : (q : Bool) (d c : ℕ) (cs : List ℕ) → (c ≡ 92 → ⊥) → is_neutral q c ≡ true → text_fits q false d cs ≡ true
     → text_fits q false d (c ∷ cs) ≡ true
 plain_fits q d c cs no_slash neutral is =
@@ -160,12 +160,12 @@ plain_fits q d c cs no_slash neutral is =
     quote_free true free on = cc
     quote_free false free on = on
 
--- a character in braces
+-- a text that fits also fits after a character beyond ASCII in braces
 braced_fits : (q : Bool) (d c : ℕ) (cs : List ℕ) → is_beyond_ascii c ≡ true → text_fits q false d cs ≡ true
     → text_fits q false d (123 ∷ c ∷ 125 ∷ cs) ≡ true
 braced_fits q d c cs beyond is = over_dull q (depth_opened q d) c (125 ∷ cs) (is_dull c beyond) ∙ closes_again q d cs is
 
--- a composed character
+-- a text that fits also fits after the text of a composed character
 composed_fits : (q : Bool) (d c : ℕ) (cs : List ℕ) (spot : Spot) → is_beyond_ascii c ≡ true → text_fits q false d cs ≡ true
     → text_fits q false d (written_sign spot (Composed c) ++ cs) ≡ true
 composed_fits q d c cs Free beyond is = over_dull q d c cs (is_dull c beyond) ∙ is
@@ -182,7 +182,7 @@ grouped_fits q d c cs Word beyond is = braced_fits q d c cs beyond is
 grouped_fits q d c cs Waits beyond is = braced_fits q d c cs beyond is
 grouped_fits q d c cs Closed beyond is = braced_fits q d c cs beyond is
 
--- a plain character, and what follows it
+-- a text fits after a plain character if the signs fit after it, and the text fits wherever the signs do
 plain_text_fits : (q : Bool) (d c : ℕ) (ss : List Sign) (cs : List ℕ) → (fit q true d ss ≡ true → text_fits q true d cs ≡ true)
     → (fit q false d ss ≡ true → text_fits q false d cs ≡ true) → fit q false d (Plain c ∷ ss) ≡ true → text_fits q false d (c ∷ cs) ≡ true
 plain_text_fits q d c ss cs hidden shown is =
@@ -195,7 +195,7 @@ plain_text_fits q d c ss cs hidden shown is =
           plain_fits q d c cs no_slash parts.0 (shown parts.1)
     ]
 
--- the text of signs, with the braces and quotes of the signs
+-- if signs fit, their text fits
 pub written_fits : (q h : Bool) (d : ℕ) (spot : Spot) (ss : List Sign) → fit q h d ss ≡ true → text_fits q h d (written spot ss) ≡ true
 written_fits q h d spot [] is = is
 written_fits q true d spot (Plain c ∷ ss) is = written_fits q false d (spot_after spot (Plain c)) ss is

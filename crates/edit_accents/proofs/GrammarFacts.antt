@@ -26,7 +26,7 @@ use Rattle.edit_accents.proofs.FitFacts.{over_dull}
 
 -- ---- the characters of a literal
 
--- characters in braces: a quote has no meaning there
+-- in braces, a plain character doesn't change whether the text after it fits
 over_plain : (d c : ℕ) (cs : List ℕ) → is_plain c ≡ true → text_fits false false d (c ∷ cs) ≡ text_fits false false d cs
 over_plain d c cs plain =
     elim (cases_eq c 34) [
@@ -45,13 +45,13 @@ over_pair d cs =
     let less : suc d - 1 ≡ d = omega arith in
     ap (λ b. b && text_fits false false (suc d - 1) cs) (lt-ltb 0 (suc d) (omega arith)) ∙ ap (λ n. text_fits false false n cs) less
 
--- the characters between two places
+-- the text between two places is the bytes of characters with this property
 record HasCharacters (u v : Place) (skips : List ℕ → Type 0) : Type 0 where
   characters : List ℕ
   spelt : between u v ≡ encode_utf8_all characters
   skipped : skips characters
 
--- characters that balance before any others
+-- these characters before others don't change whether braces fit
 abbrev Balance : List ℕ → Type 0
 Balance cs = (d : ℕ) (more : List ℕ) → text_fits false false d (cs ++ more) ≡ text_fits false false d more
 
@@ -103,7 +103,7 @@ parts_characters {u} {v} (parts.nested {v = w} {w = x} {x = y} opens inner close
           ∙ others.skipped d more;
     }
 
--- characters in quotes
+-- these characters can be between quotes
 abbrev Unquoted : List ℕ → Type 0
 Unquoted cs = text_fits true false 0 cs ≡ true
 
@@ -148,7 +148,7 @@ quoted_characters {u} {v} (quotes.hidden {v = w} {w = x} {c = c} slash char rest
       skipped = others.skipped;
     }
 
--- the characters of a braced and of a quoted literal
+-- the characters between the braces of a literal have balanced braces
 pub parts_fit : {u v : Place} → Parts u v → v.at ≤ length u.text → IsUtf8 (between u v)
     → text_fits false false 0 (chars (between u v)) ≡ true
 parts_fit {u} {v} x within utf8 =
@@ -156,6 +156,7 @@ parts_fit {u} {v} x within utf8 =
     ap (text_fits false false 0) (chars_whole found.characters (between u v) utf8 found.spelt)
     ∙ ap (text_fits false false 0) (sym (append-nil found.characters)) ∙ found.skipped 0 []
 
+-- the characters between the quotes of a literal can be between quotes
 pub quoted_fit : {u v : Place} → QuotedParts u v → v.at ≤ length u.text → IsUtf8 (between u v)
     → text_fits true false 0 (chars (between u v)) ≡ true
 quoted_fit {u} {v} x within utf8 =
@@ -178,7 +179,7 @@ abbrev ClosesFrom : Bool → ℕ → Place → Place → Type 0
 ClosesFrom false d u v = ClosesOpen d u v
 ClosesFrom true d u v = (t : Place) → CharAt t 92 u → ClosesOpen d t v
 
--- characters that stand between two places close the open braces
+-- a text between two places closes the open braces if its characters do
 closes_stands : (h : Bool) (d : ℕ) (cs : List ℕ) (u v : Place) → Stands u (encode_utf8_all cs) v → text_fits false h d cs ≡ true
     → ClosesFrom h d u v
 closes_stands false d [] u v s is = subst (λ p. ClosesOpen d u p) (nothing s) (nothing_open d u is)
@@ -217,7 +218,7 @@ parts_stand cs {u} {v} s is = all_closed (closes_stands false 0 cs u v s is)
 unquoted_from : (c : ℕ) → (c ≡ 34 → ⊥) → (c ≡ 92 → ⊥) → not (c == 34) && not (c == 92) ≡ true
 unquoted_from c no_quote no_slash = ap (λ x. not x && not (c == 92)) (ne_eqb c 34 no_quote) ∙ ap not (ne_eqb c 92 no_slash)
 
--- the text from a place, or from a backslash before it, is a quoted one
+-- the text from a place, or from a backslash before it, can be between quotes
 abbrev QuotedFrom : Bool → Place → Place → Type 0
 QuotedFrom false u v = QuotedParts u v
 QuotedFrom true u v = (t : Place) → CharAt t 92 u → QuotedParts t v

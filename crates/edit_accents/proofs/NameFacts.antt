@@ -27,7 +27,7 @@ no_row {A = A} (row ∷ rows) name short other =
     (differ row.0 name (λ same. other (sym same ∙ eqb-true (length row.0) 1 parts.0)))
     ∙ no_row rows name parts.1 other
 
--- the name of an accent is one character
+-- a text that isn't one character long is no name of an accent
 pub no_accent : (name : List ℕ) → (length name ≡ 1 → ⊥) → value_named accents name ≡ None
 no_accent name other = no_row accents name accents_short other
 
@@ -43,7 +43,7 @@ none_longer (n ∷ names) name short long =
     (differ name n (λ same. omega (arith, same, long, ltb-true (length n) 3 parts.0)))
     ∙ none_longer names name parts.1 long
 
--- the name of a letter has at most two characters
+-- a text of three characters or more is no name of a letter
 pub no_letter : (name : List ℕ) → 3 ≤ length name → named_letter name ≡ None
 no_letter name long =
     ap (λ b. cond {A = Option ℕ} b (only_character (command_text name None)) None) (none_longer letter_names name letters_short long)

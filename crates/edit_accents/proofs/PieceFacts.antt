@@ -18,7 +18,7 @@ use Rattle.edit_accents.specs.declared.recoding.Form.{Form}
 first_is : {A : Type 0} {x y : A} {xs ys : List A} → x ∷ xs ≡ y ∷ ys → x ≡ y
 first_is {x = x} same = ap (λ l. get_or l 0 x) same
 
--- the new text of a piece is at its index
+-- if the new texts are those of all pieces, the text at the index of a piece is its new text
 pub text_at : (form : Form) (pieces : List (Spanned RawChunk)) (texts : List (String Global)) (i : ℕ) (p : Spanned RawChunk)
     (t : String Global) → i < length pieces → p ≡ get_or pieces i p → t ≡ get_or texts i t
     → map string_bytes texts ≡ new_texts form (map piece_of pieces) → string_bytes t ≡ text_of_piece (piece_recoded form (piece_of p))

@@ -32,7 +32,7 @@ use Rattle.edit_accents.proofs.FitFacts.{dull_sign}
 
 -- ---- the commands for letters
 
--- a command in braces becomes this character, alone and as the argument of an accent in braces; the command is longer than a character
+-- a command in braces becomes this character, by itself and as the argument of an accent in braces; the command is longer than a character
 record IsReadLetter (name : List ℕ) (c : ℕ) : Type 0 where
   alone : with_characters (in_braces (92 ∷ name)) ≡ c ∷ []
   argument : decoded (signs Accent false (in_braces (92 ∷ name) ++ 125 ∷ [])) ≡ Grouped c ∷ Closing ∷ []
@@ -86,12 +86,12 @@ record IsAccentName (name mark : ℕ) : Type 0 where
   begins : AreBegun name (is_ascii_alphabetic name)
   apart : only_character (nfc (0x131 ∷ mark ∷ [])) ≡ None
 
--- each row whose name is one character has the name of an accent with its mark
+-- each row whose name is one character has the name of the accent with its mark
 abbrev AllAccents : List (List ℕ × ℕ) → Type 0
 AllAccents [] = Unit {0}
 AllAccents (row ∷ rows) = IfSome (only_character row.0) (λ name. IsAccentName name row.1) × AllAccents rows
 
--- each row of accents has the name of an accent with its mark
+-- each row of the accents whose name is one character has the name of the accent with its mark
 accents_read : AllAccents accents
 unfolding accents unicode_normalization
 accents_read = assumption (arith)
@@ -175,7 +175,7 @@ grouped_argument b = record { found = refl; adjacent = refl; closes = refl }
 
 -- ---- an accent with its argument
 
--- a name is one character if it isn't a letter before letters
+-- the name of a command is one character if this is no letter or no letters follow
 one_name : (name : ℕ) (ss : List Sign) → (is_ascii_alphabetic name ≡ true → leading_letters ss ≡ [])
     → name_in_signs (Plain name ∷ ss) ≡ name ∷ []
 one_name name ss ends = by_letter (is_ascii_alphabetic name) ends
@@ -282,7 +282,7 @@ on_letter name mark b d text accent command gives beyond =
 
 -- ---- forms of one character
 
--- a character below the first one that may change in a form is in this form
+-- one character below the first one that may change in a form is in this form
 stays_alone : (form : Form) (c : ℕ) → c < passes_below form → normalize form (c ∷ []) ≡ c ∷ []
 stays_alone form c low =
     normalize-passes form (c ∷ []) (ap (λ v. is_yes v && true) (quick_check-below form c low))

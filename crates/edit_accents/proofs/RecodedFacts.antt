@@ -23,7 +23,7 @@ pub in_order : (form : Form) (d : Document) → IsDocument d → IsUtf8 d.text
     → AreEditsInOrder d.text 0 (entry_edits (recoding form d.text) d.text d.says.entries)
 in_order form d read utf8 = exchange_in_order d (λ e. recoding form d.text) read utf8
 
--- the new value of a field can be read
+-- the new value of a field can be parsed
 value_read : (form : Form) (text : List ℕ) (f : FieldReading) → IsUtf8 text → IsValue text f → CanBeExchanged (recoding form text) f
 value_read form text f utf8 value new = by_change (changes_value form f)
   where
@@ -49,7 +49,7 @@ recoded form d text read utf8 is =
           d.says.entries (file_stands d.text refl read).entries));
     }
 
--- the text that the code returns is the recoded one
+-- if the code returns the text after its edits, this is the recoded document
 pub recoded_answer : {A E : Type 0} (form : Form) (bytes_of : A → List ℕ) (r : Result A E) (d : Document) → IsDocument d
     → IsUtf8 d.text → IfOk r (λ new. bytes_of new ≡ edited_all (entry_edits (recoding form d.text) d.text d.says.entries) d.text)
     → IfOk r (λ new. IsRecoded form d (bytes_of new))

@@ -18,14 +18,14 @@ use Rattle.edit_accents.proofs.FitFacts.{back_again}
 
 -- ---- plain signs
 
--- the signs after a plain character that is no backslash
+-- the signs after a plain character other than a backslash fit if all signs do
 after_plain : (q : Bool) (d c : ℕ) (ss : List Sign) → (c ≡ 92 → ⊥) → fit q false d (Plain c ∷ ss) ≡ true → fit q false d ss ≡ true
 after_plain q d c ss no_slash is =
     let rest : is_neutral q c && fit q false d ss ≡ true =
     sym (ap (λ x. cond x (fit q true d ss) (is_neutral q c && fit q false d ss)) (ne_eqb c 92 no_slash)) ∙ is in
     (and_parts (is_neutral q c) (fit q false d ss) rest).1
 
--- a character that passes a test which the backslash fails isn't the backslash
+-- a character that passes a test that the backslash fails isn't a backslash
 other_than : (test : ℕ → Bool) (c : ℕ) → test c ≡ true → test 92 ≡ false → c ≡ 92 → ⊥
 other_than test c passes fails is = test_clash (test c) passes (ap test is ∙ fails)
 
@@ -33,7 +33,7 @@ some_if : (b : Bool) (c e : ℕ) → character_if b c ≡ Some e → b ≡ true
 some_if true c e is = refl
 some_if false c e is = cc
 
--- the signs after the letters at their start
+-- the signs after the letters at the start fit if all signs do
 letters_over : (q : Bool) (d : ℕ) (ss : List Sign) → fit q false d ss ≡ true → fit q false d (drop (length (leading_letters ss)) ss) ≡ true
 letters_over q d [] is = is
 letters_over q d (Command ∷ ss) is = is
@@ -49,7 +49,7 @@ letters_over q d (Plain c ∷ ss) is = by_letter (is_ascii_alphabetic c) refl (l
     by_letter true letter more = more (after_plain q d c ss (other_than is_ascii_alphabetic c letter refl) is)
     by_letter false letter more = is
 
--- the signs after the white space at their start
+-- the signs after the white space at the start fit if all signs do
 white_over : (q : Bool) (d : ℕ) (ss : List Sign) → fit q false d ss ≡ true → fit q false d (drop (white_count ss) ss) ≡ true
 white_over q d [] is = is
 white_over q d (Command ∷ ss) is = is
@@ -66,7 +66,7 @@ white_over q d (Plain c ∷ ss) is = by_white (is_whitespace c) refl (white_over
 
 -- ---- braces
 
--- the signs after a pair of braces
+-- the signs after a pair of braces fit if all signs do
 pair_over : (q : Bool) (d : ℕ) (ss : List Sign) → fit q false (depth_opened q d) (Closing ∷ ss) ≡ true → fit q false d ss ≡ true
 pair_over q d ss is =
     subst (λ n. fit q false n ss ≡ true) (back_again q d)
@@ -132,7 +132,7 @@ composed_is mark (Some c) e found = record {
   beyond = only_beyond (only_character (nfc (letter c ∷ mark ∷ []))) e found;
 }
 
--- each command for a letter becomes a character beyond ASCII
+-- there is no character, or it is beyond ASCII
 abbrev is_none_or_beyond : Option ℕ → Bool
 is_none_or_beyond None = true
 is_none_or_beyond (Some c) = is_beyond_ascii c
@@ -141,7 +141,7 @@ letters_beyond : list_all (λ name. is_none_or_beyond (only_character (command_t
 unfolding accents symbols command_text
 letters_beyond = refl
 
--- whether the text of a command is no single character, or one beyond ASCII
+-- the text of a command is no single character, or it is beyond ASCII
 abbrev test : List ℕ → Bool
 test name = is_none_or_beyond (only_character (command_text name None))
 
@@ -169,7 +169,7 @@ letter_beyond name e found = by_test (list_any (bytes_eq name) letter_names) ref
         sym (ap is_none_or_beyond is) ∙ listed_beyond letter_names name letters_beyond listed
     by_test false listed is = cc
 
--- the signs after the name of a command
+-- the signs after the name of a command fit if the signs after its backslash do
 name_over : (q : Bool) (d : ℕ) (ss : List Sign) → fit q true d ss ≡ true → fit q false d (drop (length (name_in_signs ss)) ss) ≡ true
 name_over q d (Plain c ∷ ss) is = by_letter (is_ascii_alphabetic c)
   where
@@ -178,7 +178,7 @@ name_over q d (Plain c ∷ ss) is = by_letter (is_ascii_alphabetic c)
     by_letter false = is
 name_over q d ss is = absurd (cc)
 
--- a command that takes signs with it, or stays
+-- signs fit after a command becomes a character beyond ASCII and the signs after the taken ones fit, or after the command stays
 taken_fit : (q : Bool) (d : ℕ) (o : Option ℕ) (count : ℕ) (ss : List Sign) → fit q false d (Command ∷ ss) ≡ true
     → ((e : ℕ) → o ≡ Some e → (is_beyond_ascii e ≡ true) × (fit q false d (drop count ss) ≡ true))
     → fit q false d (with_reduction (reduced_to o count Command) ss) ≡ true
@@ -255,7 +255,7 @@ reduced_fit q false d Command ss is = command_fit q d (value_named accents (name
 reduced_fit q false d Opening ss is = group_fit q d ss is
 reduced_fit q false d s ss is = is
 
--- other signs after a sign
+-- a sign still fits before other signs if these fit wherever the old ones do
 cons_fit : (q h : Bool) (d : ℕ) (s : Sign) (ss ts : List Sign)
     → ((g : Bool) (n : ℕ) → fit q g n ss ≡ true → fit q g n ts ≡ true) → fit q h d (s ∷ ss) ≡ true → fit q h d (s ∷ ts) ≡ true
 cons_fit q true d (Plain c) ss ts on is = on false d is
