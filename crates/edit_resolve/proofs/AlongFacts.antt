@@ -1,4 +1,4 @@
--- The fields of all entries, taken in a topological order.
+-- The fields of all entries, computed in a topological order.
 use Rattle.std.proofs.Common.{◌≡◌, ◌⊎◌, inl, inr, ℕ, zero, suc, ◌+◌, ◌<◌, ◌≤◌, List, [], ◌∷◌, ◌++◌, length, map, take, get_or, set, refl, sym, ap, ◌∙◌, subst, arith, Result, Ok, Err}
 use Rattle.std.specs.Prelude.{IfErr, IsErrAnd}
 use Rattle.std.specs.List.{All, Contains, flat_map}
@@ -40,13 +40,13 @@ offered_alike entries e fields others (p ∷ ps) same =
     ∙ ap (λ l. offers p.link (type_of (entry_at entries p.index)) (type_of e) (others p.index) ++ l)
     (offered_alike entries e fields others ps (λ i there. same i (contains_more p.index i (map (λ p. p.index) ps) there)))
 
--- the row of a mapped list
+-- the element of a mapped list at an index is the image of the element there
 map_at : {A B : Type 0} (f : A → B) (xs : List A) (i : ℕ) (a : A) (b : B) → i < length xs → get_or (map f xs) i b ≡ f (get_or xs i a)
 map_at f [] i a b within = absurd (omega (arith, within))
 map_at f (x ∷ xs) zero a b within = refl
 map_at f (x ∷ xs) (suc i) a b within = map_at f xs i a b (omega (arith, within))
 
--- the fields of the first indices of an order are known
+-- the entries at the first `k` indices of an order have their fields along at least `k` references
 abbrev pub IsAlongTo : List EntryReading → List ℕ → ℕ → (ℕ → List Named) → Type 0
 IsAlongTo entries order k fields = (i most : ℕ) → Contains (take k order) i → k ≤ most → fields i ≡ fields_along entries most i
 
@@ -55,7 +55,7 @@ module _ (entries : List EntryReading) (order : List ℕ) (sorted : IsTopologica
       → refs_of (parent_graph entries) index ≡ map (λ p. p.index) (parents entries (entry_at entries index))
   graph_row index within = map_at (λ e. map (λ p. p.index) (parents entries e)) entries index no_reading [] within
 
-  -- each index of the order is that of an entry
+  -- each index of the order is less than the number of entries
   pub turn_within : (k : ℕ) → k < length order → get_or order k 0 < length entries
   turn_within k within = by_case (cases_lt (get_or order k 0) (length (parent_graph entries)))
     where
@@ -69,7 +69,7 @@ module _ (entries : List EntryReading) (order : List ℕ) (sorted : IsTopologica
         as_one _ _ (le-ltb (get_or order k 0) (length (parent_graph entries)) past),
       ))
 
-  -- the fields of the next entry
+  -- the own and inherited fields of the next entry of the order are its fields along at least `k + 1` references
   next_along : (k index : ℕ) (fields : ℕ → List Named) → k < length order → get_or order k 0 ≡ index → index < length entries
       → IsAlongTo entries order k fields → (most : ℕ) → k + 1 ≤ most
       → with_inherited entries fields (parents entries (entry_at entries index)) index ≡ fields_along entries most index
@@ -90,7 +90,7 @@ module _ (entries : List EntryReading) (order : List ℕ) (sorted : IsTopologica
       ++ new_fields (map (λ f. read_name f.name.text) e.fields) l)
       (offered_alike entries e fields (fields_along entries most) (parents entries e) same)
 
-  -- one more entry has its fields
+  -- if the next entry of the order gets its fields and the others keep theirs, the entries at the first `k + 1` indices have their fields
   pub along_more : (k index : ℕ) (fields others : ℕ → List Named) → k < length order → index ≡ get_or order k index
       → index < length entries → IsAlongTo entries order k fields
       → others index ≡ with_inherited entries fields (parents entries (entry_at entries index)) index
@@ -118,7 +118,7 @@ module _ (entries : List EntryReading) (order : List ℕ) (sorted : IsTopologica
         | inr none ↦ absurd (omega (arith, none.1))
       ]
 
-  -- all entries have their fields
+  -- after the whole order, all entries have their fields
   pub along_all : (fields : ℕ → List Named) → IsAlongTo entries order (length order) fields → AreAlong entries fields
   along_all fields known index most within enough =
       known index most
@@ -130,7 +130,7 @@ module _ (entries : List EntryReading) (order : List ℕ) (sorted : IsTopologica
       size : length (parent_graph entries) ≡ length entries
       size = length-map entries (λ e. map (λ p. p.index) (parents entries e))
 
--- the rows after one of them is replaced
+-- a row that replaces another one is at its index
 pub row_set : (found : List (Vec NamedField)) (index : ℕ) (row : Vec NamedField) → index < length found
     → fields_at (set found index row) index ≡ map named_of row.items
 row_set found index row within =
@@ -150,7 +150,7 @@ row_kept (x ∷ xs) zero row (suc i) other = refl
 row_kept (x ∷ xs) (suc index) row zero other = refl
 row_kept (x ∷ xs) (suc index) row (suc i) other = row_kept xs index row i (λ same. other (ap suc same))
 
--- the parents of the entry at an index, in the vectors of the code
+-- the row at the index of an entry has the parents of this entry
 pub row_found : (entries : List EntryReading) (rows : List (Vec Parent)) (i : ℕ)
     → parent_lists rows ≡ map (parents entries) entries → i < length entries
     → get_or (parent_lists rows) i [] ≡ parents entries (entry_at entries i)
@@ -162,7 +162,7 @@ pub rows_count : (entries : List EntryReading) (rows : List (Vec Parent)) → pa
 rows_count entries rows are =
     sym (length-map rows (λ r. r.items)) ∙ ap length are ∙ length-map entries (parents entries)
 
--- an error of the order is one of the graph
+-- an error of the order of the parents' graph is an error of resolving
 pub graph_error : {A : Type 0} (entries : List EntryReading) (graph : Graph) (r : Result A ResolveError) (e : OrderError)
     → graph ≡ parent_graph entries → IsErrAnd r (λ x. x ≡ resolve_error e) → IsOrderError graph e → IfErr r (IsResolveError entries)
 graph_error entries graph (Ok x) e same gives known = tt
@@ -173,7 +173,7 @@ graph_error entries graph (Err x) e same gives known =
     by_case order.OutOfMemory at = tt
     by_case (order.Cycle index) at = at
 
--- the fields that the parents of an entry give, if these are the fields of all entries
+-- if these are the fields of all entries, the parents of an entry give it the same fields
 pub giving_known : (entries : List EntryReading) (fields : ℕ → List Named) (ps : List Parent) (e : EntryReading)
     → ps ≡ parents entries e → AreAlong entries fields
     → given_fields_by fields ps ≡ given_fields_by (all_fields entries) (parents entries e)

@@ -17,7 +17,7 @@ module _ (text : List ℕ) (resolved : FieldReading → Bool) (instead : FieldRe
   abbrev pub edits_from : List FieldReading → List Edit
   edits_from fs = edits_of_fields text fs (field_resolutions text resolved instead new fs)
 
-  -- one of some fields passes a test exactly if more than none does
+  -- a field passes the test exactly if the number of those that pass isn't 0
   any_counted : {A : Type 0} (fs : List FieldReading) (x y : A)
       → cond (list_any resolved fs) x y ≡ cond (count_by resolved fs == 0) y x
   any_counted [] x y = refl
@@ -37,7 +37,7 @@ module _ (text : List ℕ) (resolved : FieldReading → Bool) (instead : FieldRe
           none : (n : ℕ) → n ≡ 0 + n
           none n = omega arith
 
-  -- the change of a resolved reference, by the number of those that follow
+  -- the change of a resolved reference is that by the number of resolved references after it
   pub change_is : (f : FieldReading) (following : List FieldReading) (left : ℕ) → resolved f ≡ true → left ≡ count_by resolved following
       → field_resolution text resolved instead new f following ≡ last_or_removed text (left == 0) new f following
   change_is f following left is count =
@@ -47,14 +47,14 @@ module _ (text : List ℕ) (resolved : FieldReading → Bool) (instead : FieldRe
       ∙ any_counted following FieldChange.removed (last_change text new f following)
       ∙ ap (λ n. cond (n == 0) (last_change text new f following) FieldChange.removed) (sym count)
 
-  -- the number of resolved references from a field on
+  -- the number of resolved references from a field on is 1 more than that after it, if the field is one
   pub count_step : {A : Type 0} (view : A → FieldReading) (xs : List A) (i : ℕ) (x : A) → i < length xs → x ≡ get_or xs i x
       → count_by resolved (map view (drop i xs)) ≡ cond (resolved (view x)) 1 0 + count_by resolved (map view (drop (i + 1) xs))
   count_step view xs i x within is =
       ap (λ l. count_by resolved (map view l)) (drop_more xs i x within ∙ ap (λ y. y ∷ drop (i + 1) xs) (sym is))
       ∙ sum_by-cons (λ g. cond (resolved g) 1 0) (view x) (map view (drop (i + 1) xs))
 
-  -- the edits of an own field are those of its change
+  -- the change of a field that is no resolved reference is that of an own field
   pub own_is : (f : FieldReading) (following : List FieldReading) → resolved f ≡ false
       → own_change text (instead f) ≡ field_resolution text resolved instead new f following
   own_is f following is =
@@ -63,7 +63,7 @@ module _ (text : List ℕ) (resolved : FieldReading → Bool) (instead : FieldRe
       cond b (cond (list_any resolved following) FieldChange.removed (last_change text new f following)) (own_change text (instead f)))
       (sym is)
 
-  -- the edits of one more field were added
+  -- after the edits of one more field are added, the edits so far and those of the fields after it are those of all fields
   pub edits_step : {A : Type 0} (view : A → FieldReading) (xs : List A) (i : ℕ) (x : A) → i < length xs → x ≡ get_or xs i x
       → (old now all : List Edit)
       → now ≡ old ++ edits_of_field text (view x) (map view (drop (i + 1) xs))
@@ -77,7 +77,7 @@ module _ (text : List ℕ) (resolved : FieldReading → Bool) (instead : FieldRe
       ∙ append_assoc old (edits_of_field text (view x) rest (field_resolution text resolved instead new (view x) rest)) (edits_from rest)
       ∙ ap (λ l. old ++ edits_from l) (sym left) ∙ so_far
 
--- the inherited fields are those after the own ones
+-- if the fields of an entry are the own ones and the inherited ones, the latter are those after the number of own ones
 pub new_part : (own : FieldReading → Named) (all : List NamedField) (fs : List FieldReading) (inherits : List Named) (n : ℕ)
     → map named_of all ≡ map own fs ++ inherits → n ≡ length fs → map named_of (drop n all) ≡ inherits
 new_part own all [] inherits n is size = ap (λ m. map named_of (drop m all)) size ∙ is
@@ -86,7 +86,7 @@ new_part own (a ∷ as') (f ∷ fs) inherits n is size =
     ap (λ m. map named_of (drop m (a ∷ as'))) size
     ∙ new_part own as' fs inherits (length fs) (let tails : map named_of as' ≡ map own fs ++ inherits = cc in tails) refl
 
--- the same changes of own fields are the same changes
+-- two functions that substitute the same fields give the same changes
 pub changes_same : (text : List ℕ) (resolved : FieldReading → Bool) (one other : FieldReading → Option Named) (new : List Named)
     (fs : List FieldReading) → ((f : FieldReading) → one f ≡ other f)
     → field_resolutions text resolved one new fs ≡ field_resolutions text resolved other new fs

@@ -14,7 +14,7 @@ use Rattle.edit_resolve.specs.Parents.{container_index, entry_at, entry_index, f
 use Rattle.edit_resolve.specs.declared.parents.Link.{Link}
 use Rattle.edit_resolve.specs.declared.parents.Link.TheVariants.{Crossref, Xdata}
 
--- one more entry
+-- the first index that passes among elements and one more is the first of theirs, or else that of the last one if it passes
 first_push : {A : Type 0} (test : A → Bool) (xs : List A) (x : A)
     → first_position test (xs ++ x ∷ []) ≡ first_index (first_position test xs) (cond (test x) (Some (length xs)) None)
 first_push test [] x = refl
@@ -39,12 +39,12 @@ first_more view test xs i x within is =
     ∙ ap (λ n. first_index (first_position test (map view (take i xs))) (cond (test (view x)) (Some n) None))
     (length-map (take i xs) view ∙ length-take-le i xs (omega arith))
 
--- the name is there already
+-- if there is an index, another one doesn't replace it
 pub had : (o : Option ℕ) (new : Option ℕ) → is_some o ≡ true → o ≡ first_index o new
 had (Some i) new some = refl
 had None new some = absurd (cc)
 
--- names one after another
+-- giving an index to a name and then to another one is giving it to both
 pub first_first : (o : Option ℕ) (a b : Bool) (i : ℕ)
     → first_index (first_index o (cond a (Some i) None)) (cond b (Some i) None) ≡ first_index o (cond (a || b) (Some i) None)
 first_first (Some j) a b i = refl
@@ -52,12 +52,12 @@ first_first None true b i = refl
 first_first None false true i = refl
 first_first None false false i = refl
 
--- nothing more
+-- an index, or else no index, is the first one
 pub first_none : (o : Option ℕ) → first_index o None ≡ o
 first_none (Some i) = refl
 first_none None = refl
 
--- a name that wasn't there is added
+-- a name without an index gets one, and other names keep theirs
 pub added : (index : List ℕ → Option ℕ) (name other : List ℕ) (i : ℕ) → index name ≡ None
     → cond (bytes_eq name other) (Some i) (index other) ≡ first_index (index other) (cond (bytes_eq name other) (Some i) None)
 added index name other i none = by_case (bytes_eq name other) refl
@@ -68,7 +68,7 @@ added index name other i none = by_case (bytes_eq name other) refl
         ap (λ o. first_index o (Some i)) (sym none ∙ ap index ((bytes_eq-Decides name other).0 same))
     by_case false other_name = sym (first_none (index other))
 
--- a place that is found is one of the list's
+-- the first index that passes is less than the length of the list
 pub first_within : {A : Type 0} (test : A → Bool) (xs : List A) (i : ℕ) → first_position test xs ≡ Some i → i < length xs
 first_within test [] i found = absurd (cc)
 first_within test (x ∷ xs) i found =
@@ -80,12 +80,12 @@ first_within test (x ∷ xs) i found =
     by_case false None later is = absurd (cc)
     by_case false (Some j) later is = let one_more : suc j ≡ i = cc in omega (arith, later j refl)
 
--- nothing is there
+-- an option that isn't `Some` is `None`
 pub none_of : {A : Type 0} (o : Option A) → is_some o ≡ false → o ≡ None
 none_of None none = refl
 none_of (Some x) none = absurd (cc)
 
--- the entry that Biber finds by a name is one of the list's
+-- the index of the entry that Biber finds by a name is less than the number of entries
 pub entry_within : (entries : List EntryReading) (name : List ℕ) (i : ℕ) → entry_index entries name ≡ Some i → i < length entries
 entry_within entries name i found =
     by_case (first_position (is_keyed name) entries) (first_position (has_alias name) entries)
@@ -96,7 +96,7 @@ entry_within entries name i found =
     by_case (Some j) p first second is = first i is
     by_case None p first second is = second i is
 
--- the parent that a reference finds is one of the entries
+-- the index of the parent that a reference finds is less than the number of entries
 pub parent_within : (entries : List EntryReading) (link : Link) (key : List ℕ) (i : ℕ) → parent_index entries link key ≡ Some i
     → i < length entries
 parent_within entries Crossref key i found = entry_within entries key i found
@@ -111,19 +111,19 @@ parent_within entries Xdata key i found =
         tested true same = within i same
         tested false same = absurd (cc)
 
--- the names of an entry without its key
+-- the names of an entry after the first one, its key, are its aliases
 pub aliases_are : (names : List (Bor (List ℕ))) (key : List ℕ) (aliases : List (List ℕ)) → map (λ n. n.now) names ≡ key ∷ aliases
     → map (λ n. n.now) (drop 1 names) ≡ aliases
 aliases_are [] key aliases is = absurd (cc)
 aliases_are (n ∷ ns) key aliases is = cc
 
--- the container at an index
+-- the index, if the entry there has the type `xdata`, is that of the container
 pub container_found : (entries : List EntryReading) (o : Option ℕ) (i : ℕ) (b : Bool) → o ≡ Some i
     → is_container (type_of (entry_at entries i)) ≡ b → cond b (Some i) None ≡ container_index entries o
 container_found entries o i b found is =
     ap (λ t. cond t (Some i) None) (sym is) ∙ ap (container_index entries) (sym found)
 
--- the type of an entry among the types of all
+-- the type at the index of an entry, among the types of all, is that of the entry
 pub type_found : (entries : List EntryReading) (types : List EntryType) (i : ℕ) (type : EntryType) → types ≡ map type_of entries
     → i < length entries → type ≡ get_or types i type → type ≡ type_of (entry_at entries i)
 type_found entries types i type are within is = is ∙ ap (λ ks. get_or ks i type) are ∙ get_or-map type_of entries i no_reading type within

@@ -1,4 +1,4 @@
--- Offered fields one after another.
+-- The fields that parents offer an entry, added one after another.
 use Rattle.std.proofs.Common.{◌≡◌, ℕ, ◌+◌, ◌<◌, Bool, true, false, cond, List, [], ◌∷◌, ◌++◌, length, map, take, get_or, refl, sym, ap, ◌∙◌, subst, append_assoc, append-nil, Option, Some, Result, Ok, Err, zero, suc}
 use Rattle.std.specs.Prelude.{bytes_eq, ◌||◌, unwrap_or, OnOk}
 use Rattle.bib_text.specs.Enums.{value_named}
@@ -21,7 +21,7 @@ use Rattle.edit_resolve.specs.Working.{IsGathered, Offered, is_ruled_out_in, nam
 use Rattle.edit_resolve.specs.declared.gathering.Named.{Named as NamedField}
 use Rattle.edit_resolve.specs.declared.gathering.Gathered.{Gathered}
 
--- the new fields among offered fields and more of them
+-- the new fields among offered fields and more of them are those among the first, and those among the others after the first are taken
 pub new_append : (taken : List (List ℕ)) (xs ys : List Named)
     → new_fields taken (xs ++ ys) ≡ new_fields taken xs ++ new_fields (taken ++ read_names (new_fields taken xs)) ys
 new_append taken [] ys = ap (λ t. new_fields t ys) (sym (append-nil taken))
@@ -44,13 +44,13 @@ new_append taken (x ∷ xs) ys =
         ∙ ap (λ t. new_fields (taken ++ read_name x.name ∷ []) xs ++ new_fields t ys)
         (append_assoc taken (read_name x.name ∷ []) (read_names (new_fields (taken ++ read_name x.name ∷ []) xs))))
 
--- nothing is offered
+-- if no field is offered, nothing changes
 pub offered_none : (g : Gathered) → Offered g [] g
 offered_none g taken fields is =
     subst (λ t. IsGathered t (fields ++ []) g) (sym (append-nil taken))
     (subst (λ l. IsGathered taken l g) (sym (append-nil fields)) is)
 
--- fields are offered, and then others
+-- after fields are offered, and then others, both are offered
 pub offered_then : (a b c : Gathered) (xs ys : List Named) → Offered a xs b → Offered b ys c → Offered a (xs ++ ys) c
 offered_then a b c xs ys first second taken fields is =
     let now : List Named = new_fields taken xs in
@@ -67,11 +67,11 @@ offered_then a b c xs ys first second taken fields is =
     subst (λ t. IsGathered t (fields ++ new_fields taken (xs ++ ys)) c) names
     (subst (λ l. IsGathered ((taken ++ read_names now) ++ read_names later) l c) lists all)
 
--- what is offered may be called otherwise
+-- a list that is equal to the offered fields is offered
 pub offered_same : (a b : Gathered) (xs ys : List Named) → xs ≡ ys → Offered a xs b → Offered a ys b
 offered_same a b xs ys same offered = subst (λ l. Offered a l b) same offered
 
--- one more of the fields that are offered one after another
+-- after one more field of a list is offered, the fields up to the next index are
 pub offered_more : (each : List Named → List Named) → ((xs ys : List Named) → each (xs ++ ys) ≡ each xs ++ each ys)
     → (all : List NamedField) (i : ℕ) (x : NamedField) (a b c : Gathered) → i < length all → x ≡ get_or all i x
     → Offered a (each (map named_of (take i all))) b → Offered b (each (named_of x ∷ [])) c
@@ -81,7 +81,7 @@ offered_more each joins all i x a b c within is before now =
     (sym (ap each (mapped_more named_of all i x within is) ∙ joins (map named_of (take i all)) (named_of x ∷ [])))
     (offered_then a b c _ _ before now)
 
--- a name is in the set exactly if it is taken
+-- a set that has the taken names rules out the same names
 pub taken_known : (taken : List (List ℕ)) (has : List ℕ → Bool) (name : List ℕ)
     → ((q : List ℕ) → has q ≡ is_listed taken q) → is_ruled_out_in has name ≡ is_ruled_out taken name
 taken_known taken has name known = any_same has (is_listed taken) known (name ∷ unwrap_or (value_named rival_names name) [])
@@ -91,7 +91,7 @@ pub one_new : (taken : List (List ℕ)) (n : Named) (b : Bool) → is_ruled_out 
     → new_fields taken (n ∷ []) ≡ cond b [] (n ∷ [])
 one_new taken n b is = ap (λ t. cond t [] (n ∷ [])) is
 
--- one more name is taken
+-- a set has a name after one more is taken exactly if it had it or it is this one
 pub listed_more : (taken : List (List ℕ)) (name q : List ℕ) (has : Bool) → has ≡ is_listed taken q
     → cond (bytes_eq name q) true has ≡ is_listed (taken ++ name ∷ []) q
 listed_more taken name q has known =
@@ -104,7 +104,7 @@ listed_more taken name q has known =
     turned false true = refl
     turned false false = refl
 
--- a field whose name isn't taken is added
+-- a field whose name isn't ruled out is added, and its name is taken
 pub pushed : (taken : List (List ℕ)) (fields : List Named) (n : Named) (old new : Gathered) (low : List ℕ) → low ≡ read_name n.name
     → is_ruled_out_in (contains_text old.names) low ≡ false
     → ((q : List ℕ) → contains_text new.names q ≡ cond (bytes_eq low q) true (contains_text old.names q))
@@ -122,16 +122,16 @@ pushed taken fields n old new low read free added lists is =
     } in
     subst (λ l. IsGathered (taken ++ read_names l) (fields ++ l) new) (sym new_is) all
 
--- a field that passes a test is offered
+-- a list of one element, if a test is passed, is this list
 pub passed : {A : Type 0} (x : A) (b : Bool) → b ≡ true → x ∷ [] ≡ cond b (x ∷ []) []
 passed x b is = ap (λ t. cond t (x ∷ []) []) (sym is)
 
--- what is renamed is offered
+-- a field with a new name is the list of its renamed fields
 pub renamed_found : (n : Named) (new : Option (List ℕ)) (name : List ℕ) → new ≡ Some name
     → record { name = name; field = n.field } ∷ [] ≡ renamed n new
 renamed_found n new name is = ap (renamed n) (sym is)
 
--- one more name of an entry's own fields
+-- a set has the names of the own fields up to the next index after it gets the name of the next field
 pub names_more : (fields : List Pair) (i : ℕ) (f : Pair) (low q : List ℕ) (has : Bool) → i < length fields → f ≡ get_or fields i f
     → low ≡ read_name f.key.v.now
     → has ≡ is_listed (map (λ f. read_name f.name.text) (map field_of (take i fields))) q
@@ -143,18 +143,18 @@ names_more fields i f low q has within is read known =
     (sym (ap (map (λ f. read_name f.name.text)) (mapped_more field_of fields i f within is)
     ∙ map-append (λ f. read_name f.name.text) (map field_of (take i fields)) (field_of f ∷ [])))
 
--- what follows from a success
+-- a consequence of the property of a success is a property of the success
 pub on_ok : {A E : Type 0} {P Q : Type 0} (r : Result A E) → (P → Q) → OnOk r P → OnOk r Q
 on_ok (Ok x) f is = f is
 on_ok (Err e) f is = is
 
--- the type of the entry at an index
+-- the type at an index among the types of all entries is that of the entry there
 type_is : (entries : List EntryReading) (i : ℕ) → type_at (map type_of entries) i ≡ type_of (entry_at entries i)
 type_is [] i = refl
 type_is (e ∷ es) zero = refl
 type_is (e ∷ es) (suc i) = type_is es i
 
--- what parents offer, by the types of all entries
+-- the fields that parents offer, by the types of all entries, are those by the types of the parents
 pub offered_is : (entries : List EntryReading) (types : List EntryType) (child : EntryType) (fields : ℕ → List Named) (ps : List Parent)
     → types ≡ map type_of entries
     → offered_at types child fields ps
@@ -166,7 +166,7 @@ offered_is entries types child fields (p ∷ ps) are =
     ∙ ap (λ l. offers p.link (type_of (entry_at entries p.index)) child (fields p.index) ++ l)
     (offered_is entries types child fields ps are)
 
--- one more parent
+-- after the fields of one more parent are offered, those of the parents up to the next index are
 pub parents_more : (types : List EntryType) (child : EntryType) (fields : ℕ → List Named) (ps : List Parent) (i : ℕ) (d : Parent)
     (a b c : Gathered) → i < length ps → Offered a (offered_at types child fields (take i ps)) b
     → Offered b (offers (get_or ps i d).link (type_at types (get_or ps i d).index) child (fields (get_or ps i d).index)) c

@@ -24,7 +24,7 @@ or_or None b c = refl
 pub gives_none : {A : Type 0} (given : BTreeMap (String A) NamedField) → Gives given [] given
 gives_none given = λ name. sym (or_none (given_at given name))
 
--- fields are given one after another
+-- after a map gets some fields, and then others, it has got both
 pub gives_then : {A : Type 0} (a b c : BTreeMap (String A) NamedField) (xs ys : List Named) → Gives a xs b → Gives b ys c
     → Gives a (xs ++ ys) c
 gives_then a b c xs ys first second = λ name.
@@ -32,7 +32,7 @@ gives_then a b c xs ys first second = λ name.
     ∙ or_or (given_at a name) (find (is_read_as name) xs) (find (is_read_as name) ys)
     ∙ ap (option_or (given_at a name)) (sym (find-append (is_read_as name) xs ys))
 
--- a name that has a field keeps it
+-- a name that has a field keeps it when a field with this name is given
 pub name_kept : {A : Type 0} (given : BTreeMap (String A) NamedField) (n : Named) (low : List ℕ) → low ≡ read_name n.name
     → is_some (get_by_text given low) ≡ true → Gives given (n ∷ []) given
 name_kept given n low is there = λ name. by_case name (bytes_eq (read_name n.name) name) refl
@@ -49,7 +49,7 @@ name_kept given n low is there = λ name. by_case name (bytes_eq (read_name n.na
         ∙ ap (λ l. is_some (get_by_text given l)) (sym ((bytes_eq-Decides (read_name n.name) name).0 same) ∙ sym is) ∙ there)
     by_case name false other = sym (or_none (given_at given name))
 
--- a name without a field gets one
+-- a name without a field gets the field that is given
 pub name_added : {A : Type 0} (old new : BTreeMap (String A) NamedField) (n : NamedField) (low : List ℕ) → low ≡ read_name (named_of n).name
     → is_some (get_by_text old low) ≡ false
     → ((name : List ℕ) → get_by_text new name ≡ cond (bytes_eq low name) (Some n) (get_by_text old name))
@@ -71,7 +71,7 @@ name_added old new n low is none added = λ name.
         ∙ ap (λ l. is_some (get_by_text old l)) (sym ((bytes_eq-Decides (read_name (named_of n).name) name).0 same) ∙ sym is) ∙ none)
     by_case name false other = sym (or_none (given_at old name))
 
--- one more of the fields that are given one after another
+-- after one more field of a list is given, the fields up to the next index are
 pub gives_more : {A : Type 0} (each : List Named → List Named) → ((xs ys : List Named) → each (xs ++ ys) ≡ each xs ++ each ys)
     → (all : List NamedField) (i : ℕ) (x : NamedField) (a b c : BTreeMap (String A) NamedField) → i < length all → x ≡ get_or all i x
     → Gives a (each (map named_of (take i all))) b → Gives b (each (named_of x ∷ [])) c
@@ -81,17 +81,17 @@ gives_more each joins all i x a b c within is before now =
     (sym (ap each (mapped_more named_of all i x within is) ∙ joins (map named_of (take i all)) (named_of x ∷ [])))
     (gives_then a b c (each (map named_of (take i all))) (each (named_of x ∷ [])) before now)
 
--- a field that isn't inherited is passed over
+-- if the test fails, the field isn't given
 pub passed_over : {A : Type 0} (given : BTreeMap (String A) NamedField) (n : Named) (b : Bool) → b ≡ false
     → Gives given (cond b (n ∷ []) []) given
 passed_over given n b is = subst (λ b. Gives given (cond b (n ∷ []) []) given) (sym is) (gives_none given)
 
--- a field that is inherited is given
+-- if the test is passed, the field is given
 pub passed_on : {A : Type 0} (old new : BTreeMap (String A) NamedField) (n : Named) (b : Bool) → b ≡ true → Gives old (n ∷ []) new
     → Gives old (cond b (n ∷ []) []) new
 passed_on old new n b is gives = subst (λ b. Gives old (cond b (n ∷ []) []) new) (sym is) gives
 
--- one more parent
+-- the fields that parents give, and those that the next one gives, are those that the parents up to the next index give
 pub parents_give : (fields : ℕ → List Named) (ps : List Parent) (i : ℕ) (d : Parent) → i < length ps
     → given_fields_by fields (take i ps) ++ given_fields (get_or ps i d).link (fields (get_or ps i d).index)
     ≡ given_fields_by fields (take (i + 1) ps)
@@ -111,7 +111,7 @@ given_alike fields others (p ∷ ps) same =
     ∙ ap (λ l. given_fields p.link (others p.index) ++ l)
     (given_alike fields others ps (λ i there. same i (contains_more p.index i (map (λ p. p.index) ps) there)))
 
--- what holds of all fields holds of the one that is found
+-- if all fields have a property, one that is found has it
 pub all_found : (P : Named → Type 0) (test : Named → Bool) (ns : List Named) (n : Named) → AllByRecursion P ns → find test ns ≡ Some n
     → P n
 all_found P test [] n all is = absurd (cc)

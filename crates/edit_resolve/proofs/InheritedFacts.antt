@@ -1,4 +1,4 @@
--- What holds of each inherited field.
+-- A property of all own fields that renaming keeps is one of each inherited field.
 use Rattle.std.proofs.Common.{◌≡◌, ℕ, zero, suc, Bool, true, false, cond, List, [], ◌∷◌, ◌++◌, length, map, refl, Option, Some, None}
 use Rattle.std.specs.List.{AllByRecursion, filter, flat_map}
 use Rattle.bib_text.proofs.ListFacts.{all_append}

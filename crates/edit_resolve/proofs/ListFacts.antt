@@ -12,17 +12,17 @@ pub map_same : {A B : Type 0} (f g : A → B) → ((x : A) → f x ≡ g x) → 
 map_same f g same [] = refl
 map_same f g same (x ∷ xs) = ap (λ y. y ∷ map f xs) (same x) ∙ ap (λ l. g x ∷ l) (map_same f g same xs)
 
--- a name is none of some names that differ from it
+-- a name that differs from each of some names isn't one of them
 pub one_of_none : (names : List (List ℕ)) (name : List ℕ) → IsNoneOf names name → is_one_of names name ≡ false
 one_of_none [] name none = refl
 one_of_none (x ∷ xs) name none = search (arith, none.0, one_of_none xs name none.1, bytes_eq-Decides)
 
--- one more element, where the default of the list is given
+-- the images of the elements up to the next index are those of the elements before, and that of the element there
 pub seen_at : {A B : Type 0} (view : A → B) (xs : List A) (i : ℕ) (d : A) → i < length xs
     → map view (take (i + 1) xs) ≡ map view (take i xs) ++ view (get_or xs i d) ∷ []
 seen_at view xs i d within = ap (map view) (take_more xs i d within) ∙ map-append view (take i xs) (get_or xs i d ∷ [])
 
--- one more key
+-- after the parents that one more key finds are added, those of the keys up to the next index are added
 pub mapped_more : {A B C D : Type 0} (view : A → B) (h : B → Option C) (f : C → D) (xs : List A) (i : ℕ) (d : A) → i < length xs
     → (old start : List D) → old ≡ start ++ map f (filter_map h (map view (take i xs)))
     → old ++ map f (filter_map h (view (get_or xs i d) ∷ [])) ≡ start ++ map f (filter_map h (map view (take (i + 1) xs)))

@@ -28,7 +28,7 @@ all_other x (y ∷ ys) none = elim (eqb_tells x y) [
     turned : x ≡ y → eqb y x ≡ true
     turned same = ap (λ n. eqb y n) same ∙ itself y
 
--- indices that occur at most once are distinct
+-- indices are distinct if each occurs at most once
 distinct : (xs : List ℕ) → ((p : ℕ) → times p xs ≤ 1) → IsDistinct eqb xs
 unfolding IsDistinct
 distinct [] once = tt

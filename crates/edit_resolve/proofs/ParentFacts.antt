@@ -1,4 +1,4 @@
--- The parents of entries are entries, so the graph of parents is one.
+-- The parents of entries are entries, so the rows of the code are their graph.
 use Rattle.std.proofs.Common.{◌≡◌, ℕ, ◌<◌, Bool, true, false, cond, List, [], ◌∷◌, ◌++◌, get_or, length, map, reverse, refl, sym, ap, ◌∙◌, subst, Option, Some, None}
 use Rattle.std.specs.List.{All, AllByRecursion, cons_option, filter_map}
 use Rattle.std.proofs.lemmas.List.{length-map, reverse-append}
@@ -16,20 +16,20 @@ use Rattle.edit_resolve.specs.declared.parents.Link.TheVariants.{Crossref, Xdata
 use Rattle.edit_resolve.specs.declared.parents.Parent.{Parent}
 use Rattle.edit_resolve.proofs.FileFacts.{parent_within}
 
--- a property of all elements in the other order
+-- if all elements have a property, so have those of the reversed list
 all_reverse : {A : Type 0} (P : A → Type 0) (xs : List A) → AllByRecursion P xs → AllByRecursion P (reverse xs)
 all_reverse P [] all = tt
 all_reverse P (x ∷ xs) all =
     subst (AllByRecursion P) (sym (reverse-append (x ∷ []) xs))
     (all_append P (reverse xs) (x ∷ []) (all_reverse P xs all.1) (all.0, tt))
 
--- one function after another
+-- mapping a mapped list is mapping the list by both functions
 map_map : {A B C : Type 0} (g : B → C) (f : A → B) (xs : List A) → map g (map f xs) ≡ map (λ x. g (f x)) xs
 map_map g f [] = refl
 map_map g f (x ∷ xs) = ap (λ l. g (f x) ∷ l) (map_map g f xs)
 
 module _ (entries : List EntryReading) where
-  -- a parent is an entry
+  -- the index of a parent is less than the number of entries
   abbrev IsEntry : Parent → Type 0
   IsEntry p = p.index < length entries
 
@@ -58,7 +58,7 @@ module _ (entries : List EntryReading) where
       (all_append IsEntry (linked entries Crossref e.fields) (linked entries Xdata e.fields) (linked_within Crossref e.fields)
       (linked_within Xdata e.fields)))
 
-  -- the parents that a resolved reference names are entries
+  -- the indices of the parents that a resolved reference names are less than the number of entries
   pub references_within : (f : FieldReading) → AllByRecursion IsEntry (reference_parents entries f)
   references_within f = by_case (is_resolved entries f)
     where

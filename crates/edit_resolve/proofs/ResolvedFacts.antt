@@ -58,7 +58,7 @@ module _ (d : Document) (read : IsDocument d) where
 
   -- ---- fields
 
-  -- an inherited field can be put in
+  -- an inherited field can be inserted
   abbrev CanBeGiven : Named → Type 0
   CanBeGiven n = CanBePut (new_field d.text n)
 

@@ -18,13 +18,13 @@ use Rattle.edit_resolve.specs.declared.gathering.Named.{Named as NamedField}
 use Rattle.edit_resolve.specs.declared.parents.Parent.{Parent}
 use Rattle.edit_resolve.proofs.ParentFacts.{references_within}
 
--- a field is lacking if it is no linking field, isn't offered, and no field of the entry has its name
+-- the test of a field that isn't a linking field and isn't offered is whether no field of the entry has its name
 pub lacks : (linking offered has found : Bool) → linking ≡ false → offered ≡ false → found ≡ has
     → not found ≡ (not linking && not offered && not has)
 lacks linking offered has found no_link no_offer same =
     ap not same ∙ sym (ap (λ b. not b && not offered && not has) no_link ∙ ap (λ b. not b && not has) no_offer)
 
--- one more field of a parent
+-- after the name of one more field is added if it is lacking, the names are those of the lacking fields up to the next index
 pub names_more : (lacks : Named → Bool) (xs : List NamedField) (i : ℕ) (x : NamedField) → i < length xs → x ≡ get_or xs i x
     → (old new : List (List ℕ)) → old ≡ map (λ n. n.name) (filter lacks (map named_of (take i xs)))
     → new ≡ old ++ map (λ n. n.name) (filter lacks (named_of x ∷ []))
@@ -35,7 +35,7 @@ names_more lacks xs i x within is old new known added =
     ∙ ap (map (λ n. n.name)) (sym (filter-append lacks (map named_of (take i xs)) (named_of x ∷ [])))
     ∙ ap (λ l. map (λ n. n.name) (filter lacks l)) (sym (mapped_more named_of xs i x within is))
 
--- one more name of the fields of an entry
+-- a set has the names of the fields up to the next index after it gets the name of the next field
 pub read_more : (xs : List NamedField) (i : ℕ) (x : NamedField) (low q : List ℕ) (has : Bool) → i < length xs → x ≡ get_or xs i x
     → low ≡ read_name (named_of x).name → has ≡ list_any (is_read_as q) (map named_of (take i xs))
     → cond (bytes_eq low q) true has ≡ list_any (is_read_as q) (map named_of (take (i + 1) xs))
@@ -51,7 +51,7 @@ read_more xs i x low q has within is read known =
     turned false true = refl
     turned false false = refl
 
--- one more parent
+-- after the results for one more parent are added, those for the parents up to the next index are added
 pub parents_more : (each : Parent → List Uninherited) (ps : List Parent) (i : ℕ) (d : Parent) → i < length ps
     → (old new all : List Uninherited)
     → old ≡ all ++ flat_map each (take i ps) → new ≡ old ++ each (get_or ps i d) → new ≡ all ++ flat_map each (take (i + 1) ps)
