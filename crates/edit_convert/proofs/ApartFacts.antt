@@ -1,4 +1,4 @@
--- A field gets no name, and a date no parts, that its entry already has.
+-- A field gets no name that its entry already has, and a date no parts that its entry already has.
 use Rattle.std.proofs.Common.{◌≡◌, ℕ, Bool, true, false, cond, List, [], ◌∷◌, refl, subst, Option, Some, None}
 use Rattle.std.specs.Prelude.{◌&&◌, ◌==◌, codes, filter, length, nat_lt, not}
 use Rattle.std.specs.List.{find, list_any}
@@ -23,7 +23,8 @@ word_case : (fields : List FieldReading) (w : Bool) (other name : List ℕ) (res
 word_case fields true other name rest free later is = let same : other ≡ name = cc in subst (λ n. is_field_there fields n ≡ false) same free
 word_case fields false other name rest free later is = later is
 
--- rows with one more row before them, which is free or isn't
+-- if no row gives a name that the entry has, one more row before them, which is only kept if the entry doesn't have its name, gives none
+-- either
 row_case : (fields : List FieldReading) (b : Bool) (row : List ℕ × List ℕ) (rows : List (List ℕ × List ℕ))
     (text name : List ℕ) → is_field_there fields row.1 ≡ b
     → (other_name rows text ≡ Some name → is_field_there fields name ≡ false)
@@ -78,7 +79,7 @@ joined_apart dialect defines text e date is =
     (list_any (is_field_there fields) (codes "endyear" ∷ codes "endmonth" ∷ codes "endday" ∷ []))
     (not-true there days.1)
 
--- and the new date is the date of its parts
+-- the date that replaces its parts is parsed as the date of these parts
 pub joined_is_the_same : (dialect : Dialect) (defines : Bool) (text : List ℕ) (e : EntryReading) (date : List ℕ)
     → joined_date dialect defines text e.fields ≡ Some date → IsDateOfParts defines e.fields date
 joined_is_the_same dialect defines text e date is =

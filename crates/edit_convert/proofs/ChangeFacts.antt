@@ -1,4 +1,4 @@
--- What replaces a field can be written to a file.
+-- The replacement of a field can be written to a file.
 use Rattle.std.proofs.Common.{◌≡◌, ℕ, Bool, true, false, cond, List, ◌++◌, refl, Option, Some, None}
 use Rattle.std.specs.Prelude.{◌&&◌, codes}
 use Rattle.std.specs.List.{AllByRecursion}
@@ -16,7 +16,7 @@ use Rattle.edit_entries.proofs.NewFieldFacts.{CanBePut}
 use Rattle.edit_convert.proofs.JoinedFacts.{joined_put}
 use Rattle.edit_convert.proofs.NewNameFacts.{name_known}
 
--- a name can be one, and fields can be put in
+-- the new name of a replacement can be a name, and its new fields can be inserted
 abbrev pub CanBeMade : Option Replacement → Type 0
 CanBeMade None = Unit {0}
 CanBeMade (Some (Replacement.with_name name)) = CanBeName name

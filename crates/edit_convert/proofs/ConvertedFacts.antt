@@ -15,7 +15,7 @@ use Rattle.edit_convert.proofs.TypeFacts.{missing_put, type_printed}
 use Rattle.edit_convert.proofs.ChangeFacts.{CanBeMade, change_known}
 use Rattle.edit_convert.proofs.NewNameFacts.{type_known}
 
--- a field follows a part of a date that is removed
+-- if a part of a date is among the following fields, a field follows
 one_follows : (following : List FieldReading) → list_any is_date_part following ≡ true
     → (g : FieldReading) × (gs : List FieldReading) × (following ≡ g ∷ gs)
 one_follows [] any = absurd (cc)
@@ -27,7 +27,7 @@ joined_can : (following : List FieldReading) (date : List ℕ) (more : Bool) →
 joined_can following date true any can = one_follows following any
 joined_can following date false any can = (can, tt, tt)
 
--- a field follows a `type` that is removed
+-- a field `type` can be removed or replaced, since it is only removed if a field follows
 typed_can : (text : List ℕ) (f : FieldReading) (following : List FieldReading) (printed : List ℕ) (goes : Bool)
     → can_be_removed text f following ≡ goes → CanBePut (type_field printed)
     → CanChange following (cond goes FieldChange.removed (FieldChange.replaced (type_field printed) [] []))
@@ -45,7 +45,7 @@ field_can text f following (Some (Replacement.with_parts defines sides)) can = (
 field_can text f following (Some (Replacement.with_date date)) can =
     joined_can following date (list_any is_date_part following) refl can
 
--- a value of `type` that is still to be added can be put in
+-- a value of `type` that is still to be added can be inserted
 abbrev CanBePending : Option (List ℕ) → Type 0
 CanBePending pending = (value : List ℕ) → pending ≡ Some value → CanBePut (type_field value)
 

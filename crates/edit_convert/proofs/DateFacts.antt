@@ -1,4 +1,4 @@
--- The fields of a date's parts: each can be put in.
+-- The fields of a date's parts: each can be inserted.
 use Rattle.std.proofs.Common.{◌≡◌, ℕ, ◌+◌, ◌-◌, ◌<◌, Bool, true, false, cond, List, [], ◌∷◌, ◌++◌, length, take, drop, refl, sym, ap, ◌∙◌, subst, arith, length-append, Option, Some, None}
 use Rattle.std.specs.Prelude.{◌&&◌, ◌==◌, is_some, nat_lt}
 use Rattle.std.specs.Char.{is_ascii_digit}
@@ -51,7 +51,7 @@ bytes_parts whole at (b ∷ bs) rest here all =
     (parts.plain (ascii_stands whole (bs ++ rest) at b fits.0 here) fits.1
     (bytes_parts whole (at + 1) bs rest (sym (drop-drop 1 at whole) ∙ ap (drop 1) here) both.1))
 
--- in braces such a text reads as itself
+-- in braces, such a text parses to one literal with this text
 pub plain_read : (text : List ℕ) → list_all is_plain_ascii text ≡ true
     → CanBeRead (record { bytes = in_braces text; pieces = literal (text_at 1 text) ∷ [] })
 plain_read text all =
@@ -77,17 +77,17 @@ plain_read text all =
 date_plain : (c : ℕ) → is_date_byte c ≡ true → is_plain_ascii c ≡ true
 date_plain c digit = grind (arith, nat_tests)
 
--- in braces, digits and hyphens read as themselves
+-- in braces, digits and hyphens parse to one literal with this text
 pub date_bytes_read : (text : List ℕ) → list_all is_date_byte text ≡ true
     → CanBeRead (record { bytes = in_braces text; pieces = literal (text_at 1 text) ∷ [] })
 date_bytes_read text all = plain_read text (passed_weaker is_date_byte is_plain_ascii date_plain text all)
 
--- in braces, digits read as themselves
+-- in braces, digits parse to one literal with this text
 digits_read : (text : List ℕ) → list_all is_ascii_digit text ≡ true
     → CanBeRead (record { bytes = in_braces text; pieces = literal (text_at 1 text) ∷ [] })
 digits_read text all = date_bytes_read text (digit_bytes text all)
 
--- a plain name reads as an abbreviation
+-- a plain name parses to an abbreviation
 name_read : (name : List ℕ) → is_plain_name name ≡ true → CanBeRead (name_value name)
 name_read name is =
     let can = plain_can name is in
@@ -161,7 +161,7 @@ side_known (year ∷ month ∷ day ∷ []) side is =
     day_digits day digits text given = let same : day ≡ text = cc in subst (λ t. list_all is_ascii_digit t ≡ true) same digits
 side_known (year ∷ month ∷ day ∷ other ∷ rest) side is = absurd (cc)
 
--- the parts of both sides
+-- the years and the days of both sides are digits
 pub record AreKnown (sides : Sides) : Type 0 where
   from : IsKnown sides.from
   to : (side : Side) → sides.to ≡ Some side → IsKnown side

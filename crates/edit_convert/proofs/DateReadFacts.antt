@@ -1,4 +1,4 @@
--- Whether a text is a date, and which date three texts are, by the results of the calls that parse them.
+-- The tests whether a text is a date, and which date three texts are, by the results of the calls that parse them.
 use Rattle.std.proofs.Common.{◌≡◌, ℕ, true, false, List, inl, inr, sym, ap, ◌∙◌, Option, Some, None, Result, Ok, Err}
 use Rattle.std.specs.Prelude.{IfOk, is_some, option_map}
 use Rattle.std.specs.Str.{IsUtf8}
@@ -23,7 +23,7 @@ pub date_is : (chunks : Value) (t : List ℕ) (date : Date) → IsUtf8 t → chu
     → readable_value (date_reading chunks) ≡ Some date → true ≡ is_some (readable_value (date_of t))
 date_is chunks t date utf8 is read = sym (ap (λ r. is_some (readable_value r)) (sym (verbatim_reading chunks t utf8 is)) ∙ ap is_some read)
 
--- an error that isn't out of memory
+-- if reading a date is refused with an error other than out of memory, there is no date
 unread : (read : Option Date) (may : TypeErrorKind → Type 0) (e : TypeError) → IsRefusal read may e
     → (e.kind ≡ OutOfMemory → ⊥) → read ≡ None
 unread read may e (inl memory) other = absurd (other (ap (λ x. x.kind) memory))
@@ -39,7 +39,7 @@ no_date_is chunks t may e utf8 is refused other =
 
 -- ---- three fields
 
--- the text of one verbatim chunk
+-- the text of one verbatim chunk is its text
 pub chunk_text : {E : Type 0} (r : Result Value E) (t : List ℕ) → IsUtf8 t
     → IfOk r (λ chunks. chunks ≡ alone (Verbatim t)) → IfOk r (λ chunks. text chunks ≡ t)
 chunk_text (Err e) t utf8 is = _

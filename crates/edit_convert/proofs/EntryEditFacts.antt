@@ -1,4 +1,4 @@
--- The edits of an entry, by what the code found in it.
+-- The edits of an entry, by the changes that the code finds for it.
 use Rattle.std.proofs.Common.{◌≡◌, ℕ, Bool, List, ◌++◌, ap, ◌∙◌, append_assoc, Option, Result, Ok, Err}
 use Rattle.std.specs.Prelude.{OnOk}
 use Rattle.std.specs.Option.{option_map}
@@ -14,12 +14,12 @@ use Rattle.edit_convert.specs.Tables.{change_edits, conversion_edits, replacemen
 use Rattle.edit_convert.specs.Types.{PrintedType}
 use Rattle.edit_convert.specs.declared.changes.Changes.{Changes}
 
--- what replaces fields, by what is known of their entry
+-- the replacement of a field, by the changes of its entry
 abbrev replacement_from : Bool → Option (List ℕ) → List (List ℕ × List ℕ) → Option PrintedType → Bool → FieldReading → Option Replacement
 replacement_from defines date names type divides f =
     first_replacement defines (date_if_part date f) (other_name names f.name.text) (type_if_named type f) (date_if_divided divides f)
 
--- what the code found in an entry
+-- the changes that the code finds for an entry are those of the conversion
 pub record IsFound (dialect : Dialect) (defines : Bool) (text : List ℕ) (e : EntryReading) (kind : EntryType)
     (changes : Changes) : Type 0 where
   pub kind_is : kind ≡ entry_type_of e.kind.text
@@ -29,7 +29,7 @@ pub record IsFound (dialect : Dialect) (defines : Bool) (text : List ℕ) (e : E
   pub divides : changes.divides ≡ divides_date dialect e.fields
   pub joined : option_map string_bytes changes.joined ≡ joined_date dialect defines text e.fields
 
--- what replaces its fields
+-- the replacements by these changes are those of the entry's fields
 pub found_replacements : (dialect : Dialect) (defines : Bool) (text : List ℕ) (e : EntryReading) (kind : EntryType) (changes : Changes)
     → IsFound dialect defines text e kind changes → replacement_by changes ≡ field_replacement dialect defines text e
 found_replacements dialect defines text e kind changes found =

@@ -1,4 +1,4 @@
--- The loop over the fields of an entry, each with those after it.
+-- The loop over the fields of an entry, each with the fields after it.
 use Rattle.std.proofs.Common.{◌≡◌, ℕ, ◌+◌, ◌<◌, Bool, List, ◌∷◌, ◌++◌, length, map, drop, get_or, sym, ap, ◌∙◌, append_assoc, Option}
 use Rattle.std.specs.Prelude.{◌&&◌}
 use Rattle.std.proofs.lemmas.List.{drop_more}
@@ -9,7 +9,7 @@ use Rattle.edit_convert.specs.Conversions.{Replacement, field_changes, keep_comm
 use Rattle.edit_convert.specs.Tables.{pending_after, pending_change}
 use Rattle.edit_convert.proofs.PendingFacts.{first_change}
 
--- the edits of fields, by what replaces each and by the value of `type` that is still to be added
+-- the edits of fields, by the replacement of each and by the value of `type` that is still to be added
 abbrev edits_from : (FieldReading → Option Replacement) → Option (List ℕ) → List ℕ → List FieldReading → List Edit
 edits_from replacement pending text fields = edits_of_fields text fields (with_missing_type pending (field_changes text replacement fields))
 
@@ -17,7 +17,7 @@ module _ {A : Type 0} (view : A → FieldReading) (xs : List A) (i : ℕ) (x : A
   left : map view (drop i xs) ≡ view x ∷ map view (drop (i + 1) xs)
   left = ap (map view) (drop_more xs i x within ∙ ap (λ y. y ∷ drop (i + 1) xs) (sym is))
 
-  -- the edits of one more were added
+  -- after the edits of one more field are added, the edits so far and those of the fields after it are those of all fields
   pub edits_step : (replacement : FieldReading → Option Replacement) (pending waits : Option (List ℕ)) (text : List ℕ)
       (following : List A) (old new all : List Edit) → following ≡ drop (i + 1) xs
       → new ≡ old ++ edits_of_field text (view x) (map view following)
@@ -38,7 +38,7 @@ module _ {A : Type 0} (view : A → FieldReading) (xs : List A) (i : ℕ) (x : A
       (sym (first_change text (view x) pending rest (replacement (view x)) (field_changes text replacement rest)))
       ∙ ap (λ l. old ++ edits_from replacement pending text l) (sym left) ∙ so_far
 
-  -- joining keeps the comments from a field on exactly if it keeps those after this field and those from the next field on
+  -- joining keeps the comments from a field on exactly if it keeps the comment after this field and those from the next field on
   pub goes_step : (text : List ℕ) (following : List A) (can all : Bool) → following ≡ drop (i + 1) xs
       → can ≡ keeps_comments text (view x) (map view following) → all ≡ keep_comments text (map view (drop i xs))
       → all ≡ can && keep_comments text (map view (drop (i + 1) xs))

@@ -1,4 +1,4 @@
--- The parts of a date among an entry's fields, when they are joined.
+-- The parts of a date among an entry's fields, if they are joined.
 use Rattle.std.proofs.Common.{◌≡◌, ℕ, Bool, true, false, cond, List, Option, Some, None, refl}
 use Rattle.std.specs.Prelude.{◌&&◌, codes}
 use Rattle.std.specs.List.{find}
@@ -46,7 +46,7 @@ parts_known (Some year) (Some month) (Some f) date is = record {
   joined = day_known year month (single_text f.value.pieces) date is;
 }
 
--- what is known if parts are joined
+-- each part of a date occurs once among the fields, except that there may be no day, and the date is joined from them
 pub record IsJoinedDate (defines : Bool) (fields : List FieldReading) (date : List ℕ) : Type 0 where
   pub once : has_parts_once fields ≡ true
   pub parts : ArePartsOf (literal_of (find (has_name (codes "year")) fields))
@@ -71,7 +71,7 @@ joined_read Biblatex defines text fields date is =
     let clear : Bool = keep_comments text fields in
     read_case defines fields date (has_parts_once fields && clear) (λ both. (and_parts (has_parts_once fields) clear both).0) is
 
--- the field of their date can be put in
+-- the field of a joined date can be inserted
 pub joined_put : (dialect : Dialect) (defines : Bool) (text : List ℕ) (fields : List FieldReading) (date : List ℕ)
     → joined_date dialect defines text fields ≡ Some date → CanBePut (date_field date)
 joined_put dialect defines text fields date is =

@@ -1,4 +1,4 @@
--- The date that a year, a month and a day form is the date that their joined text is parsed as, if it can be parsed as a date.
+-- The date of a year, a month and a day is the date that their joined text is parsed as, if it can be parsed as a date.
 use Rattle.std.proofs.Common.{◌≡◌, inl, inr, ℕ, suc, ◌+◌, ◌-◌, ◌<◌, ◌≤◌, Bool, true, false, cond, ◌||◌, ◌==◌, List, [], ◌∷◌, ◌++◌, length, take, drop, refl, sym, ap, ◌∙◌, subst, arith, lit<, append-nil, Option, Some, None, pos}
 use Rattle.std.specs.Prelude.{◌&&◌, is_some, nat_lt, not}
 use Rattle.std.specs.List.{list_all, prefix_len}
@@ -34,7 +34,7 @@ use Rattle.bib_dates.proofs.PlainTexts.{capitals-plain, is_plain, plain, trim_en
 use Rattle.edit_convert.specs.Dates.{are_digits}
 use Rattle.edit_convert.specs.Joined.{is_day_alone, is_month_alone, joined_text, month_date_text}
 
--- ---- a reading of parts
+-- ---- a reading of two parts
 
 -- if parsing one part and then another has a value, the first part has a value, and parsing the second one then has that value
 both_read : {A B : Type 0} (first : Reading A) (then : A → Reading B) (c : B) → (first >>= then) ≡ says c
@@ -171,7 +171,7 @@ day_read (Some text) rest k is = plus_case (begins_with 43 (trim text)) (drop 1 
 
 -- ---- three fields
 
--- what three fields are read as
+-- a date is the one of a year below 10000, perhaps a month below 12 and perhaps a day below 31
 record IsThree (year month : List ℕ) (day : Option (List ℕ)) (d : Date) : Type 0 where
   number : ℕ
   month_at : Option ℕ
@@ -230,7 +230,7 @@ beyond low high n h = grind (arith, nat_tests)
 year_kept : (n : ℕ) → n < 10000 → IsYear (pos n)
 year_kept n small = omega (arith, ints)
 
--- it is no side of a date
+-- a side with a day that its month doesn't have has the error `DayOutOfRange`
 side_fails : (n m k : ℕ) → n < 10000 → m < 12 → k < 31 → days_in_month (pos n) (m + 1) ≤ k
     → side (datetime_text (datetime (pos n) (Some m) (Some k) None)) ≡ error DayOutOfRange
 unfolding side after_year after_month
@@ -280,7 +280,7 @@ marked_fails : (text : List ℕ) (kind : TypeErrorKind) → list_all is_date_byt
 unfolding marked_date
 marked_fails text kind bytes is = let bare = unmarked text bytes in rw (bare.0, bare.1, is) refl
 
--- and no date
+-- a date with a day that its month doesn't have has the error `DayOutOfRange`
 date_fails : (n m k : ℕ) → n < 10000 → m < 12 → k < 31 → days_in_month (pos n) (m + 1) ≤ k
     → date_of (datetime_text (datetime (pos n) (Some m) (Some k) None)) ≡ error DayOutOfRange
 date_fails n m k year month day past =
@@ -293,20 +293,20 @@ date_fails n m k year month day past =
 
 -- ---- the date of three fields
 
--- what is known of a text that replaces the parts of a date
+-- a text is that of the date that a year, a month and perhaps a day are parsed as
 pub record IsJoined (year month : List ℕ) (day : Option (List ℕ)) (text : List ℕ) : Type 0 where
   pub date : Datetime
   pub read : three_fields_of year (Some month) day ≡ says (record { value = At date; uncertain = false; approximate = false })
   pub kept : IsKeptDatetime date
   pub is : text ≡ datetime_text date
 
--- it can be put in
+-- a joined text consists of digits and hyphens
 pub joined_bytes : (year month : List ℕ) (day : Option (List ℕ)) (text : List ℕ) → IsJoined year month day text
     → list_all is_date_byte text ≡ true
 joined_bytes year month day text joined =
     subst (λ t. list_all is_date_byte t ≡ true) (sym joined.is) (is_side joined.date joined.kept).bytes
 
--- and is read as the three fields are
+-- a joined text is parsed as the date of the three fields
 pub joined_same : (year month : List ℕ) (day : Option (List ℕ)) (text : List ℕ) → IsJoined year month day text
     → date_of text ≡ three_fields_of year (Some month) day
 joined_same year month day text joined =
@@ -317,7 +317,7 @@ if_true : {A : Type 0} (b : Bool) (o : Option A) (a : A) → cond b o None ≡ S
 if_true true o a is = (refl, is)
 if_true false o a is = absurd (cc)
 
--- the day, if there is one, is one of its month
+-- if the text of a date with a month parses as a date, its day, if there is one, is a day of the month
 day_kept : (n m : ℕ) (day : Option ℕ) → n < 10000 → m < 12 → ((k : ℕ) → day ≡ Some k → k < 31)
     → is_some (readable_value (date_of (datetime_text (datetime (pos n) (Some m) day None)))) ≡ true
     → IsKeptDatetime (datetime (pos n) (Some m) day None)

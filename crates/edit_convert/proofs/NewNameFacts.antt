@@ -1,4 +1,4 @@
--- The names that a dialect has: each can be a name of a type, or of a field.
+-- The names of types and fields in a dialect: each can be a name of a type, or of a field.
 use Rattle.std.proofs.Common.{◌≡◌, ℕ, Bool, true, false, cond, List, [], ◌∷◌, refl, subst, Option, Some, None}
 use Rattle.std.specs.Prelude.{bytes_eq, filter, not, ◌||◌}
 use Rattle.std.specs.List.{AllByRecursion}
@@ -130,7 +130,7 @@ names_plain : (dialect : Dialect) (kind : EntryType) → AllByRecursion IsPlainR
 names_plain Biblatex kind = biblatex_plain
 names_plain Bibtex kind = bibtex_plain kind
 
--- rows with one more row before them, which is kept or isn't
+-- if the second names of rows are plain, they are with one more such row, which is kept or not
 kept_case : (b : Bool) (row : List ℕ × List ℕ) (rows : List (List ℕ × List ℕ)) → IsPlainRow row
     → AllByRecursion IsPlainRow rows → AllByRecursion IsPlainRow (cond b (row ∷ rows) rows)
 kept_case true row rows here all = (here, all)

@@ -4,7 +4,7 @@ use Rattle.std.proofs.lemmas.List.{drop_all, drop_more}
 use Rattle.edit_convert.specs.Notes.{indexed}
 
 module _ {A B C : Type 0} (view : A → B) (each : ℕ → B → List C) (xs : List A) (i : ℕ) where
-  -- the results for one more element were added
+  -- after the results for one more element are added, the results so far and those for the elements after it are those for all
   pub indexed_step : (x : A) (within : i < length xs) (is : x ≡ get_or xs i x) (old new all : List C)
       → new ≡ old ++ each i (view x) → old ++ indexed each i (map view (drop i xs)) ≡ all
       → new ++ indexed each (i + 1) (map view (drop (i + 1) xs)) ≡ all
@@ -16,6 +16,6 @@ module _ {A B C : Type 0} (view : A → B) (each : ℕ → B → List C) (xs : L
       ∙ ap (λ n. old ++ (each i (view x) ++ indexed each n rest)) next
       ∙ ap (λ l. old ++ indexed each i l) (sym left) ∙ so_far
 
-  -- for all of them
+  -- after the last element, the results so far are those for all elements
   pub indexed_end : (old all : List C) → length xs ≤ i → old ++ indexed each i (map view (drop i xs)) ≡ all → old ≡ all
   indexed_end old all past so_far = sym (append-nil old) ∙ ap (λ l. old ++ indexed each i (map view l)) (sym (drop_all i xs past)) ∙ so_far

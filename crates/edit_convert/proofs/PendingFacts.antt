@@ -16,7 +16,8 @@ removed_or_replaced : (removes : Bool) (by new : NewField) (changes : List Field
 removed_or_replaced true by new changes = refl
 removed_or_replaced false by new changes = refl
 
--- the changes of a field and of those after it
+-- the changes of fields with a value to be added are that of the first field with the value, and those of the others with the value if it
+-- is still to be added
 pub first_change : (text : List ℕ) (f : FieldReading) (pending : Option (List ℕ)) (following : List FieldReading)
     (o : Option Replacement) (changes : List FieldChange)
     → with_missing_type pending (field_change text f following o ∷ changes)
@@ -31,7 +32,7 @@ first_change text f (Some value) following (Some (Replacement.with_parts defines
 first_change text f (Some value) following (Some (Replacement.with_date date)) changes =
     removed_or_replaced (list_any is_date_part following) (date_field date) (type_field value) changes
 
--- a value is still to be added after a field that is replaced
+-- a value that is to be added is still to be added after a field that is replaced
 pub still_pending : (text : List ℕ) (f : FieldReading) (pending : Option (List ℕ)) (following : List FieldReading) (x : Option Replacement)
     → is_some x ≡ true
     → (field_change text f following x ≡ pending_change text f pending following x) × (pending ≡ pending_after pending x)
@@ -39,14 +40,14 @@ still_pending text f pending following None is = absurd (cc)
 still_pending text f None following (Some x) is = (refl, refl)
 still_pending text f (Some value) following (Some x) is = (refl, refl)
 
--- a value is added before a field that is kept
+-- a value that is to be added is added before a field that is kept
 pub added_before : (text : List ℕ) (f : FieldReading) (pending : Option (List ℕ)) (value : List ℕ) (following : List FieldReading)
     (x : Option Replacement) → pending ≡ Some value → is_some x ≡ false
     → (pending_change text f (Some value) following None ≡ pending_change text f pending following x) × (None ≡ pending_after pending x)
 added_before text f pending value following None same is = (ap (λ w. pending_change text f w following None) (sym same), refl)
 added_before text f pending value following (Some x) same is = absurd (cc)
 
--- if no value is missing, none is to be added
+-- if no value is to be added, none is after a field
 pub none_pending : (pending : Option (List ℕ)) (x : Option Replacement) → pending ≡ None → None ≡ pending_after pending x
 none_pending pending None is = refl
 none_pending pending (Some x) is = sym is

@@ -1,4 +1,4 @@
--- The note on a field, by whether it is replaced.
+-- The note on a field that is replaced, and on one that is kept.
 use Rattle.std.proofs.Common.{◌≡◌, ℕ, Bool, true, false, cond, List, refl, sym, ap, ◌∙◌, Option, Some, None}
 use Rattle.std.specs.Option.{option_and_then, option_map}
 use Rattle.std.specs.Prelude.{is_some}
@@ -10,13 +10,13 @@ use Rattle.edit_convert.specs.Notes.{change_note, replaced_note, has_unread_part
 use Rattle.edit_convert.specs.Types.{PrintedType}
 use Rattle.edit_convert.specs.declared.notes.NoteKind.TheVariants.{PartsNotRead}
 
--- a field that is replaced
+-- the note on a field that is replaced is that on its replacement
 pub note_of_replaced : (dialect : Dialect) (change : Option Replacement) (other : Option (List ℕ)) (f : FieldReading)
     → is_some change ≡ true → option_and_then replaced_note change ≡ change_note dialect change other f
 note_of_replaced dialect (Some change) other f is = refl
 note_of_replaced dialect None other f is = absurd (cc)
 
--- a field that is kept
+-- the note on a field that isn't replaced is that on a field that is kept
 pub note_of_kept : (dialect : Dialect) (change : Option Replacement) (other : Option (List ℕ)) (f : FieldReading)
     → is_some change ≡ false → kept_note dialect other f ≡ change_note dialect change other f
 note_of_kept dialect (Some change) other f is = absurd (cc)
@@ -24,7 +24,7 @@ note_of_kept dialect None other f is = refl
 
 -- ---- fields of a date's parts
 
--- if nothing else replaces a field, it is replaced if it has sides
+-- if no other replacement applies to a field, it is replaced exactly if it has sides
 pub parts_replace : (defines is : Bool) (date name : Option (List ℕ)) (type : Option PrintedType) (sides : Option Sides)
     → is_some (first_replacement defines date name type None) ≡ false → is ≡ is_some sides
     → is ≡ is_some (first_replacement defines date name type sides)
@@ -34,7 +34,7 @@ parts_replace defines is None None (Some type) sides none same = absurd (cc)
 parts_replace defines is None None None (Some s) none same = same
 parts_replace defines is None None None None none same = same
 
--- and its note is that on its sides
+-- if no other replacement applies to a field, its note is that on its sides
 pub note_of_parts : (defines : Bool) (date name : Option (List ℕ)) (type : Option PrintedType) (sides : Option Sides)
     → is_some (first_replacement defines date name type None) ≡ false
     → option_and_then (λ s. replaced_note (Replacement.with_parts defines s)) sides
@@ -45,7 +45,7 @@ note_of_parts defines None None (Some type) sides none = absurd (cc)
 note_of_parts defines None None None (Some s) none = refl
 note_of_parts defines None None None None none = refl
 
--- the note on sides, by whether they have parts that no style reads
+-- the note on sides says whether they have parts that no style reads
 pub note_of_sides : (defines b : Bool) (sides : Option Sides) (s : Sides) → sides ≡ Some s → has_unread_parts s ≡ b
     → cond b (Some PartsNotRead) None ≡ option_and_then (λ s. replaced_note (Replacement.with_parts defines s)) sides
 note_of_sides defines b sides s is unread =

@@ -1,4 +1,4 @@
--- Types of BibTeX and values of `type`: their names are names of types, and their fields can be put in.
+-- Types of BibTeX and values of `type`: their names are names of types, and their fields can be inserted.
 use Rattle.std.proofs.Common.{◌≡◌, ℕ, codes, Bool, true, false, cond, List, [], ◌∷◌, refl, subst, Option, Some, None}
 use Rattle.std.specs.Prelude.{bytes_eq, ◌==◌}
 use Rattle.std.specs.List.{AllByRecursion, find, list_all}
@@ -17,7 +17,7 @@ use Rattle.edit_convert.specs.Conversions.{is_field_there, literal_of, missing_t
 use Rattle.edit_convert.specs.Types.{PrintedType, reports_by_value, theses_by_value, type_by_value, type_field, type_value, types_by_value}
 use Rattle.edit_convert.proofs.DateFacts.{is_plain_ascii, plain_read}
 
--- a type's name is plain and not that of another kind of block, and its text can be put in
+-- the name of a type is plain and that of an entry block, and its text can be inserted as a field `type`
 pub record IsPrinted (type : PrintedType) : Type 0 where
   pub plain : is_plain_name type.name ≡ true
   pub entry : block_kind type.name ≡ BlockKind.entry
@@ -69,13 +69,13 @@ read_printed kind fields type is = by_case (times_named fields (codes "type") ==
     by_case true same = value_printed kind (literal_of (find (has_name (codes "type")) fields)) type same
     by_case false same = absurd (cc)
 
--- the type of BibTeX that an entry's type and its field `type` mean can replace the entry's type
+-- the type of BibTeX that an entry's type and its field `type` mean has such a name and text
 pub type_printed : (dialect : Dialect) (kind : EntryType) (fields : List FieldReading) (type : PrintedType)
     → printed_type dialect kind fields ≡ Some type → IsPrinted type
 type_printed Biblatex kind fields type is = absurd (cc)
 type_printed Bibtex kind fields type is = read_printed kind fields type is
 
--- the text that styles print for it can be put in
+-- the text that styles print for a type can be inserted as a field `type`
 pub typed_put : (dialect : Dialect) (kind : EntryType) (fields : List FieldReading) (f : FieldReading) (type : PrintedType)
     → type_if_named (printed_type dialect kind fields) f ≡ Some type → CanBePut (type_field type.text)
 typed_put dialect kind fields f type is = by_case (has_name (codes "type") f) is
@@ -84,7 +84,7 @@ typed_put dialect kind fields f type is = by_case (has_name (codes "type") f) is
     by_case true same = (type_printed dialect kind fields type same).put
     by_case false same = absurd (cc)
 
--- ---- values of `type` that are put in
+-- ---- values of `type` that are inserted
 
 kind_put : (kind : EntryType) (value : List ℕ) → type_value kind ≡ Some value → CanBePut (type_field value)
 kind_put MastersThesis value is =

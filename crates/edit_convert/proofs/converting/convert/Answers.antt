@@ -25,7 +25,7 @@ edits-requires c =
     (sym c.text-text.ensures)
     (subst (λ es. AllByRecursion (λ e. AllByRecursion (IsPlaced d.text) e.fields) es) (sym entries) (all_placed d c.raw-raw.ensures.read))
 
--- the edits are those of the document
+-- the edits are those of the document's entries
 made : (c : After-deref-3) → map edit_of c.deref-3.result.now
     ≡ edits_of_entries (document_conversion c.args.dialect c.args.document.now) c.args.document.now.text c.args.document.now.says.entries
 made c =

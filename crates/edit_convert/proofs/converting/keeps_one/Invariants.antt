@@ -4,7 +4,7 @@ use Rattle.edit_convert.specs.Conversions.{keeps_one}
 use Rattle.edit_convert.specs.Tables.{replacement_by}
 use Rattle.edit_convert.proofs.converting.keeps_one.Given as goal
 
--- one of the fields from this one on stays, or none, as of all fields
+-- a field is kept exactly if one of those still to visit is
 abbrev pub invariant-fields : goal.invariant-fields
 invariant-fields l =
     keeps_one (replacement_by l.changes) (map field_of (drop l.field-index l.fields))
