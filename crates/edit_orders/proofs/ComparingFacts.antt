@@ -25,13 +25,13 @@ values_step order vs ws i by within =
     ∙ ap₂ (λ a b. ordering_then (last_cmp (get_or order i by).direction (head_value (drop i vs)) (head_value (drop i ws)))
     (values_cmp (drop (i + 1) order) a b)) (rest_drop vs i) (rest_drop ws i)
 
--- a difference decides
+-- an order that isn't `Equal` decides
 pub then_ne : (o rest : Ordering) → is_ne o ≡ true → ordering_then o rest ≡ o
 then_ne Less rest is = refl
 then_ne Equal rest is = absurd (true≢false (sym is))
 then_ne Greater rest is = refl
 
--- without a difference, the rest decides
+-- if the first order is `Equal`, the rest decides
 pub then_eq : (o rest : Ordering) → is_ne o ≡ false → ordering_then o rest ≡ rest
 then_eq Less rest is = absurd (true≢false is)
 then_eq Equal rest is = refl

@@ -23,13 +23,13 @@ kept_push before (d ∷ cs) c =
     ap (λ l. cond (is_in_name before d) [] (d ∷ []) ++ l) (kept_push (is_in_name before d) cs c)
     ∙ sym (append_assoc (cond (is_in_name before d) [] (d ∷ [])) (outside_names (is_in_name before d) cs) _)
 
--- the kept characters with one more, which belongs to the name of a command
+-- a character that belongs to the name of a command adds nothing to the characters outside of names
 pub kept_skip : (cs : List ℕ) (c : ℕ) → is_in_name (ends_in_name false cs) c ≡ true
     → outside_names false (cs ++ c ∷ []) ≡ outside_names false cs
 kept_skip cs c is =
     kept_push false cs c ∙ ap (λ b. outside_names false cs ++ cond b [] (c ∷ [])) is ∙ append-nil (outside_names false cs)
 
--- the kept characters with one more, which is kept
+-- a character that doesn't belong to the name of a command is added to the characters outside of names
 pub kept_take : (cs : List ℕ) (c : ℕ) → is_in_name (ends_in_name false cs) c ≡ false
     → outside_names false (cs ++ c ∷ []) ≡ outside_names false cs ++ c ∷ []
 kept_take cs c is = kept_push false cs c ∙ ap (λ b. outside_names false cs ++ cond b [] (c ∷ [])) is

@@ -46,7 +46,7 @@ module _ (order : List SortBy) where
       itself Equal same = refl
       itself Greater same = refl
 
-  -- an entry that is less than another has a smaller place
+  -- if an entry among the sorted ones is less than another entry, its place is smaller
   place_rises : (sorted : List Values) (t u : Values) (m n : ℕ) → Contains sorted t → cmp t u ≡ Less
       → IsPlaceIn order sorted t m → IsPlaceIn order sorted u n → m < n
   place_rises sorted t u m n there less p q =

@@ -8,7 +8,7 @@ use Rattle.edit_orders.specs.declared.order.SortBy.{SortBy}
 use Rattle.edit_orders.proofs.FieldFacts.{AllZip-more}
 use Rattle.edit_orders.proofs.places.entry_values.Goals as goal
 
--- the property that is read after the last one, which doesn't occur
+-- any property, used as the default of `get_or`
 abbrev any : SortBy
 any = record { property = Key; direction = Ascending }
 
