@@ -39,23 +39,23 @@ record IsReadLetter (name : List ℕ) (c : ℕ) : Type 0 where
   longer : (length (92 ∷ name) == 1) ≡ false
   low : c < 0x200
 
--- each name in a list that is the name of a letter is read as this letter
+-- each name in the list that names a letter parses to this letter
 abbrev AllLetters : List (List ℕ) → Type 0
 AllLetters [] = Unit {0}
 AllLetters (name ∷ names) = IfSome (named_letter name) (IsReadLetter name) × AllLetters names
 
--- each command for a letter that is written is read as this letter
+-- each command for a letter in the output parses to this letter
 letters_read : AllLetters common_names
 unfolding accents symbols command_text
 letters_read = grind (arith)
 
--- a command is a backslash and a name that is read as this letter
+-- a command is a backslash and a name that parses to this letter
 record IsLetterCommand (c : ℕ) (command : List ℕ) : Type 0 where
   name : List ℕ
   spelled : command ≡ 92 ∷ name
   is_read : IsReadLetter name c
 
--- the command for a letter is a backslash and a name that is read as this letter
+-- the command for a letter is a backslash and a name that parses to this letter
 letter_among : (names : List (List ℕ)) → AllLetters names → (c : ℕ) (command : List ℕ) → command_named (name_among names c) ≡ Some command
     → IsLetterCommand c command
 letter_among [] all c command is = cc

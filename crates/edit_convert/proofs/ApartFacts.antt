@@ -23,8 +23,7 @@ word_case : (fields : List FieldReading) (w : Bool) (other name : List ℕ) (res
 word_case fields true other name rest free later is = let same : other ≡ name = cc in subst (λ n. is_field_there fields n ≡ false) same free
 word_case fields false other name rest free later is = later is
 
--- if no row gives a name that the entry has, one more row before them, which is only kept if the entry doesn't have its name, gives none
--- either
+-- if no row gives a name that the entry has, none does after one more row. This row is only kept if the entry doesn't have its name.
 row_case : (fields : List FieldReading) (b : Bool) (row : List ℕ × List ℕ) (rows : List (List ℕ × List ℕ))
     (text name : List ℕ) → is_field_there fields row.1 ≡ b
     → (other_name rows text ≡ Some name → is_field_there fields name ≡ false)

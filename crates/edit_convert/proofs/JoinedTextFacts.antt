@@ -1,4 +1,4 @@
--- The date of a year, a month and a day is the date that their joined text is parsed as, if it can be parsed as a date.
+-- The joined text of a year, a month and a day is parsed as their date, if it can be parsed as a date.
 use Rattle.std.proofs.Common.{◌≡◌, inl, inr, ℕ, suc, ◌+◌, ◌-◌, ◌<◌, ◌≤◌, Bool, true, false, cond, ◌||◌, ◌==◌, List, [], ◌∷◌, ◌++◌, length, take, drop, refl, sym, ap, ◌∙◌, subst, arith, lit<, append-nil, Option, Some, None, pos}
 use Rattle.std.specs.Prelude.{◌&&◌, is_some, nat_lt, not}
 use Rattle.std.specs.List.{list_all, prefix_len}

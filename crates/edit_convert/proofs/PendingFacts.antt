@@ -16,8 +16,7 @@ removed_or_replaced : (removes : Bool) (by new : NewField) (changes : List Field
 removed_or_replaced true by new changes = refl
 removed_or_replaced false by new changes = refl
 
--- the changes of fields with a value to be added are that of the first field with the value, and those of the others with the value if it
--- is still to be added
+-- with a value that is to be added, the first change is that of the first field. The value may still be to be added to the others.
 pub first_change : (text : List ℕ) (f : FieldReading) (pending : Option (List ℕ)) (following : List FieldReading)
     (o : Option Replacement) (changes : List FieldChange)
     → with_missing_type pending (field_change text f following o ∷ changes)

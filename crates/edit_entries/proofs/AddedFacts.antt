@@ -34,7 +34,7 @@ after_comma_is text e at {u} {v} b same is =
     longest_same is.white (subst (λ p. Longest is_whitespace p b.before_comma) (sym here) b.white) in
     (same_char b.comma (subst (λ p. CharAt p 44 (place text at)) before is.comma)).1
 
--- the new text parses to the document with one new field before the fields of an entry, which is the new field except for byte offsets
+-- the new text parses to the document with a field before the fields of an entry. It is the new field except for byte offsets.
 pub record FirstAdded (d : Document) (k : ℕ) (e : EntryReading) (edit : Edit) (n : NewField) : Type 0 where
   pub reading : FieldReading
   pub alike : moved_field (λ n. 0) reading ≡ moved_field (λ n. 0) (field_reading n)

@@ -197,7 +197,7 @@ moved_agrees d edit k e entry read some here agrees =
           ∙ ap Some (field_stays d k e j f (moved_place edit) edit.start read here there below stays);
     }
 
--- if documents agree up to an edit and an entry is replaced by one that agrees, each entry still agrees with the one at its index
+-- if documents agree up to an edit and an entry is replaced by one that agrees, each entry agrees with that at its index
 other_entries : (d after : Document) (edit : Edit) (k : ℕ) (e entry : EntryReading) → IsDocument d
     → Agrees edit.start d after → edit.start < edit.end → slice_get d.says.entries k ≡ Some e
     → AgreesIn edit.start e entry

@@ -22,7 +22,7 @@ at_or_before (suc n) (suc i) within = by_rest (at_or_before n i (omega (arith, w
     by_rest (inl same) = inl (omega (arith, same))
     by_rest (inr less) = inr (omega (arith, less))
 
--- if no prefix up to length `i` nor the one of length `i + 1` has more closing braces, none up to `i + 1` has
+-- if no prefix up to length `i` and not the one of length `i + 1` has more closing braces, none of these has
 one_more : (text : List ℕ) (i : ℕ) → ((n : ℕ) → n ≤ i → byte_count 125 (take n text) ≤ byte_count 123 (take n text))
     → byte_count 125 (take (i + 1) text) ≤ byte_count 123 (take (i + 1) text) → (n : ℕ) → n ≤ i + 1
     → byte_count 125 (take n text) ≤ byte_count 123 (take n text)

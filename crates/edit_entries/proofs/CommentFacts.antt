@@ -70,7 +70,7 @@ commented {a} text at end (gap.line_comment {w = w} white m white') char plain b
 
 -- ---- the gap after a field
 
--- a gap is white space if the first byte after its ASCII white space isn't a percent sign
+-- a gap is white space if it ends where its ASCII white space ends, and no percent sign follows
 plain_gap : {a b : Place} {c : ℕ} (text : List ℕ) (at end : ℕ) → Gap longest (place text at) a → CharAt a c b → (c == 37) ≡ false
     → a.at ≡ after_bytes is_ascii_whitespace text at end → Longest is_whitespace (place text at) a
 plain_gap text at end (gap.white white ends) char plain is = white

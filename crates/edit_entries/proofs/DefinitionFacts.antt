@@ -185,7 +185,7 @@ pub agree_if_both : (definitions others : List FieldReading) (answer : Bool) →
 agree_if_both definitions others true one other = agree_all definitions others one other
 agree_if_both definitions others false one none = λ agree. none (others_agree definitions others agree)
 
--- if `g` is the last of `others` with the name of `f`, a test whether both have the same value decides whether `f` agrees with it
+-- if `g` is the last of `others` with the name of `f`, a test whether their values are the same decides whether `f` agrees
 pub agree_at : (others : List FieldReading) (f g : FieldReading) (k : ℕ) (answer : Bool)
     → last_position (has_name f.name.text) others ≡ Some k → slice_get others k ≡ Some g
     → MatchBool answer (HaveSameValue f g) (HaveSameValue f g → ⊥)

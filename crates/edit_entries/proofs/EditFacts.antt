@@ -10,7 +10,7 @@ use Rattle.edit_entries.specs.Edits.{Edit, edited, moved_place}
 use Rattle.bib_text.proofs.BoundaryFacts.{Border, not_over}
 use Rattle.edit_entries.proofs.ZoneFacts.{Frame, Zone}
 
--- the stretch of an edit is in the text, and in the new text a character or the end of the text is at its start
+-- the stretch of an edit is in the text. In the new text, a character or the end of the text is at its start.
 pub record Fits (edit : Edit) (text : List ℕ) : Type 0 where
   pub ordered : edit.start ≤ edit.end
   pub within : edit.end ≤ length text

@@ -166,7 +166,7 @@ line_before {u} {v} {w} {x} {c} m ahead char other =
           absurd (test_clash (not (c == 10)) (not_from_false (c == 10) other) (m.line.stops c x (subst (λ p. CharAt p c x) same char)))
     ]
 
--- a gap of the first text is a gap at the moved places of the second text, if neither white space nor a percent sign comes after it there
+-- a gap in the zone is a gap in the second text, if neither white space nor a percent sign comes after it there
 pub gap_until : {f : Frame} {u v x : Place} {c : ℕ} → Zone f → Inside f u → Inside f v → CharAt v c x
     → (c == 10) ≡ false → Stops is_whitespace (there f v) → Stops (λ d. d == 37) (there f v) → Gap longest u v
     → Gap longest (there f u) (there f v)
@@ -211,7 +211,7 @@ fields_there {f} z iu iv below (fields.more field g comma h rest) =
     (gap_there z a b (below_char c comma) g)
     (char_there z b c comma) (gap_there z c d (below_between f (ahead_fields rest) below) h) (fields_there z d iv below rest)
 
--- a head of the first text is a head at the moved places of the second text, if no white space comes after it there
+-- a head in the zone is a head in the second text, if no white space comes after it there
 pub head_until : {f : Frame} {u v : Place} {kind : Part} → Zone f → Inside f u → Inside f v
     → Stops is_whitespace (there f v) → Head longest u kind v
     → Head longest (there f u) (moved_part f.move kind) (there f v)

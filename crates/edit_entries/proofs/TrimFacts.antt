@@ -26,7 +26,7 @@ run_spelt (c ∷ cs) text rest a all here =
     step (char_here text (encode_utf8_all cs ++ rest) a c first) (not-false (is_whitespace c) all.0)
     (subst (λ n. Run is_whitespace (place text (a + len_utf8 c)) (place text n)) end others)
 
--- if no character after the first `n` bytes of a part is other than white space, white space goes on to the end of the part
+-- if all characters after the first `n` bytes of a part are white space, a run of white space goes from there to its end
 pub white_rest : (text part : List ℕ) (start end n : ℕ) → part ≡ take (end - start) (drop start text) → start ≤ end
     → end ≤ length text → n ≤ length part → NoCharPasses is_not_whitespace (drop n part)
     → Run is_whitespace (place text (start + n)) (place text end)

@@ -160,8 +160,8 @@ fields_before_until {f} z iu iv char other white stops (FieldsBefore.more field 
     (char_there z b c comma) (gap_before z c d iv char other white stops gap' others)
     (fields_before_until z d iv char other white stops others)
 
--- an edit from the start of a field on gives an entry with other fields, if a character that is neither white space nor `%` is there and
--- the fields parse
+-- an edit from the start of a field on gives an entry with other fields, if these parse. A character that is neither white space nor `%`
+-- must be at the start of the edit.
 pub from_field_read : (d : Document) (edit : Edit) (k : ℕ) (e : EntryReading) (j : ℕ) (f : FieldReading) (news : List FieldReading)
     {c : ℕ} {next : Place} → (s : EntrySplit (place d.text 0) d.says e k)
     → (g : FieldSplit s.block.fields_start e.fields f j s.block.brace) → edit.start ≡ g.start.at → edit.start < edit.end

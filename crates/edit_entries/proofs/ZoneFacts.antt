@@ -166,8 +166,7 @@ part_there {f} {u} {v} z iu iv ahead =
     let build : List ℕ → Part = λ (t : List ℕ). record { text = t; start = f.move u.at; end = f.move v.at } in
     ap build (between_there z iu iv ahead)
 
--- if both texts have the same number of bytes from the start of the zone on, a place at the end of the first is moved to the end of the
--- second
+-- if both texts have the same length from the start of the zone on, the end of the first is moved to that of the second
 pub end_there : {f : Frame} {u : Place} → Inside f u → length f.old + f.to ≡ length f.new + f.from → AtEnd u → AtEnd (there f u)
 end_there {f} {u} iu same end =
     let size : length u.text ≡ length f.old = ap length iu.text in

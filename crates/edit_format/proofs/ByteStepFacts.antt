@@ -6,7 +6,7 @@ use Rattle.std.proofs.lemmas.List.{drop_more}
 use Rattle.edit_format.specs.Delimited.{close_braces, hide_quotes}
 use Rattle.edit_format.proofs.DelimiterFacts.{other_byte, other_sign}
 
--- if a test of a byte and the bytes after it is another test of the latter, this holds of the bytes still to visit
+-- a test of the bytes still to visit is the other test of the bytes after the next one, if this holds for any bytes
 pub next_is : (test test' : List ℕ → Bool) (xs : List ℕ) (i : ℕ) {is : Bool} → i < length xs
     → ((bs : List ℕ) → test (slice_index_or xs i 0 ∷ bs) ≡ test' bs) → test (drop i xs) ≡ is
     → test' (drop (i + 1) xs) ≡ is

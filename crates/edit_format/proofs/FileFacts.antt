@@ -62,7 +62,7 @@ AreGapsInStyle line_end style blank_lines new old m n (e' ∷ es') (e ∷ es) =
     (between (place new m) (place new e'.start) ≡ gap_in_style line_end blank_lines (between (place old n) (place old e.start)))
     × AreGapsInStyle line_end style style.blank_lines new old (e'.end + 1) (e.end + 1) es' es
 
--- the output for the rest of a file, from `a` on, parses from a place of another text on, and formatting it again doesn't change it
+-- the output for the rest of a file from `a` on parses from a place of another text on. Formatting it again doesn't change it.
 pub record FileRead (line_end : List ℕ) (style : Style) (blank_lines : Option ℕ) (a : Place) (says : FileReading) (u : Place) : Type 0 where
   pub reading : FileReading
   pub file : File longest u reading

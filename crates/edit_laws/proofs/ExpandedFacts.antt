@@ -59,13 +59,13 @@ module _ (abbreviations : List FieldReading) where
 
   -- ---- the names and texts in an expansion
 
-  -- a longer list of pieces reaches what a shorter one reaches
+  -- a list of pieces reaches each name that the list without its first piece reaches
   reaches_more : {piece : Piece} {rest : List Piece} {name : List ℕ} → Reaches defined rest name → Reaches defined (piece ∷ rest) name
   reaches_more {piece = literal p} (reaches.held held) = reaches.held held
   reaches_more {piece = abbreviation p} (reaches.held held) = reaches.held (inr held)
   reaches_more (reaches.through before d held) = reaches.through (reaches_more before) d held
 
-  -- pieces reach what the definition of a name that they reach reaches
+  -- pieces reach each name that the definition of a name that they reach reaches
   reaches_inside : {ps definition : List Piece} {name next : List ℕ} → Reaches defined ps name → defined name ≡ Some definition
       → Reaches defined definition next → Reaches defined ps next
   reaches_inside there d (reaches.held held) = reaches.through there d held

@@ -26,7 +26,7 @@ pub record IsText (pieces : List Piece) (text : List ℕ) : Type 0 where
   pub are : pieces ≡ literal part ∷ []
   pub is : part.text ≡ text
 
--- the last field with each other name is the same in both lists, and the last one with this name in the second has this text
+-- the last field with each other name is the same in both lists. The last one with this name in the second list has this text.
 pub record IsFieldSet (fields changed : List FieldReading) (name text : List ℕ) : Type 0 where
   pub others : (other : List ℕ) → bytes_eq other name ≡ false → field_in changed other ≡ field_in fields other
   pub field : FieldReading

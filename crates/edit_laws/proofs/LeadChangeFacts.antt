@@ -71,7 +71,7 @@ references_all P names (f ∷ fs) each =
     one None = tt
     one (Some new) = (each zero f new refl, tt)
 
--- the changes that give new keys have a property if each change of a key to its new key, and of the value of a field, has it
+-- the changes that give new keys have a property if each change of a key to its new key and each change of a value has it
 renaming_all : (P : Change → Type 0) (names : List ℕ → List ℕ → Option (List ℕ)) (keys : ℕ → Option (List ℕ)) (index : ℕ)
     (es : List EntryReading)
     → ((k at : ℕ) (e : EntryReading) (new : List ℕ) → at ≡ index + k → slice_get es k ≡ Some e → keys at ≡ Some new
@@ -305,7 +305,7 @@ fields_moved edit changes others less at fs hs first ordered last same all =
     (zip_weaker (IsFieldChanged changes at) (λ f h. IsFieldChanged others less f (moved_field (moved_place edit) h)) fs hs
     (λ j f h here there c. field_moved edit changes others less at f h first ordered last (same j f here) c) all)
 
--- an entry remains changed after an edit between `less` and `at`, if the new list of changes has the same new key and values for it
+-- an entry remains changed after an edit between `less` and `at`, if the other list of changes gives it the same new texts
 entry_moved : (edit : Edit) (changes others : List Change) (less at : ℕ) (e g : EntryReading) → less ≤ edit.start → edit.start ≤ edit.end
     → edit.start ≤ at → new_text (is_key_at e.key.start) others ≡ new_text (is_key_at e.key.start) changes
     → ((j : ℕ) (f : FieldReading) → slice_get e.fields j ≡ Some f

@@ -243,7 +243,7 @@ module _ (es gs : List EntryReading) (keys : ℕ → Option (List ℕ)) (can : C
 can_of : {d after : Document} {keys : ℕ → Option (List ℕ)} → KeysRenamed d keys after → CanGetKeys d.says.entries keys
 can_of (KeysRenamed.renamed can changed) = can
 
--- after entries get new keys, each reference leads to the entry that it led to, if earlier entries with the same key get new keys too
+-- each reference leads to the entry that it led to, if an entry gets a new key only with all earlier entries with its key
 pub references_lead : (d after : Document) (keys : ℕ → Option (List ℕ)) → IsDocument d → KeysRenamed d keys after
     → AreEarlierRenamed d.says.entries keys → HaveSameReferences d after
 references_lead d after keys read changed earlier =
@@ -269,7 +269,7 @@ references_lead d after keys read changed earlier =
           n.value));
     }) fields) r.fields
 
--- if only the first entry with a key gets a new one, each earlier entry with its key gets a new one, since there is none
+-- no entry is before the first one with a key, so `AreEarlierRenamed` is true if only this one gets a new key
 only_first : (d : Document) (old new : List ℕ) (k : ℕ) (e : EntryReading) → HasEntry d old k e
     → AreEarlierRenamed d.says.entries (only k new)
 only_first d old new k e has i j x other below here there same gets = by_index (j == k) refl gets

@@ -43,7 +43,7 @@ use Rattle.edit_laws.proofs.LiftFacts.{as_long, field_at, same_key}
 use Rattle.edit_laws.proofs.TextFacts.{HasText, own_at}
 use Rattle.edit_laws.specs.OneField.{AreSet, HasFieldContents, lost_names, text_of_value}
 
--- an entry with a key is replaced, its field of the name is set to a text, and it can be parsed if the text can
+-- an entry with a key is replaced, and its field with the name has a text. It can be parsed if the text can be.
 pub record IsSetRead (d after : Document) (key name text : List ℕ) : Type 0 where
   pub k : ℕ
   pub e : EntryReading

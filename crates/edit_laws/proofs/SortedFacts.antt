@@ -308,7 +308,7 @@ module _ {says tells : FileReading} {one other : Bibliography} (first : IsLoaded
 
 -- ---- two readings of one file
 
--- if no two own entries claim one name, this also holds of any other own entries of the same file
+-- if no two own entries claim one name, no two of any other own entries of the same file do
 pub distinct_same : (says : FileReading) {own one : List Entry} → AreOwn says own → AreOwn says one → AreClaimsDistinct own
     → AreClaimsDistinct one
 distinct_same says {own} {one} first second distinct name i j at also =

@@ -90,7 +90,7 @@ module _ (entries : List EntryReading) (order : List ℕ) (sorted : IsTopologica
       ++ new_fields (map (λ f. read_name f.name.text) e.fields) l)
       (offered_alike entries e fields (fields_along entries most) (parents entries e) same)
 
-  -- if the next entry of the order gets its fields and the others keep theirs, the entries at the first `k + 1` indices have their fields
+  -- if the next entry of the order gets its fields and the others keep theirs, the first `k + 1` entries have their fields
   pub along_more : (k index : ℕ) (fields others : ℕ → List Named) → k < length order → index ≡ get_or order k index
       → index < length entries → IsAlongTo entries order k fields
       → others index ≡ with_inherited entries fields (parents entries (entry_at entries index)) index

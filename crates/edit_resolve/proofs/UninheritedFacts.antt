@@ -24,7 +24,7 @@ pub lacks : (linking offered has found : Bool) → linking ≡ false → offered
 lacks linking offered has found no_link no_offer same =
     ap not same ∙ sym (ap (λ b. not b && not offered && not has) no_link ∙ ap (λ b. not b && not has) no_offer)
 
--- after the name of one more field is added if it is lacking, the names are those of the lacking fields up to the next index
+-- after the name of one more field is added if it is lacking, the names are those of the lacking fields so far
 pub names_more : (lacks : Named → Bool) (xs : List NamedField) (i : ℕ) (x : NamedField) → i < length xs → x ≡ get_or xs i x
     → (old new : List (List ℕ)) → old ≡ map (λ n. n.name) (filter lacks (map named_of (take i xs)))
     → new ≡ old ++ map (λ n. n.name) (filter lacks (named_of x ∷ []))

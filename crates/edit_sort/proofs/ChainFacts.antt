@@ -1,5 +1,5 @@
--- Chains of references. If an entry is neither on a cycle of references nor after one, the chains to it have at most as many references as
--- there are entries.
+-- Chains of references. The chains to an entry have at most as many references as there are entries, if it is neither on a cycle nor after
+-- one.
 use Rattle.std.proofs.Common.{◌≡◌, inl, inr, ℕ, zero, suc, ◌+◌, ◌<◌, ◌≤◌, true, false, eqb, List, [], ◌∷◌, Some, length, slice_get, sym, ap, ◌∙◌, subst, arith}
 use Rattle.std.specs.Prelude.{◌&&◌}
 use Rattle.std.specs.List.{AllByRecursion, Contains, IsDistinct}

@@ -113,7 +113,7 @@ back_read text whole at {says} within here x =
     subst (λ n. File longest (place whole n) (moved_file (λ n. n + at) says)) from
     (file_there (zone_back text whole at within here) refl (omega (arith, ap length here, length-drop at whole, within)) start x)
 
--- ---- where definitions begin
+-- ---- the byte offsets at which definitions begin
 
 -- the definitions begin before a byte offset
 abbrev pub AreBefore : ℕ → List FieldReading → Type 0

@@ -7,7 +7,7 @@ use Rattle.bib_text.proofs.PlaceFacts.{ahead_run, runs_same, same_place, stops_a
 use Rattle.edit_entries.specs.NewNames.{CanBeNewKey, is_new_key}
 use Rattle.edit_entries.proofs.keys.can_be_new_key.Goals as goal
 
--- a text that isn't empty or `*` and has no `--` can be a new key exactly if the longest run of a new key's characters goes on to its end
+-- a text other than `*` that isn't empty and has no `--` can be a new key exactly if all its characters can be in one
 whole : (text : List ℕ) (answer : Bool) {u v : Place} → u ≡ place text 0 → 0 < length text → bytes_eq text (codes "*") ≡ false
     → (HasSubslice text (codes "--") → ⊥) → Longest is_new_key u v → IsTrue answer ↔ AtEnd v
     → MatchBool answer (CanBeNewKey text) (CanBeNewKey text → ⊥)

@@ -18,7 +18,7 @@ no_name text {u} start none can =
 pub returns-then-not-begins_name : goal.returns-then-not-begins_name
 returns-then-not-begins_name c = no_name c.args.text.now c.new-s.ensures c.if-not-begins_name.ensures
 
--- a text whose first character can begin a name is a name exactly if the longest run of a name's characters goes on to its end
+-- a text whose first character can begin a name is a name exactly if the longest run of name characters is the whole text
 whole : (text : List ℕ) (answer : Bool) {u v : Place} → u ≡ place text 0
     → ((c : ℕ) × (w : Place) × CharAt u c w × (is_id_start c ≡ true)) → Longest is_id_continue u v
     → IsTrue answer ↔ AtEnd v

@@ -7,7 +7,7 @@ use Rattle.edit_format.specs.Ordered.{in_order}
 use Rattle.edit_format.specs.Unlisted.{name_texts, unlisted}
 use Rattle.edit_format.proofs.order.push_fields.Given as goal
 
--- the text so far and that of the fields without the names so far, in the order of the other names, make the text of all fields
+-- the text so far, and that of the fields without the names so far in the order of the other names, are the whole text
 abbrev pub invariant-names : goal.invariant-names
 invariant-names l =
     string_bytes l.new
