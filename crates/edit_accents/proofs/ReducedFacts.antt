@@ -105,7 +105,7 @@ argument_over q d e (Opening ∷ Plain c ∷ ss) found is =
     (some_if (takes_accent c && first_sign_passes is_closing ss) c e found) in
     closing_over q d ss parts.1 (after_plain q (depth_opened q d) c ss (other_than takes_accent c parts.0 refl) is)
 
--- ---- what commands become
+-- ---- the characters that commands become
 
 -- a character that a command became is beyond ASCII
 only_beyond : (o : Option ℕ) (e : ℕ) → only_beyond_ascii o ≡ Some e → is_beyond_ascii e ≡ true

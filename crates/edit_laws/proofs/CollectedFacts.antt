@@ -210,7 +210,7 @@ module _ (says : FileReading) where
         ∙ ap (λ o. option_or o (definition_in one name)) (or_none (definition_in other name))
         ∙ sym (found_old name)
 
-    -- a name that the file doesn't use has no definition in the second part of its definitions
+    -- a name that the file neither defines nor uses has no definition in the second part of its definitions
     no_other : (name : List ℕ) → is_one_in_any_case (names_of_file says) name ≡ false → definition_in other name ≡ None
     no_other name fresh =
         first_none (definition_in other name) (definition_in one name)

@@ -62,7 +62,7 @@ elements_joined f list all = by_elements (elements_of list) (split_some list) al
     by_elements [] some every = absurd (some refl)
     by_elements (x ∷ xs) some every = split_joined f x xs every
 
--- ---- what elements consist of
+-- ---- the characters of elements
 
 -- a text is the bytes of some characters
 pub record IsSpelled (bytes : List ℕ) : Type 0 where

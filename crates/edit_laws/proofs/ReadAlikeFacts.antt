@@ -154,7 +154,7 @@ pub record AreAlikeOwn (one other : Entry) : Type 0 where
   pub claims : claims one ≡ claims other
 
 module _ (one other : Definitions) where
-  -- the last fields with a name have the same styled text if they are alike, and are missing in both entries otherwise
+  -- the last fields with a name have the same styled text if they are alike, or are missing in both entries
   found_alike : {f g : Option FieldReading} (c d : Option (List (Spanned Chunk))) → FoundAlike (AreAlikeFields one other) f g
       → MatchOption f (c ≡ None) (λ f. (chunks : List (Spanned Chunk)) × (c ≡ Some chunks) × FieldSays one f chunks)
       → MatchOption g (d ≡ None) (λ g. (chunks : List (Spanned Chunk)) × (d ≡ Some chunks) × FieldSays other g chunks)
