@@ -112,7 +112,7 @@ added depth (ContentUnit.formula text) inner has = record { led = led_math text;
 added depth (ContentUnit.command name space argument) inner has = added_characters depth (ContentUnit.command name space argument) inner has
 added depth (ContentUnit.other c) inner has = added_characters depth (ContentUnit.other c) inner has
 
--- the unit after a backslash with a line break is white space
+-- a text that begins with a line break begins with a unit of white space
 next_spaces : (c : ℕ) (rest : List ℕ) → is_break c ≡ true → first_unit false (c ∷ rest) ≡ ContentUnit.spaces (c ∷ prefix is_space rest)
 unfolding is_space
 next_spaces c rest breaks = elim (cases_Bool (c == 10)) [
@@ -157,7 +157,7 @@ after_break (ContentUnit.formula text) depth rest atoms breaks right read none =
 after_break (ContentUnit.command name space argument) depth rest atoms breaks right read none = both_ways false refl breaks
 after_break (ContentUnit.other c) depth rest atoms breaks right read none = both_ways false refl breaks
 
--- two texts don't end with a line break if `ys` doesn't, and isn't empty when the unit ends with one
+-- `xs ++ ys` doesn't end with a line break if `ys` doesn't, `xs` does only if the unit does, and `ys` then isn't empty
 last_joined : (u : ContentUnit) (xs ys : List ℕ) → (breaks_last u ≡ true → ys ≡ [] → ⊥)
     → (breaks_last u ≡ false → ends_in_break xs ≡ false) → ends_in_break ys ≡ false → ends_in_break (xs ++ ys) ≡ false
 last_joined u xs [] some alone last = elim (cases_Bool (breaks_last u)) [
