@@ -54,7 +54,7 @@ written_at own entries index entry keys there =
     sym (length-map entries (λ (e : Entry). e.key)) ∙ ap length keys ∙ length-map own (λ (e : Entry). e.key) in
     (get_or own index entry, slice_get-get_or own index entry (omega (arith, slice_get_within entries index entry there, as_long)))
 
--- the span of a date that can't be parsed, by the own entries
+-- the span of the date error of a resolved entry is one that `IsPlaceAt` allows by the own entries
 pub place_unread : (own entries : List Entry) (index : ℕ) (entry : Entry) (place : Range ℕ)
     → map (λ e. e.key) entries ≡ map (λ e. e.key) own → AllKeepChunks own entries → slice_get entries index ≡ Some entry
     → IsPlaceOfDate (by_name.get entry.fields) place
