@@ -50,8 +50,8 @@ parts_open char (nested {w = w} {x = y} other inner close rest) =
 not_last : {u v e : Place} {c : ℕ} → AtEnd e → CharAt u c v → u ≡ e → ⊥
 not_last {v = v} {c = c} end char last = no_char_at_end end (subst (λ p. CharAt p c v) last char)
 
--- `Closes` is equivalent from `u` and from `v` if parts from `u` that aren't empty are parts from `v`, parts from `v` are parts from `u`,
--- and the character at `u` isn't a closing brace
+-- Suppose that non-empty parts from `u` are parts from `v`, and that parts from `v` are parts from `u`. If the character at `u` isn't
+-- a closing brace, `Closes` from `u` and `Closes` from `v` are equivalent.
 closes_after : (n : ℕ) (e : Place) {u v y : Place} {c : ℕ} → AtEnd e → CharAt u c y → (c ≡ 125 → ⊥)
     → ((x : Place) → Parts u x → (u ≡ x) ⊎ Parts v x) → ((x : Place) → Parts v x → Parts u x)
     → Closes n u e ↔ Closes n v e

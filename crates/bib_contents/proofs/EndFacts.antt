@@ -12,7 +12,7 @@ use Rattle.bib_contents.specs.Contents.{begins}
 use Rattle.bib_contents.specs.Progress.{left, Passes}
 use Rattle.bib_contents.proofs.ArgumentFacts.{BracedRead, braced_none, braced_opens, braced_closes, braced_found, is_no_brace, is_closing, next_brace, passes_ahead, passes_within}
 
--- the offsets after open braces, the innermost first; from its first offset to `s`, `depth` braces are opened and stay open
+-- the offsets after open braces, the innermost first; from the first of them to `s`, `depth` braces are opened and stay open
 pub data AreOpen (text : List ℕ) (start : ℕ) (s : Place) : ℕ → List ℕ → Type 0 where
   nothing : {depth : ℕ} → AreOpen text start s depth []
   following : {depth begin : ℕ} {opened : List ℕ} → BracedRead (place text begin) depth s → start ≤ begin → begin ≤ s.at

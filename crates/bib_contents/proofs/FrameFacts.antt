@@ -89,7 +89,7 @@ begun_on {frame} {on} {name} {under} {low} {high} begun kept right = record {
   right = right;
 }
 
--- what was parsed of an argument is the same for an equal effect
+-- the state `IsReadTo` of an argument is the same for an equal effect
 based_on : (old new : Effect) {flat : Bool} {whole rest now : List ℕ} {depth : ℕ} (under name : List ℕ) → new ≡ old
     → IsReadTo flat whole (under ++ before_argument old name) rest depth now
     → IsReadTo flat whole (under ++ before_argument new name) rest depth now

@@ -36,8 +36,7 @@ abbrev breaks_last : ContentUnit → Bool
 breaks_last (ContentUnit.copied c) = is_break c
 breaks_last u = false
 
--- the text of a unit doesn't begin with a line break, and ends with one only if the unit is a line break after a
--- backslash
+-- the text of a unit doesn't begin with a line break, and ends with one only if the unit is a backslash before a line break
 record HasEnds (u : ContentUnit) (inner : List Atom) : Type 0 where
   first : begins is_break (unit_text u inner) ≡ false
   last : breaks_last u ≡ false → ends_in_break (unit_text u inner) ≡ false
@@ -80,8 +79,7 @@ unit_ends (ContentUnit.command name space (Argument.braced text)) rest inner rig
 unit_ends (ContentUnit.other c) rest inner right whole =
     capped_ends (ContentUnit.other c) inner (capped_plain (c ∷ []) (and_from _ _ (ordinary_plain c right) refl))
 
--- the atoms of a unit don't begin with a line break, and end with one only if the unit is a line break after a
--- backslash
+-- the atoms of a unit don't begin with a line break, and end with one only if the unit is a backslash before a line break
 record IsAdded (u : ContentUnit) (atoms : List Atom) : Type 0 where
   led : IsLed atoms
   last : breaks_last u ≡ false → ends_in_break (formatted_atoms false atoms) ≡ false
@@ -99,7 +97,7 @@ added_characters depth u inner has = record {
   last = λ plain. characters_last depth (unit_text u inner) (has.last plain);
 }
 
--- the atoms of a unit with such ends don't begin with a line break, and end with one only after a backslash
+-- `IsAdded` is true of the atoms of a unit with such ends
 added : (depth : ℕ) (u : ContentUnit) (inner : List Atom) → HasEnds u inner → IsAdded u (meaning depth u inner)
 added depth (ContentUnit.hyphens n) inner has = added_characters depth (ContentUnit.hyphens n) inner has
 added depth (ContentUnit.spaces cs) inner has = added_characters depth (ContentUnit.spaces cs) inner has

@@ -60,7 +60,7 @@ texts_cut lines i = sym (ap line_texts (take-append-drop i lines)) ∙ map-appen
 pub rest_is : (lines : List (Bor (List ℕ))) (i : ℕ) → take (length lines - i) (drop i lines) ≡ drop i lines
 rest_is lines i = take_all (length lines - i) (drop i lines) (omega (arith, length-drop i lines))
 
--- two lists that agree in exactly the first `start` lines, and after them in exactly the lines from `i` and from `j` on, have these ends
+-- two lists that agree in exactly the first `start` lines, and then in exactly the lines from `i` and `j` on, have these ends
 pub ends_of : (old new old_rest new_rest end : List (Bor (List ℕ))) (start i j : ℕ) → old_rest ≡ drop start old → new_rest ≡ drop start new
     → end ≡ drop i old_rest → line_texts (take start old) ≡ line_texts (take start new)
     → BeginDifferently (line_texts (drop start old)) (line_texts (drop start new))

@@ -19,8 +19,7 @@ braced_then first second = record {
   back = λ x y p c. second.back x y (first.back x y p c) c;
 }
 
--- if parts from `u` up to a closing brace are also parts from `v`, a text up to a closing brace that closes `n` open braces from `u`
--- also closes them from `v`
+-- if parts from `u` up to a closing brace are also parts from `v`, the same is true of text that closes `n` open braces
 closes_map : {n : ℕ} {u v x y : Place} → ((a b : Place) → Parts u a → CharAt a 125 b → Parts v a) → ClosesOpen n u x
     → CharAt x 125 y → ClosesOpen n v x
 closes_map change (last parts) brace = last (change _ _ parts brace)

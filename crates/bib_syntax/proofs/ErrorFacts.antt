@@ -19,7 +19,7 @@ pub reports_at : {Fails : ParseErrorKind → Place → Type 0} {kind : ParseErro
     → e ≡ error_at_place kind v → Fails kind v → Reports Fails e
 reports_at v is fact = record { kind = _; place = v; fails = fact; is = is }
 
--- if a second rule fails with each error of a first rule, an error that is reported for the first is also reported for the second
+-- if `Fails'` is true of each error of `Fails`, an error that is reported for `Fails` is also reported for `Fails'`
 pub reports_as : {Fails Fails' : ParseErrorKind → Place → Type 0} {e : ParseError}
     → ((kind : ParseErrorKind) (v : Place) → Fails kind v → Fails' kind v) → Reports Fails e → Reports Fails' e
 reports_as implies r = record { kind = r.kind; place = r.place; fails = implies r.kind r.place r.fails; is = r.is }
@@ -64,7 +64,7 @@ pub reported_at_end : {u v w : Place} {kind : ParseErrorKind} {e : ParseError} �
     → Ahead u v → AtEnd v → e ≡ error_at_place kind (text_end u)
 reported_at_end {u} {v} {w} {kind} {e} is same ahead end = subst (λ p. e ≡ error_at_place kind p) (same ∙ at_text_end ahead end) is
 
--- an error at the end of the text of a place ahead is reported for a rule that fails at the end of the text of the earlier place
+-- if `v` is ahead of `u`, and a rule fails at `text_end u`, an error at `text_end v` is reported for it
 pub reports_end : {Fails : ParseErrorKind → Place → Type 0} {kind : ParseErrorKind} {u v : Place} {e : ParseError}
     → Ahead u v → e ≡ error_at_place kind (text_end v) → Fails kind (text_end u) → Reports Fails e
 reports_end {kind = kind} {u = u} {v = v} {e = e} ahead is fact =

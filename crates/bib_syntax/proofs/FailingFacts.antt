@@ -13,7 +13,7 @@ use Rattle.bib_syntax.specs.declared.raw.ParseError.{ParseError}
 use Rattle.bib_syntax.specs.declared.raw.ParseErrorKind.{ParseErrorKind}
 use Rattle.bib_syntax.proofs.ErrorFacts.{reports_as}
 
--- if parsing fields fails with an error of the grammar at `here` and from each of `before`, it fails with this error from each of `starts`
+-- if parsing fields fails at `here` and from each of `before` with one error of the grammar, it does so from each of `starts`
 pub record FailBefore (text : List ℕ) (before starts : List ℕ) (here : Place) : Type 0 where
   pub each : (e : ParseError) → IsSyntaxError text e → Reports (FieldsFails here) e → AllFail text e before → AllFail text e starts
 
@@ -40,8 +40,7 @@ pub further_fails : {text before starts : List ℕ} {here there : Place} → Fai
     → ((kind : ParseErrorKind) (v : Place) → FieldsFails there kind v → FieldsFails here kind v) → FailBefore text before starts there
 further_fails read implies = record { each = λ e error fails all. read.each e error (reports_as implies fails) all }
 
--- if parsing fails at `here` with an error other than out of memory, and fails with this error from each of `before`, it fails with it
--- from each of `starts`
+-- if parsing fails at `here` and from each of `before` with an error that isn't out of memory, it does so from each of `starts`
 pub each_fails : {text before starts : List ℕ} {here : Place} {e : ParseError} (P : Type 0)
     → FailBefore text before starts here → here.text ≡ text → (P → Reports (FieldsFails here) e)
     → Refuses here.text e P → e ≢ out_of_memory → AllFail text e before → AllFail text e starts

@@ -33,7 +33,7 @@ white_not_key c white = and_right (not (c == 44 || c == 125) && not (is_control 
 white_not_point : (c : ℕ) → is_whitespace c ≡ true → c == 46 ≡ false
 white_not_point c white = grind (arith, nat_tests)
 
--- a test that fails for white space and for the character after it also fails at the start of this white space, even if it is empty
+-- a test that fails for white space and for the character after it also fails at the start of this white space
 stops_before : (test : ℕ → Bool) {u v x : Place} {c : ℕ} → ((d : ℕ) → is_whitespace d ≡ true → test d ≡ false)
     → Run is_whitespace u v → CharAt v c x → test c ≡ false → Stops test u
 stops_before test apart stop char fails = stops_at test char fails

@@ -79,13 +79,12 @@ NoQuote u = (w x : Place) → QuotedParts u w → CharAt w 34 x → ⊥
 abbrev QuoteCase : ℕ → Place → Type 0
 QuoteCase n u = RuleEnd n (QuoteClosed u) ⊎ NoQuote u
 
--- if it is known from `v` whether a quote closes the text, and the text from `u` has the same closing quote, it is known from `u`
+-- if the texts from `u` and from `v` have the same closing quotes, `QuoteCase` from `v` gives `QuoteCase` from `u`
 quote_moved : {m n : ℕ} {u v : Place} → m ≤ n → SameQuoted u v → QuoteCase m v → QuoteCase n u
 quote_moved fits same (inl f) = inl (found_as fits f (f.rule.0, same.there _ _ f.rule.1 f.rule.2, f.rule.2))
 quote_moved fits same (inr none) = inr (λ w x p c. none w x (same.back w x p c) c)
 
--- whether a quote closes the text from a character follows from the same facts after this character, and after the character that it
--- escapes if it is a backslash
+-- `QuoteCase` at a character follows from `QuoteCase` after it and, if it is a backslash, after the character that it escapes
 quote_step : {m n : ℕ} {u v w : Place} {c : ℕ} → CharAt u c v → Left n v → QuoteCase n v
     → (CharAt u 92 v → SameQuoted u w) → m ≤ n → QuoteCase m w → QuoteCase (suc n) u
 quote_step {u = u} {v = v} {c = c} char rest here hides fits hidden = elim (cases_Bool (c == 34)) [
@@ -151,19 +150,18 @@ NoBrace depth u = (x y : Place) → ClosesOpen depth u x → CharAt x 125 y → 
 abbrev BraceCase : ℕ → ℕ → Place → Type 0
 BraceCase depth n u = RuleEnd n (BraceClosed depth u) ⊎ NoBrace depth u
 
--- if it is known from `v` whether a brace closes the text, and the text from `u` has the same closing brace, it is known from `u`
+-- if the texts from `u` and from `v` have the same closing braces, `BraceCase` from `v` gives `BraceCase` from `u`
 brace_moved : {depth inner m n : ℕ} {u v : Place} → m ≤ n → SameBraced depth u inner v → BraceCase inner m v → BraceCase depth n u
 brace_moved fits same (inl f) = inl (found_as fits f (f.rule.0, same.there _ _ f.rule.1 f.rule.2, f.rule.2))
 brace_moved fits same (inr none) = inr (λ x y p c. none x y (same.back x y p c) c)
 
--- whether a brace closes the text from a closing brace follows from the same facts after this brace
+-- `BraceCase` at a closing brace follows from `BraceCase` after it for each number of open braces
 brace_closes : (depth : ℕ) {n : ℕ} {u v : Place} → CharAt u 125 v → Left n v → ((inner : ℕ) → BraceCase inner n v)
     → BraceCase depth (suc n) u
 brace_closes zero {u = u} close rest here = inl (found_at (omega arith) rest (u, ClosesOpen.last Parts.none, close))
 brace_closes (suc depth) close rest here = brace_moved (omega arith) (brace.braced_close depth close) (here depth)
 
--- whether a brace closes the text from a character follows from the same facts after this character, and after the character that it
--- escapes if it is a backslash
+-- `BraceCase` at a character follows from `BraceCase` after it and, if it is a backslash, after the character that it escapes
 brace_step : (depth : ℕ) {m n : ℕ} {u v w : Place} {c : ℕ} → CharAt u c v → Left n v → ((inner : ℕ) → BraceCase inner n v)
     → (CharAt u 92 v → SameBraced depth u depth w) → m ≤ n → BraceCase depth m w → BraceCase depth (suc n) u
 brace_step depth {u = u} {v = v} {c = c} char rest here hides fits hidden = elim (cases_Bool (c == 123)) [

@@ -154,7 +154,7 @@ passed_weaker p q each (c ∷ cs) all =
 pub passed_append : (p : ℕ → Bool) (xs ys : List ℕ) → list_all p xs ≡ true → list_all p ys ≡ true → list_all p (xs ++ ys) ≡ true
 passed_append p xs ys first second = list_all-append p xs ys ∙ and_from _ _ first second
 
--- if all elements of the first part of a list pass a test, the passing prefix is this part and the passing prefix of the rest
+-- a first part whose elements all pass a test adds its length to the length of the passing prefix
 pub passed_prefix : (p : ℕ → Bool) (xs rest : List ℕ) → list_all p xs ≡ true → prefix_len p (xs ++ rest) ≡ length xs + prefix_len p rest
 passed_prefix p [] rest all = omega arith
 passed_prefix p (x ∷ xs) rest all =

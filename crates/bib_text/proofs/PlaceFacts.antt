@@ -179,7 +179,7 @@ runs_same (step char passes rest) ends stop ends' = absurd (test_clash _ passes 
 runs_same {test} {u} {v} {w} (step char passes rest) ends (step char' passes' rest') ends' =
     runs_same rest ends (subst (λ p. Run test p w) (sym (same_char char char').1) rest') ends'
 
--- a run that ends where the test stops is a run without its first character, too
+-- if a run ends where the test stops, the rest of it after its first character is a run
 pub run_rest : {test : ℕ → Bool} {u v w : Place} {c : ℕ} → Run test u w → Stops test w → CharAt u c v → test c ≡ true → Run test v w
 run_rest stop ends char passes = absurd (test_clash _ passes (ends _ _ char))
 run_rest {test} {u} {v} {w} (step char' passes' rest) ends char passes = subst (λ p. Run test p w) (same_char char' char).1 rest
