@@ -98,7 +98,7 @@ apart_from v before [] settled = tt
 apart_from v before (a ∷ []) settled = tt
 apart_from v before (a ∷ b ∷ rest) settled = (sym (same_runs a b) ∙ settled.2.1, apart_from v (neighbour a) (b ∷ rest) settled.2)
 
--- a text is settled if and only if its atoms are settled after no character
+-- a text is settled if and only if its atoms are settled after `Nothing`
 pub settled_whole : (v : Bool) (atoms : List Atom) → IsSettled atoms v ↔ AreSettledAfter v Nothing atoms
 settled_whole v [] = (λ s. tt, λ s. record { each = tt; apart = tt })
 settled_whole v (a ∷ rest) = (

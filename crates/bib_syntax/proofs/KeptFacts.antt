@@ -159,7 +159,7 @@ pub kept_last : {start u a b : Place} {fs : List FieldReading} (f : FieldReading
     → Comments a b → Stops (λ c. c == 44) b → CompleteFields start (fs ++ f ∷ []) b
 kept_last f read one g stops = read.all _ _ (complete.last one g stops)
 
--- if no further field is complete, the fields are all
+-- if no further field is complete, the fields so far are all complete fields
 pub kept_all : {start u : Place} {fs : List FieldReading} → KeptSoFar start fs u → NoField u → CompleteFields start fs u
 kept_all {start} {u} {fs} read none = subst (λ gs. CompleteFields start gs u) (append-nil fs) (read.all _ _ (complete.none none))
 
