@@ -149,7 +149,7 @@ pub record IsMet (definitions : Definitions) (is_verbatim : Bool) (field : List 
   pub texts : AreRead is_verbatim pieces
   pub on_path : (name : List ℕ) → IsOnPath path name → Leads definitions field name pieces
 
--- the definition of a name leads to the names among its pieces
+-- if `met` occurs in `rest`, each name on the path extended by `met` leads to the names in the definition of `met`
 leads_inside : {definitions : Definitions} {field rest definition : List Piece} (name met : List ℕ)
     (path : List (List ℕ)) → definitions met ≡ Some definition
     → Reaches definitions field met → ((other : List ℕ) → IsOnPath path other → Leads definitions field other rest) → HoldsName rest met
@@ -228,7 +228,7 @@ contents_readable definitions is_verbatim same_rule field (Ok x) same are =
     subst (λ v. IsReadable definitions v field) same (readable are.says)
 contents_readable definitions is_verbatim same_rule field (Err e) same are = tt
 
--- a field whose parsing returned another error than out of memory can't be parsed
+-- an error other than out of memory that parsing a field returned is its first error, and the field can't be parsed
 pub refused_not_readable : {T : Type 0} (definitions : Definitions) (is_verbatim same_rule : Bool) (field : List Piece)
     (r : Result T ParseError) → is_verbatim ≡ same_rule
     → IfErr r (λ e. (e ≡ out_of_memory) ⊎ IsFirstError definitions is_verbatim [] field e)
@@ -242,7 +242,7 @@ refused_not_readable definitions is_verbatim same_rule field (Err e) same (inr e
 pub definitions_same : {one two : Definitions} → ((name : List ℕ) → one name ≡ two name) → one ≡ two
 definitions_same same = λ i. λ name. same name i
 
--- the definitions of a sorted map are those of its pairs
+-- the definition of a name among entries is the one in their pairs
 given_among : (es : List (Bor (List ℕ) × Bor (Vec (Spanned RawChunk)))) (name : List ℕ)
     → definition_among es name ≡ given_by (map (λ e. (e.0.now, map piece_of e.1.now.items)) es) name
 given_among [] name = refl
@@ -258,7 +258,7 @@ given_among (e ∷ es) name =
 pub sorted_given : (m : BTreeMap (Bor (List ℕ)) (Bor (Vec (Spanned RawChunk)))) → sorted_in m ≡ given_by (pairs_in m)
 sorted_given m = definitions_same (given_among m.entries)
 
--- a result with equal definitions and an equal flag is the same
+-- the contents of a field are also its contents for equal definitions and an equal flag
 pub contents_same_rule : {E : Type 0} (definitions same_definitions : Definitions) (is_verbatim same_rule : Bool)
     (field : List Piece) (r : Result (List (Spanned Chunk)) E)
     → definitions ≡ same_definitions → is_verbatim ≡ same_rule
@@ -267,7 +267,7 @@ contents_same_rule definitions same_definitions is_verbatim same_rule field r sa
     subst (λ v. IfOk r (AreContents same_definitions v field)) rule
     (subst (λ d. IfOk r (AreContents d is_verbatim field)) same are)
 
--- an error with equal definitions is the same
+-- the error of a field is also its error for equal definitions
 pub refused_same_rule : {T : Type 0} (definitions same_definitions : Definitions) (is_verbatim : Bool)
     (field : List Piece) (r : Result T ParseError) → definitions ≡ same_definitions
     → IfErr r (λ e. (e ≡ out_of_memory) ⊎ IsFirstError definitions is_verbatim [] field e)

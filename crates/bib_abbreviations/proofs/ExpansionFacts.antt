@@ -1,4 +1,4 @@
--- The expansion of names, each once: what each step of it does.
+-- The steps of the expansion of names, in which each name is expanded once.
 use Rattle.std.proofs.Common.{◌≡◌, ℕ, Bool, List, [], ◌∷◌, ◌++◌, map, length, drop, refl, sym, ap, ◌∙◌, subst, append_assoc, append-nil, arith, Some, length-append}
 use Rattle.std.specs.Borrow.{Bor}
 use Rattle.std.specs.Global.{Vec}
@@ -152,7 +152,7 @@ module _ {definitions : Definitions} {is_verbatim : Bool} where
             (sym items) waiting;
       }
 
-  -- the expansion of a name ends, and the frame that waits for it goes on
+  -- the expansion of a name ends, and the frame that waits for it continues
   pub expanding_closed : {base : List (Spanned Chunk)} {first : List ℕ} {memo : Memo} {frame below : Frame}
       {frames : List Frame} (new : Memo)
       → IsExpanding definitions is_verbatim base first memo frame (below ∷ frames) → frame.rest.now ≡ [] → new.values ≡ memo.values

@@ -1,4 +1,4 @@
--- What a literal says, and how the memo and the frames that wait change when a name is opened or closed.
+-- The styled text of a literal, and the memo and the waiting frames after the expansion of a name begins or ends.
 use Rattle.std.proofs.Common.{◌≡◌, ℕ, ◌+◌, ◌-◌, ◌<◌, ◌≤◌, Bool, true, false, List, [], ◌∷◌, ◌++◌, map, length, take, drop, refl, sym, ap, ◌∙◌, subst, append_assoc, append-nil, inl, inr, arith, Option, Some, None, length-append, length-drop}
 use Rattle.std.specs.Prelude.{◌⊎◌, bytes_eq, ◌^◌}
 use Rattle.std.specs.BTreeMap as tree
@@ -54,7 +54,7 @@ module _ {definitions : Definitions} {is_verbatim : Bool} where
       → Evaluates definitions is_verbatim pieces same
   evaluates_as {pieces} is x = subst (λ a. Evaluates definitions is_verbatim pieces a) is x
 
-  -- the styled text of appended pieces
+  -- the styled text of appended pieces is the styled text of the first ones and then that of the second ones
   pub evaluates_append : {first more : List Piece} {a : List Atom} (b : List Atom) → Evaluates definitions is_verbatim first a
       → Evaluates definitions is_verbatim more b → Evaluates definitions is_verbatim (first ++ more) (a ++ b)
   evaluates_append b evaluates.none y = y
@@ -111,7 +111,7 @@ module _ {definitions : Definitions} {is_verbatim : Bool} where
     says = evaluates_as (append-nil _ ∙ sym says) (evaluates.defined value.is value.says evaluates.none);
   }
 
-  -- the error of a literal, by its text and its offset
+  -- the error of the text of a literal is out of memory, or the first error of any pieces that begin with this literal
   pub unread_reported : (text : List ℕ) (offset : ℕ) (e : ParseError)
       → (e ≡ out_of_memory) ⊎ ContentFails is_verbatim 0 (chars text) e.kind
       → (offset + length text < 2 ^ 64 → StaysBetween offset (offset + length text) e)
@@ -163,7 +163,7 @@ between_grows start end chunks more ordered within =
     let enough : end - start ≤ length (drop start chunks) = omega (arith, length-drop start chunks) in
     ap (take (end - start)) (drop-append-le start chunks more start_within) ∙ take-append-le (end - start) (drop start chunks) more enough
 
--- the chunks from an index to the end
+-- the chunks between an index and the end are those from the index on
 pub between_all : (start : ℕ) (chunks : List (Spanned Chunk)) → chunks_between start (length chunks) chunks ≡ drop start chunks
 between_all start chunks = take_all (length chunks - start) (drop start chunks) (omega (arith, length-drop start chunks))
 

@@ -1,4 +1,4 @@
--- How many pieces are left to expand, and what the pieces of a field are read as.
+-- The number of pieces that are left to expand, and the chunks that the pieces of a field are parsed as.
 use Rattle.std.proofs.Common.{◌≡◌, ℕ, suc, ◌+◌, ◌-◌, ◌<◌, ◌≤◌, Bool, true, false, List, [], ◌∷◌, ◌++◌, map, length, take, drop, refl, sym, ap, ap₂, ◌∙◌, subst, append_assoc, append-nil, inl, inr, arith, Option, Some, None, get_or}
 use Rattle.std.specs.Prelude.{◌⊎◌, if◌then◌else◌, bytes_eq, is_some, min, ◌^◌}
 use Rattle.std.specs.BTreeMap as tree
@@ -40,7 +40,7 @@ use Rattle.bib_chunks.proofs.JoinedFacts.{placed_up}
 use Rattle.bib_abbreviations.proofs.MemoFacts.{stands_in, evaluates_as, evaluates_append, error_after, names_of, IsExpanding, between_all, all_after, none_begun, progress_same, none_done, no_pieces, IsNoted, noted_cases, sound_open}
 use Rattle.bib_abbreviations.proofs.ExpansionFacts.{expanding_error}
 
--- ---- how much is left
+-- ---- the number of pieces that are left
 
 -- the number of pieces that frames have left, and one for each frame
 abbrev pub weight : List Frame → ℕ
@@ -295,7 +295,7 @@ module _ {definitions : Definitions} {is_verbatim : Bool} where
   read_refused whole piece rest e x is (inr error) =
       inr (subst (λ pieces. IsFirstError definitions is_verbatim [] pieces e) (sym is) (error_after x.said (error rest)))
 
--- the literal of a piece of a field
+-- a raw text is a literal with its text and its span
 pub text_piece : (piece : Spanned RawChunk) (text : Bor (List ℕ)) → piece.v ≡ RawText text
     → piece_of piece ≡ literal (record { text = text.now; start = piece.span.start; end = piece.span.end })
 text_piece piece text is = ap (piece_at piece.span.start piece.span.end) is
@@ -319,7 +319,7 @@ module _ {definitions : Definitions} {is_verbatim : Bool} where
       inr (λ rest. subst (λ one. IsFirstError definitions is_verbatim [] (one ∷ rest) e) (sym (text_piece piece text is))
       (first_error.unread fails stands))
 
--- the chunks of a literal whose span is as long as its text
+-- the chunks of a literal whose span is as long as its text are placed in this span
 pub text_placed : (old new : List (Spanned Chunk)) (piece : Spanned RawChunk) (text : Bor (List ℕ)) (p : Part) (low : ℕ)
     → piece.v ≡ RawText text
     → piece_of piece ≡ literal p → p.end ≡ p.start + length p.text

@@ -30,7 +30,7 @@ untrimmed : (first : Bool) (t : List ℕ) (rest : List (List ℕ))
 untrimmed first t [] = refl
 untrimmed first t (u ∷ rest) = ap (λ xs. nowhere (Verbatim t) ∷ nowhere (Normal (codes " and ")) ∷ xs) (untrimmed false u rest)
 
--- a verbatim chunk is not cut
+-- a verbatim chunk is not cut, and it formats to its text
 verbatim_whole : (texts : List (List ℕ)) → AreWhole 3 (between_ands false) (λ t. Verbatim t) texts
 verbatim_whole [] = tt
 verbatim_whole (t ∷ rest) = (record { one = refl; says = refl }, verbatim_whole rest)

@@ -14,7 +14,7 @@ abbrev pub Closes : ℕ → Place → Place → Type 0
 Closes zero u e = Parts u e
 Closes (suc n) u e = (w : Place) × (x : Place) × Parts u w × CharAt w 125 x × Closes n x e
 
--- parts that begin with a plain character are empty, or that character and parts
+-- parts from a plain character are empty, or have this character first
 parts_plain : {u v w : Place} {c : ℕ} → CharAt u c v → is_plain c ≡ true → Parts u w → (u ≡ w) ⊎ Parts v w
 parts_plain char passes none = inl refl
 parts_plain {w = w} char passes (plain other also rest) = inr (subst (λ p. Parts p w) (same_char other char).1 rest)
@@ -50,7 +50,8 @@ parts_open char (nested {w = w} {x = y} other inner close rest) =
 not_last : {u v e : Place} {c : ℕ} → AtEnd e → CharAt u c v → u ≡ e → ⊥
 not_last {v = v} {c = c} end char last = no_char_at_end end (subst (λ p. CharAt p c v) last char)
 
--- if parts from `u` are parts from `v`, the same braces close from both
+-- Suppose that non-empty parts from `u` are parts from `v`, and that parts from `v` are parts from `u`. If the character at `u` isn't
+-- a closing brace, `Closes` from `u` and `Closes` from `v` are equivalent.
 closes_after : (n : ℕ) (e : Place) {u v y : Place} {c : ℕ} → AtEnd e → CharAt u c y → (c ≡ 125 → ⊥)
     → ((x : Place) → Parts u x → (u ≡ x) ⊎ Parts v x) → ((x : Place) → Parts v x → Parts u x)
     → Closes n u e ↔ Closes n v e
@@ -73,7 +74,7 @@ closes_hidden n e end slash char =
     closes_after n e end slash (λ same. omega (arith, same)) (λ x. parts_hidden slash char)
     (λ x rest. hidden slash char rest)
 
--- a text that ends with a backslash does not consist of parts
+-- nothing closes from a backslash at the end of the text
 pub closes_slash_end : (n : ℕ) (e : Place) {u v : Place} → AtEnd e → CharAt u 92 v → AtEnd v → Closes n u e → ⊥
 closes_slash_end zero e end slash last parts = not_last end slash (parts_slash_end slash last parts)
 closes_slash_end (suc n) e end slash last (w, x, parts, close, rest) =
@@ -111,7 +112,7 @@ pub closes_close : (n : ℕ) (e : Place) {u v : Place} → (n ≡ 0 → ⊥) →
 closes_close zero e within char = absurd (within refl)
 closes_close (suc n) e within char = rw sub-one (closes_close_suc n e char)
 
--- a closing brace of no open one is not in parts
+-- a text that begins with a closing brace is not parts, since no brace is open before it
 pub closes_close_none : (e : Place) {u v : Place} → AtEnd e → CharAt u 125 v → Closes 0 u e → ⊥
 closes_close_none e end char parts = not_last end char (no_parts char parts)
 

@@ -15,7 +15,7 @@ use Rattle.bib_text.specs.Places.{Place, CharAt, Run, Longest, AtEnd, between}
 use Rattle.bib_chunks.specs.Formatted.{is_break, ends_in_space, char_on_line, flowing, space_after, formatted_chunk, formatted_chars_after, upper_or_lower, sentence_case, sentence_after}
 use Rattle.bib_text.proofs.TextFacts.{ahead, MovesPast, passed_char, passed_run, passed_between, written_more, written_all, chars_at_end, chars_past, chars_whole}
 
--- a character that isn't a line break
+-- whether a character isn't a line break
 abbrev pub goes_on : ℕ → Bool
 goes_on c = not (is_break c)
 
@@ -23,7 +23,7 @@ goes_on c = not (is_break c)
 abbrev pub gap : Bool → List ℕ
 gap space = cond space [] (32 ∷ [])
 
--- whether appended texts end in white space
+-- appended texts end in white space if the second one does; if it is empty, the first one decides
 pub ends-append : (empty : Bool) (xs ys : List ℕ) → ends_in_space empty (xs ++ ys) ≡ ends_in_space (ends_in_space empty xs) ys
 ends-append empty [] ys = refl
 ends-append empty (x ∷ xs) ys = ends-append (is_whitespace x) xs ys
@@ -42,7 +42,7 @@ ends_at_char empty answer bs leading_run c utf8 prefix_utf8 ends decides =
     (ap (ends_in_space empty) (past.0 ∙ ap (λ xs. chars leading_run ++ xs) one)
     ∙ ends-append empty (chars leading_run) (c ∷ []))
 
--- whether a text without bytes ends in white space is the default
+-- for a text without bytes, `ends_in_space` is its default
 pub ends_of_none : (empty : Bool) (bs : List ℕ) → length bs ≡ 0 → empty ≡ ends_in_space empty (chars bs)
 ends_of_none empty [] none = sym (ap (ends_in_space empty) chars-nil)
 ends_of_none empty (b ∷ bs) none = absurd (omega arith)
@@ -145,7 +145,7 @@ formatted_part space following chunks i x out more total within is written decid
     ap (formatted_chars_after space) split ∙ ap (λ b. part ++ formatted_chars_after b (drop (i + 1) chunks)) (sym decides) in
     written_more out more total part _ _ written cut before
 
--- after its first character a text in sentence case goes on in lower case
+-- a text that doesn't begin a sentence is in lower case, character by character
 goes_lower : (cs : List ℕ) → flat_map to_lowercase cs ≡ sentence_case false cs
 goes_lower [] = refl
 goes_lower (c ∷ cs) = refl

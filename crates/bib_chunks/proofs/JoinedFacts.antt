@@ -11,7 +11,7 @@ use Rattle.bib_chunks.specs.Joined.{AreJoined, ArePlaced, IsWhole}
 suc_not_zero : (n : ℕ) → IsTrue (suc n == 0) → ⊥
 suc_not_zero n blank = grind (arith, nat_tests)
 
--- the styled text of appended chunks
+-- the styled text of appended chunks is the atoms of the first ones and then those of the second ones
 pub styled-append : (xs ys : List (Spanned Chunk)) → styled (xs ++ ys) ≡ styled xs ++ styled ys
 styled-append xs ys = flat_map-append (λ (c : Spanned Chunk). atoms_of c.v) xs ys
 

@@ -121,7 +121,7 @@ before-with_chunk c (d ∷ e ∷ rest) n =
     (if b then both c d ∷ with_chunk (e ∷ rest) n else c ∷ d ∷ with_chunk (e ∷ rest) n)
     ≡ with_chunk (if b then both c d ∷ e ∷ rest else c ∷ d ∷ e ∷ rest) n) [ true ↦ refl | false ↦ refl ]
 
--- the chunks of a styled text with more atoms after it that are one chunk
+-- if more atoms are one chunk, appending them to a styled text appends this chunk to its chunks
 chunks_of-append : (atoms more : List Atom) (n : Spanned Chunk) → chunks_of more ≡ n ∷ []
     → chunks_of (atoms ++ more) ≡ with_chunk (chunks_of atoms) n
 chunks_of-append [] more n is = is

@@ -28,7 +28,7 @@ texts_valid separator (text ∷ after ∷ more) valid =
     let rest = scalars_parts separator _ parts.1 in
     (parts.0, texts_valid separator (after ∷ more) rest.1)
 
--- what holds for each piece, holds for each chunk of each part
+-- a property of each piece of a list is one of each chunk of each part
 module _ (P : Spanned Chunk → Type 0) where
   onto_hold : (leading_run : List (Spanned Chunk)) (parts : List (List (Spanned Chunk))) → AllByRecursion P leading_run
       → AllByRecursion (AllByRecursion P) parts → AllByRecursion (AllByRecursion P) (onto leading_run parts)
@@ -89,7 +89,7 @@ module _ (R : List ℕ → Type 0) (P : Chunk → Type 0)
         → AllByRecursion (AllByRecursion (λ x. P x.v)) (list_parts w cut chunks)
     parts_hold chunks texts = list_hold (λ x. P x.v) w cut chunks (all_pieces_hold chunks texts)
 
--- a test that no element of two lists passes, no element of the appended lists passes
+-- if no element of two lists passes a test, no element of the appended lists does
 any-append : {A : Type 0} (test : A → Bool) (xs ys : List A) → list_any test xs ≡ false → list_any test ys ≡ false
     → list_any test (xs ++ ys) ≡ false
 any-append test [] ys one two = two
@@ -105,7 +105,7 @@ any-parts test (x ∷ xs) ys none =
     let rest = any-parts test xs ys both.1 in
     (ap (λ b. b || list_any test xs) both.0 ∙ rest.0, rest.1)
 
--- characters without a comma
+-- characters contain no comma
 abbrev pub HasNoComma : List ℕ → Type 0
 HasNoComma text = list_any (λ c. c == 44) text ≡ false
 

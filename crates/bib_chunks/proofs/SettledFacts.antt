@@ -80,25 +80,25 @@ same_runs (Atom.math c) (Atom.normal d) = refl
 same_runs (Atom.math c) (Atom.verbatim d) = refl
 same_runs (Atom.math c) (Atom.math d) = refl
 
--- a text that is settled as a whole is settled from its start on
+-- a settled text is settled after `before` if the parser doesn't merge its first atom with `before`
 after_from : (v : Bool) (before : Before) (a : Atom) (rest : List Atom) → AllByRecursion (IsSettledAtom v) (a ∷ rest)
     → AreApart (a ∷ rest) → runs_into before a ≡ false → AreSettledAfter v before (a ∷ rest)
 after_from v before a [] each apart free = (each.0, free, tt)
 after_from v before a (b ∷ rest) each apart free =
     (each.0, free, after_from v (neighbour a) b rest each.1 apart.1 (same_runs a b ∙ apart.0))
 
--- each atom of a text that is settled from its start on may occur in settled text
+-- each atom of a text that is settled after `before` may occur in settled text
 each_from : (v : Bool) (before : Before) (atoms : List Atom) → AreSettledAfter v before atoms → AllByRecursion (IsSettledAtom v) atoms
 each_from v before [] settled = tt
 each_from v before (a ∷ rest) settled = (settled.0, each_from v (neighbour a) rest settled.2)
 
--- the parser merges no two neighbours of a text that is settled from its start on
+-- the parser merges no two neighbours of a text that is settled after `before`
 apart_from : (v : Bool) (before : Before) (atoms : List Atom) → AreSettledAfter v before atoms → AreApart atoms
 apart_from v before [] settled = tt
 apart_from v before (a ∷ []) settled = tt
 apart_from v before (a ∷ b ∷ rest) settled = (sym (same_runs a b) ∙ settled.2.1, apart_from v (neighbour a) (b ∷ rest) settled.2)
 
--- a text is settled exactly if it is settled from its start on
+-- a text is settled if and only if its atoms are settled after `Nothing`
 pub settled_whole : (v : Bool) (atoms : List Atom) → IsSettled atoms v ↔ AreSettledAfter v Nothing atoms
 settled_whole v [] = (λ s. tt, λ s. record { each = tt; apart = tt })
 settled_whole v (a ∷ rest) = (
@@ -148,7 +148,7 @@ runs_into_math (Verbatim c) text = refl
 math_atoms : (chunk : Chunk) (text bytes : List ℕ) → chunk ≡ MathChunk text → bytes ≡ text → atoms_of chunk ≡ Atom.math (chars bytes) ∷ []
 math_atoms chunk text bytes is same = ap atoms_of is ∙ ap (λ t. Atom.math (chars t) ∷ []) (sym same)
 
--- after math that is not settled no text is settled
+-- no text that begins with the math of this chunk is settled if the math isn't
 pub math_stuck : (v : Bool) (before : Before) (chunk : Chunk) (text bytes : List ℕ) → chunk ≡ MathChunk text
     → bytes ≡ text → IsUtf8 bytes → (IsSettledMath bytes → ⊥) → IsStuckIn v before (atoms_of chunk)
 math_stuck v before chunk text bytes is same utf8 unsettled =

@@ -14,7 +14,7 @@ use Rattle.bib_chunks.specs.Formatted.{flowing, char_on_line, ends_in_space, spa
 use Rattle.bib_chunks.specs.Styled.{Atom, atoms_of, styled, text_of, is_shown}
 use Rattle.bib_chunks.proofs.FormattedFacts.{ends-append}
 
--- normal characters, formatted
+-- normal atoms are formatted on one line
 normal_text : (space : Bool) (cs : List ℕ) (more : List Atom)
     → formatted_atoms space (map Atom.normal cs ++ more)
     ≡ flowing space cs ++ formatted_atoms (ends_in_space space (flowing space cs)) more
@@ -66,7 +66,7 @@ hidden (Normal text) none = ap (map Atom.normal) (no_text text none)
 hidden (Verbatim text) none = ap (map Atom.verbatim) (no_text text none)
 hidden (Math text) none = absurd (false≢true (sym none))
 
--- the styled text of the chunks from an index on
+-- the styled text of the chunks from an index on is the atoms of the chunk there and those of the chunks after it
 styled_from : (chunks : List (Spanned Chunk)) (i : ℕ) (x : Spanned Chunk) → i < length chunks → x ≡ get_or chunks i x
     → styled (drop i chunks) ≡ atoms_of x.v ++ styled (drop (i + 1) chunks)
 styled_from chunks i x within is = ap styled (drop_more chunks i x within ∙ ap (λ y. y ∷ drop (i + 1) chunks) (sym is))

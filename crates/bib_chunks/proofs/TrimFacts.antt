@@ -15,7 +15,7 @@ use Rattle.bib_text.specs.declared.spanned.Spanned.{Spanned}
 use Rattle.bib_chunks.specs.Styled.{Atom, atoms_of}
 use Rattle.bib_chunks.specs.Cuts.{further, with_span, trimmed_start, trimmed_end, chunk_part, piece}
 
--- a text is white space and the text that is left without it
+-- a text is the text that is left by trimming, with white space before it (`skipped`) or after it (`dropped`)
 skipped : (cs : List ℕ) → (lead : List ℕ) × (cs ≡ lead ++ skip_leading_whitespace cs) × (list_all is_whitespace lead ≡ true)
 skipped [] = ([], refl, refl)
 skipped (c ∷ cs) =
@@ -66,7 +66,7 @@ scalars_parts (x ∷ xs) ys valid =
     let rest = scalars_parts xs ys both.1 in
     (ap (λ b. b && scalars xs) both.0 ∙ rest.0, rest.1)
 
--- the characters that are left after trimming the start
+-- the characters that are left after trimming the start, or the end, if the flag is true
 start_left : Bool → List ℕ → List ℕ
 start_left true text = skip_leading_whitespace text
 start_left false text = text
@@ -89,7 +89,7 @@ unfolding trim_end end_left
 end_bytes true text valid = ap (λ cs. encode_utf8_all (drop_trailing_whitespace cs)) (chars-encodes text valid)
 end_bytes false text valid = refl
 
--- characters are white space, only if `first`, and then what is left
+-- a text is white space and then the text that is left; the white space is empty unless `first` is true
 start_parts : (first : Bool) (text : List ℕ)
     → (lead : List ℕ) × (text ≡ lead ++ start_left first text) × (list_all is_whitespace lead ≡ true)
     × (first ≡ false → lead ≡ [])
@@ -97,7 +97,7 @@ unfolding start_left
 start_parts true text = let cut = skipped text in (cut.0, cut.1, cut.2, λ no. absurd (false≢true (sym no)))
 start_parts false text = ([], refl, refl, λ _. refl)
 
--- characters are what is left, and then white space, only if `last`
+-- a text is the text that is left and then white space; the white space is empty unless `last` is true
 end_parts : (last : Bool) (text : List ℕ)
     → (trail : List ℕ) × (text ≡ end_left last text ++ trail) × (list_all is_whitespace trail ≡ true)
     × (last ≡ false → trail ≡ [])
@@ -117,14 +117,14 @@ part_chunk whole span at text =
       | false ↦ refl
     ]
 
--- a piece is the part of the chunk that is left of its text
+-- the piece `here` is the part of the chunk that trimming leaves of `text`
 pub record IsPiece (whole : List ℕ) (span : Range ℕ) (at : ℕ) (first last : Bool) (text : List ℕ) (here : Spanned Chunk) : Type 0 where
   pub left : List ℕ
   pub trimmed : IsTrimmed first last text left
   pub valid : scalars left ≡ true
   pub is : here ≡ chunk_part whole span (at + length (encode_utf8_all trimmed.lead)) (encode_utf8_all left)
 
--- a piece of encoded characters is the part of the chunk with what trimming leaves of them
+-- a piece of encoded characters is the part of the chunk that trimming leaves of them
 pub piece_is : (whole : List ℕ) (span : Range ℕ) (at : ℕ) (first last : Bool) (text : List ℕ) → scalars text ≡ true
     → IsPiece whole span at first last text (piece whole span at first last (encode_utf8_all text))
 piece_is whole span at first last text valid =
@@ -160,7 +160,7 @@ piece_is whole span at first last text valid =
           skipped_bytes ∙ ap (chunk_part whole span (at + length (encode_utf8_all start.0))) bytes;
     }
 
--- a piece is a normal chunk with the text that is left
+-- the piece `here` is a normal chunk of the characters that trimming leaves of `text`
 pub record SaysPiece (first last : Bool) (text : List ℕ) (here : Spanned Chunk) : Type 0 where
   pub left : List ℕ
   pub trimmed : IsTrimmed first last text left
@@ -168,7 +168,7 @@ pub record SaysPiece (first last : Bool) (text : List ℕ) (here : Spanned Chunk
   pub is : here.v ≡ Normal (encode_utf8_all left)
   pub says : atoms_of here.v ≡ map Atom.normal left
 
--- a piece of encoded characters is a normal chunk of what trimming leaves of them
+-- a piece of encoded characters is a normal chunk of the characters that trimming leaves of them
 pub piece_says : (whole : List ℕ) (span : Range ℕ) (at : ℕ) (first last : Bool) (text : List ℕ) → scalars text ≡ true
     → SaysPiece first last text (piece whole span at first last (encode_utf8_all text))
 piece_says whole span at first last text valid =

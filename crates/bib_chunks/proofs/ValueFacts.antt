@@ -15,7 +15,7 @@ use Rattle.bib_chunks.specs.Values.{text, alone}
 pub verbatim_text : (t : List ℕ) → IsUtf8 t → text (alone (Verbatim t)) ≡ t
 verbatim_text t utf8 = ap encode_utf8_all (append-nil (chars t)) ∙ encodes-chars t utf8
 
--- an ASCII byte that isn't a line break
+-- whether a byte is ASCII and not a line break
 abbrev pub is_simple : ℕ → Bool
 is_simple b = nat_lt b 128 && goes_on b
 
@@ -48,6 +48,6 @@ simple_text t all =
     (append-nil (flowing false (chars t)) ∙ ap (flowing false) whole ∙ flowing_whole false t (simple_goes t all))
     ∙ encodes-IsAscii t ascii
 
--- a text parses from its verbatim chunk
+-- the formatted text of a verbatim chunk is the text that it was made of
 pub string_survives : (t : List ℕ) → IsUtf8 t → Some (text (alone (Verbatim t))) ≡ Some t
 string_survives t utf8 = ap (λ x. Some x) (verbatim_text t utf8)

@@ -65,7 +65,7 @@ rejoined separator [] = []
 rejoined separator (text ∷ []) = text
 rejoined separator (text ∷ after ∷ more) = text ++ (separator ++ rejoined separator (after ∷ more))
 
--- the styled text of one chunk
+-- the styled text of one chunk is its atoms
 one_styled : (c : Spanned Chunk) (text : List Atom) → styled (c ∷ []) ++ text ≡ atoms_of c.v ++ text
 one_styled c text = ap (λ l. l ++ text) (append-nil (atoms_of c.v))
 

@@ -188,7 +188,7 @@ record ChunkSpaced (first last : Bool) (v : Chunk) (here : Spanned Chunk) : Type
   begins : first ≡ false → lead ≡ []
   ends : last ≡ false → trail ≡ []
 
--- a chunk that isn't trimmed has no white space to remove
+-- a chunk that trimming doesn't change has no white space to remove
 same_spaced : (first last : Bool) (v : Chunk) (here : Spanned Chunk) → here.v ≡ v → ChunkSpaced first last v here
 same_spaced first last v here is = record {
   lead = [];

@@ -42,7 +42,7 @@ pub spelled_other : (v : Bool) (c : ℕ) → is_grouping c ≡ false → v ≡ f
 unfolding char_spelling
 spelled_other v c other normal free no_tilde no_circumflex = rw (other, normal, free, ne_eqb c 126 no_tilde, ne_eqb c 94 no_circumflex) refl
 
--- a bare character is written unchanged
+-- a bare character is written unchanged, by the results of the tests of `char_spelling`
 bare_cases : (v grouping reserved tilde circumflex : Bool) (c : ℕ)
     → cond grouping false (cond v true (not (reserved || tilde || circumflex))) ≡ true
     → cond grouping (92 ∷ c ∷ [])

@@ -105,7 +105,7 @@ get-without_index taken m q =
     ∙ find-revalued by_bytes (index_after_removal taken) nat_list_cmp_total q (map.entries m) (entries_sorted m)
     ∙ ap (option_and_then (index_after_removal taken)) (sym (get-entries m q))
 
--- a pair with an index greater than the removed one gets the index below it
+-- a pair with an index greater than the removed one gets an index lower by 1
 pub moved_lower : (taken : ℕ) (pair : List ℕ × ℕ) → (pair.1 ≡ taken → ⊥) → taken < pair.1
     → moved_pair taken pair ≡ Some (pair.0, pair.1 - 1)
 moved_lower taken pair other greater = grind (arith, nat_tests)

@@ -25,7 +25,7 @@ no_root n index = elim (cases_lt index n) [
   | inr t ↦ get_or_past (replicate n None) index None (omega (arith, t, length-replicate {A = Option ℕ} n None))
 ]
 
--- each reference of `inside` is a reversed reference of `graph` between indices with the same root
+-- each reference of `inside` is a reversed reference of `graph` between indices with the same root or without a root
 pub record IsTurnedInside (graph : List (List ℕ)) (roots : List (Option ℕ)) (inside : List (List ℕ)) : Type 0 where
   pub same_length : length inside ≡ length graph
   pub turned : (index entry : ℕ) → Contains (refs_of inside index) entry
@@ -70,7 +70,7 @@ module _ (graph : List (List ℕ)) where
     nothing : {entry : ℕ} → Contains [] entry → ⊥
     nothing c = omega (arith, c.1)
 
-  -- one more reversed reference between indices with the same root
+  -- one more reversed reference between indices with the same root or without a root
   pub inside_more : (roots : List (Option ℕ)) (inside : List (List ℕ)) (r entry : ℕ) → r < length inside
       → Contains (refs_of graph entry) r → root_at roots r ≡ root_at roots entry → IsTurnedInside graph roots inside
       → IsTurnedInside graph roots (set inside r (refs_of inside r ++ entry ∷ []))

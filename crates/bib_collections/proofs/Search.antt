@@ -196,7 +196,7 @@ module _ (graph : List (List ℕ)) (start : ℕ) (old : List Bool) where
       → All (λ r. is_marked marks r ≡ true) (refs_of graph p)
   all_marked marks p h f = ⊎_elim (λ w. absurd (omega (arith, w.1))) (λ all. all) (h.closed p f)
 
-  -- if no index waits, all that `start` leads to is marked
+  -- if no index waits, each index that `start` leads to is marked
   pub search_all : (marks : List Bool) → IsSearch marks [] → IsSpread graph start old marks
   search_all marks h = record {
     same_length = h.same_length;
@@ -207,7 +207,7 @@ module _ (graph : List (List ℕ)) (start : ℕ) (old : List Bool) where
   }
 
 module _ (graph : List (List ℕ)) where
-  -- if each marked index refers only to marked ones, all that an index with marked references leads to is marked
+  -- if each marked index refers only to marked ones, each index that an index with marked references leads to is marked
   closed_on : (marks : List Bool) (a b : ℕ) → IsClosed graph marks → Leads graph a b
       → All (λ r. is_marked marks r ≡ true) (refs_of graph a) → is_marked marks b ≡ true
   closed_on marks a b h (one e) all = All-contains (λ r. is_marked marks r ≡ true) (refs_of graph a) b all e
@@ -234,7 +234,7 @@ module _ (graph : List (List ℕ)) where
         | inr t ↦ kept p (h.closed p (sym t.1 ∙ d))
       ]
 
-  -- the start of a search is a suspect exactly if the search marked it
+  -- `AreSuspects` stays true if the start of a search becomes a suspect exactly if the search marked it
   pub suspects_more : (start : ℕ) (suspects old new : List Bool) → start < length suspects
       → IsSpread graph start old new → AreSuspects graph suspects
       → AreSuspects graph (set suspects start (is_marked new start))

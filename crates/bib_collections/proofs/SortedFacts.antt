@@ -186,7 +186,7 @@ module _ {K V : Type 0} {R : K → K → Ordering} (o : IsTotalOrder R) where
       ∙ find-where_key R (λ x. not (eq_by_cmp R k x)) q
       (λ x t. ap (λ r. not (is_eq r)) (sym (alike_right o q x k t))) es))
 
-  -- sorted pairs stay sorted without the pairs of one name
+  -- sorted pairs stay sorted without the pairs of one key
   pub is_sorted-others : (es : List (K × V)) (k : K) → T (is_sorted R es) → T (is_sorted R (others k es))
   unfolding others
   is_sorted-others es k h = is_sorted-where_key R _ es h

@@ -31,7 +31,7 @@ map_agree f g (x ∷ xs) h =
     get_or-map f (x ∷ xs) i x (f x) within ∙ h (get_or (x ∷ xs) i x) (Contains-get_or (x ∷ xs) i x within)
     ∙ sym (get_or-map g (x ∷ xs) i x (f x) within))
 
--- each reference in a graph is less than the number of entries
+-- in a graph in range, each reference is less than the number of entries
 pub below_from_edge : (graph : List (List ℕ)) (a b : ℕ) → IsInRange graph → a < length graph
     → Contains (refs_of graph a) b → b < length graph
 below_from_edge graph a b in_range within h =

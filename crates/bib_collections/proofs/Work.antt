@@ -235,7 +235,7 @@ module _ (graph : List (List ℕ)) where
   cycle_from_stuck in_range order missing h e within misses none =
       no_long_walk graph in_range none e within (stuck in_range order missing h (length graph) e within misses)
 
-  -- `index` isn't in the order, and all that it refers to is
+  -- `index` isn't in the order, and each index that it refers to is
   pub record IsNextInOrder (order : List ℕ) (missing : List ℕ) (index : ℕ) : Type 0 where
     pub within : index < length graph
     pub waits : is_among order index ≡ false

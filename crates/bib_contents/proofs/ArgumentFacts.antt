@@ -16,7 +16,7 @@ use Rattle.bib_contents.specs.Progress.{left, Passes}
 use Rattle.bib_contents.proofs.UnitFacts.{prefix, first_unit, unit_first}
 use Rattle.bib_contents.proofs.ProgressFacts.{passes_then, passes_none}
 
--- a place after the passed characters is in the text
+-- the place after passed characters is in the text if the place before them is
 pub passes_within : {u v : Place} {cs : List ℕ} → Passes u cs v → u.at ≤ length u.text → v.at ≤ length v.text
 passes_within {u} {v} {cs} passed within =
     let sizes : length u.text - u.at ≡ length (encode_utf8_all cs) + length (drop v.at v.text) =
@@ -56,7 +56,7 @@ passes_text {u} {v} {cs} start bs passed is utf8 taken =
     ∙ ap (take (v.at - u.at)) passed.here ∙ take_at (encode_utf8_all cs) (drop v.at v.text) (v.at - u.at) size in
     chars_whole cs bs utf8 (taken ∙ cut)
 
--- hyphens are encoded as themselves
+-- a text of hyphens is as many hyphens as it has characters, and its encoding is itself
 pub all_hyphens : (cs : List ℕ) → list_all (λ c. c == 45) cs ≡ true → (cs ≡ replicate (length cs) 45) × (encode_utf8_all cs ≡ cs)
 unfolding lib.Utf8.encode
 all_hyphens [] all = (refl, refl)
@@ -85,7 +85,7 @@ without_dollar (c ∷ cs) rest all = without_dollar cs rest (and_parts (not (c =
 pub after_first : {c d : ℕ} {xs ys : List ℕ} → c ∷ xs ≡ d ∷ ys → xs ≡ ys
 after_first same = ap (drop 1) same
 
--- a dollar sign without a second one begins no unit
+-- outside verbatim fields, a dollar sign without a second one begins no unit
 pub no_formula : (text : List ℕ) → list_all (λ c. not (c == 36)) text ≡ true → (u : ContentUnit) (rest : List ℕ)
     → IsNext false u (36 ∷ text) rest → ⊥
 no_formula text all u rest one =
@@ -118,7 +118,7 @@ closes depth (c ∷ cs) =
     else if c == 125 then (if nat_lt 0 depth then closes (depth - 1) cs else true)
     else closes depth cs
 
--- a character that isn't a brace
+-- whether a character isn't a brace
 abbrev pub is_no_brace : ℕ → Bool
 is_no_brace c = not (c == 123) && not (c == 125)
 
@@ -138,7 +138,7 @@ closes_run depth (c ∷ cs) tail all =
     let plain = and_parts (not (c == 123)) (not (c == 125)) parts.0 in
     rw (not-true (c == 123) plain.0, not-true (c == 125) plain.1) (closes_run depth cs tail parts.1)
 
--- the brace after a balanced text closes
+-- if a text balances with `depth` open braces before it, the closing brace after it closes one more
 pub closes_balanced : (depth : ℕ) (text rest : List ℕ) → balances depth text ≡ true → closes depth (text ++ 125 ∷ rest) ≡ true
 closes_balanced depth [] rest balanced = rw (eqb-true depth 0 balanced) refl
 closes_balanced depth (c ∷ cs) rest balanced =
@@ -300,7 +300,7 @@ braced_encloses {u} {s} {t} {w} {inside} {depth} {run} {c} start read none passe
     let closing : c ≡ 125 = is_closing c (next_brace c (left t) (left w) ends brace.left) differs in
     encloses start found.1 found.3 (subst (λ x. Passes t (x ∷ []) w) closing brace) is here utf8 within
 
--- the characters after a closing brace
+-- the characters of a text that begins with a closing brace are this brace and the characters after it
 chars_brace : (bs rest : List ℕ) → IsUtf8 bs → bs ≡ 125 ∷ rest → chars bs ≡ 125 ∷ chars rest
 unfolding lib.Utf8.encode
 chars_brace bs rest utf8 is = (chars_past (125 ∷ []) bs rest utf8 is).0
@@ -312,7 +312,7 @@ brace_eaten : {t w : Place} {rest : List ℕ} (found : Option ℕ)
 brace_eaten None eaten ahead = absurd (cc (eaten.0, ahead))
 brace_eaten {t} {w} (Some c) eaten ahead = let is : c ≡ 125 = cc (eaten.left, ahead) in subst (λ x. Passes t (x ∷ []) w) is eaten
 
--- an argument whose end is known, and its closing brace
+-- an argument whose end is known was passed, with its closing brace
 pub known_encloses : {u t w inside : Place} (start end : ℕ) (found : Option ℕ) → Closes u.text start end → start ≡ u.at
     → t ≡ place u.text end → IsUtf8 (drop u.at u.text) → end < length u.text
     → MatchOption found ((left t ≡ []) × (w ≡ t)) (λ c. Passes t (c ∷ []) w)
@@ -339,7 +339,7 @@ closes_boundary {text} {start} {end} closes utf8 within =
     IsCharBoundary-from_drop text end (omega (arith, within))
     (chars_past closes.inside (drop start text) (drop end text) utf8 closes.spelt).1
 
--- the depth of an argument is below 2^63
+-- the depth of an argument in a text of fewer than 2^63 bytes is below 2^63
 pub braced_bound : {u s : Place} {depth : ℕ} → BracedRead u depth s → u.at ≤ length u.text → length u.text < 2 ^ 63
     → depth ≤ s.at → depth < 2 ^ 63
 braced_bound {u} {s} {depth} read within fits bound =

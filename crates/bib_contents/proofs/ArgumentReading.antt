@@ -62,7 +62,7 @@ ordinary_all (c ∷ cs) all =
     let parts = and_parts (is_ordinary false c) (list_all (is_ordinary false) cs) all in
     and_from _ _ (ordinary_plain c parts.0) (ordinary_all cs parts.1)
 
--- a line break can't begin a command's name
+-- a line break is a blank character, so no command begins with it
 blank_break : (c : ℕ) → is_break c ≡ true → is_blank c ≡ true
 unfolding is_blank
 blank_break c breaks = rw (break_space c breaks) refl

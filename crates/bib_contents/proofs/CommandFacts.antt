@@ -108,7 +108,7 @@ named_passes {A = A} test (row ∷ rows) name value all found =
 pub mark_stays : (name : List ℕ) (mark : ℕ) → value_named accents name ≡ Some mark → is_in_form Nfd (mark ∷ []) ≡ true
 mark_stays name mark found = named_passes (λ m. is_in_form Nfd (m ∷ [])) accents name mark marks_stay found
 
--- an ASCII letter and a mark that doesn't decompose are decomposed as they are
+-- an ASCII character and a mark that doesn't decompose are their own decomposition (NFD)
 decomposed_pair : (c mark : ℕ) → c < 128 → is_in_form Nfd (mark ∷ []) ≡ true → nfd (c ∷ mark ∷ []) ≡ c ∷ mark ∷ []
 decomposed_pair c mark ascii stays =
     let starter = class-latin c (omega arith) in
@@ -116,11 +116,11 @@ decomposed_pair c mark ascii stays =
     ∙ decomposed-passing Nfd c (mark ∷ []) (is_final-Nfd c (quick_check-ascii Nfd c ascii)) (omega arith)
     ∙ ap (λ cs. c ∷ cs) (sym (normalize-Nfd (mark ∷ [])) ∙ is_in_form-true Nfd (mark ∷ []) stays)
 
--- the NFC form of an ASCII character and a mark is their composition
+-- the NFC form of an ASCII character and a mark that doesn't decompose is their composition
 composed_pair : (c mark : ℕ) → c < 128 → is_in_form Nfd (mark ∷ []) ≡ true → nfc (c ∷ mark ∷ []) ≡ compose (c ∷ mark ∷ [])
 composed_pair c mark ascii stays = nfc-by_nfd (c ∷ mark ∷ []) ∙ ap compose (decomposed_pair c mark ascii stays)
 
--- an ASCII letter and a mark that compose are composed
+-- if an ASCII character and a mark that doesn't decompose have a composite, it is their NFC form
 pub composes : (c mark whole : ℕ) → c < 128 → is_in_form Nfd (mark ∷ []) ≡ true → primary_composite c mark ≡ Some whole
     → nfc (c ∷ mark ∷ []) ≡ whole ∷ []
 composes c mark whole ascii stays one =
@@ -128,7 +128,7 @@ composes c mark whole ascii stays one =
     composed_pair c mark ascii stays ∙ compose-starter c (mark ∷ []) (omega arith)
     ∙ compose_after-joined c [] mark whole [] (joined-free c [] mark (is_blocked-nil mark) ∙ one) ∙ compose_after-nil whole []
 
--- an ASCII letter and a mark that do not compose stay two characters
+-- if an ASCII character and a mark that doesn't decompose have no composite, their NFC form is the two characters
 pub stays_apart : (c mark : ℕ) → c < 128 → is_in_form Nfd (mark ∷ []) ≡ true → primary_composite c mark ≡ None
     → nfc (c ∷ mark ∷ []) ≡ c ∷ mark ∷ []
 stays_apart c mark ascii stays none =
@@ -150,7 +150,7 @@ with_mark-push mark [] c = refl
 with_mark-push mark (d ∷ []) c = refl
 with_mark-push mark (d ∷ e ∷ leading_run) c = ap (λ cs. d ∷ cs) (with_mark-push mark (e ∷ leading_run) c)
 
--- the characters of the text of one character
+-- the encoding of one character has this character only
 pub chars_one : (bytes : List ℕ) (c : ℕ) → IsUtf8 bytes → bytes ≡ encode_utf8 c → chars bytes ≡ c ∷ []
 chars_one bytes c utf8 spells = chars_past_char bytes [] c utf8 (spells ∙ sym (append-nil _)) ∙ ap (λ cs. c ∷ cs) chars-nil
 
@@ -197,7 +197,7 @@ pub accents_one : (bytes rest : List ℕ) (c : ℕ) → IsUtf8 bytes → bytes �
 accents_one bytes [] c utf8 spells none = chars_past_char bytes [] c utf8 spells ∙ ap (λ cs. c ∷ cs) chars-nil
 accents_one bytes (r ∷ rest) c utf8 spells none = let empty : length (r ∷ rest) ≡ 0 = eqb-true _ _ none in absurd (omega arith)
 
--- the text of `o` without an argument
+-- `o` without an argument is the letter ø
 pub other_o : (name : List ℕ) → name ≡ 111 ∷ [] → other (chars name) None ≡ 248 ∷ []
 unfolding chars
 other_o name is = ap (λ bs. other (chars bs) None) is

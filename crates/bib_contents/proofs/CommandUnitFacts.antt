@@ -23,11 +23,11 @@ pub eaten_first : {u v : Place} {c : ℕ} {rest : List ℕ} (found : Option ℕ)
 eaten_first {u} None ended is = absurd (both_ways (is_empty (left u)) (ap is_empty is) (ap is_empty ended.0))
 eaten_first {u} {v} {c} {rest} (Some d) passed is = subst (λ x. Passes u (x ∷ []) v) (first_same (sym passed.left ∙ is)) passed
 
--- a sign is a name
+-- a sign that is neither blank nor escaped by a backslash is a name
 pub sign_name : (c : ℕ) → is_escaped false c ≡ false → is_blank c ≡ false → is_sign c ≡ true → is_name (c ∷ []) ≡ true
 sign_name c escaped blank sign = rw (escaped, blank, sign) refl
 
--- another character and the name characters after it are a name
+-- another character that is neither blank nor escaped by a backslash is a name with the name characters after it
 pub other_name : (c : ℕ) (cs : List ℕ) → is_escaped false c ≡ false → is_blank c ≡ false → is_sign c ≡ false
     → list_all is_name_character cs ≡ true → is_name (c ∷ cs) ≡ true
 other_name c cs escaped blank sign named = rw (escaped, blank, sign, named) refl

@@ -41,7 +41,7 @@ no_unit_of_nothing is_verbatim (ContentUnit.other c) rest right spells = cc
 pub no_unit_at_end : {is_verbatim : Bool} {u : ContentUnit} {rest : List ℕ} → IsNext is_verbatim u [] rest → ⊥
 no_unit_at_end {is_verbatim} {u} {rest} one = no_unit_of_nothing is_verbatim u rest one.fits one.spells
 
--- the atoms of a unit depend only on its argument in braces
+-- the atoms of a unit are the same for equal atoms of its argument in braces, or if it has no such argument
 meaning_same : (depth : ℕ) (u : ContentUnit) (inner more : List Atom)
     → ((text : List ℕ) → inner_text u ≡ Some text → inner ≡ more) → meaning depth u inner ≡ meaning depth u more
 meaning_same depth (ContentUnit.hyphens n) inner more same = refl

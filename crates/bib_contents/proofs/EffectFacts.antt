@@ -10,7 +10,7 @@ use Rattle.bib_contents.proofs.CommandFacts.{with_mark-push, chars_last}
 use Rattle.bib_contents.proofs.LaidFacts.{last_of}
 use Rattle.unicode_normalization.specs.Forms.{nfc}
 
--- characters appended to others
+-- if characters are appended to encoded characters, the result is the encoding of all of them
 pub wrote_more : (now more before cs : List ℕ) → now ≡ encode_utf8_all before → more ≡ now ++ encode_utf8_all cs
     → more ≡ encode_utf8_all (before ++ cs)
 wrote_more now more before cs was grew = grew ∙ ap (λ bs. bs ++ encode_utf8_all cs) was ∙ sym (encodes-append before cs)
@@ -39,7 +39,7 @@ marked_none base inside mark sign old new {start} size is short bare_is grew =
     ∙ ap (λ cs. encode_utf8_all (cs ++ sign)) (append-nil base)
     ∙ ap (λ cs. encode_utf8_all (base ++ cs)) bare_is ∙ ap (λ cs. encode_utf8_all (base ++ with_mark mark cs)) (sym none)
 
--- texts with one more character each are equal part by part
+-- equal texts that end with a character each have the same last character, and are equal before it
 pub last_same : (xs ys : List ℕ) (c d : ℕ) → xs ++ c ∷ [] ≡ ys ++ d ∷ [] → (xs ≡ ys) × (c ≡ d)
 last_same [] [] c d is = (refl, cc)
 last_same [] (y ∷ []) c d is = absurd (cc)
@@ -80,7 +80,7 @@ marked_after base [] mark last old leading_run new size more utf8 prefix_utf8 is
 marked_after base (c ∷ cs) mark last old leading_run new size more utf8 prefix_utf8 is popped grew =
     marked_some base c cs mark last old leading_run new utf8 prefix_utf8 is popped grew
 
--- a text truncated to the start of its last part
+-- a text truncated to the start of its last part is the part before it
 pub cut_back : (base inside now cut : List ℕ) {start : ℕ} → length (encode_utf8_all base) ≡ start
     → now ≡ encode_utf8_all (base ++ inside) → cut ≡ take start now → cut ≡ encode_utf8_all base
 cut_back base inside now cut {start} size is taken =
@@ -103,7 +103,7 @@ symbol_end base inside now cut new text {start} size is taken grew utf8 =
     let back : cut ≡ encode_utf8_all base = cut_back (base ++ []) inside now cut size is taken ∙ ap encode_utf8_all (append-nil base) in
     wrote_more cut new base (chars text) back (grew ∙ ap (λ bs. cut ++ bs) (sym (encodes-chars text utf8)))
 
--- the end of an unknown command
+-- a closing brace completes the text of an unknown command with an argument
 pub unknown_end : (base name inside now new : List ℕ)
     → now ≡ encode_utf8_all ((base ++ 92 ∷ (name ++ 123 ∷ [])) ++ inside) → new ≡ now ++ encode_utf8_all (125 ∷ [])
     → new ≡ encode_utf8_all (base ++ 92 ∷ (name ++ 123 ∷ (inside ++ 125 ∷ [])))
@@ -113,15 +113,15 @@ unknown_end base name inside now new is grew = wrote_more now new _ (125 ∷ [])
         → ((base ++ 92 ∷ (name ++ 123 ∷ [])) ++ inside) ++ 125 ∷ [] ≡ base ++ 92 ∷ (name ++ 123 ∷ (inside ++ 125 ∷ []))
     regrouped base name inside = simp append_assoc
 
--- characters appended to a text
+-- a UTF-8 text with appended characters is the encoding of its characters and these
 pub wrote_after : (old new cs : List ℕ) → IsUtf8 old → new ≡ old ++ encode_utf8_all cs → new ≡ encode_utf8_all (chars old ++ cs)
 wrote_after old new cs utf8 grew = wrote_more old new (chars old) cs (sym (encodes-chars old utf8)) grew
 
--- a longer text is the old one with characters appended
+-- the encoding of the characters of a UTF-8 text and of more characters is the text with these appended
 pub wrote_from : (old new cs : List ℕ) → IsUtf8 old → new ≡ encode_utf8_all (chars old ++ cs) → new ≡ old ++ encode_utf8_all cs
 wrote_from old new cs utf8 is = is ∙ encodes-append (chars old) cs ∙ ap (λ bs. bs ++ encode_utf8_all cs) (encodes-chars old utf8)
 
--- math between dollar signs
+-- math is written between dollar signs
 pub between_dollars : (cs old one two new : List ℕ) → one ≡ old ++ encode_utf8_all (36 ∷ [])
     → two ≡ one ++ encode_utf8_all cs → new ≡ two ++ encode_utf8_all (36 ∷ [])
     → new ≡ old ++ encode_utf8_all (36 ∷ (cs ++ 36 ∷ []))

@@ -12,7 +12,7 @@ use Rattle.bib_contents.specs.Contents.{begins}
 use Rattle.bib_contents.specs.Progress.{left, Passes}
 use Rattle.bib_contents.proofs.ArgumentFacts.{BracedRead, braced_none, braced_opens, braced_closes, braced_found, is_no_brace, is_closing, next_brace, passes_ahead, passes_within}
 
--- the offsets after open braces, the last one first; `depth` is the number of braces open after the first of them
+-- the offsets after open braces, the innermost first; from the first of them to `s`, `depth` braces are opened and stay open
 pub data AreOpen (text : List ℕ) (start : ℕ) (s : Place) : ℕ → List ℕ → Type 0 where
   nothing : {depth : ℕ} → AreOpen text start s depth []
   following : {depth begin : ℕ} {opened : List ℕ} → BracedRead (place text begin) depth s → start ≤ begin → begin ≤ s.at
@@ -28,7 +28,7 @@ open_opened (AreOpen.following read ahead before rest) passed plain brace =
     (let a = passes_ahead passed in let b = passes_ahead brace in omega (arith, before, a, b))
     (open_opened rest passed plain brace)
 
--- a closing brace was read, and other braces are open
+-- a closing brace was read, and a brace is open after the first offset
 pub open_closed : {text : List ℕ} {start : ℕ} {s t w : Place} {run : List ℕ} {c : ℕ} {opened : List ℕ}
     (depth before : ℕ) → AreOpen text start s depth opened → depth ≡ before + 1 → Passes s run t
     → list_all is_no_brace run ≡ true → begins is_no_brace (left t) ≡ false → Passes t (c ∷ []) w → (c ≡ 123 → ⊥)
@@ -171,7 +171,7 @@ read_none {text} {places} {waits} {start} {s} same here within empty alone = rec
   opened = rw alone AreOpen.nothing;
 }
 
--- a closing brace without an opening one changes nothing
+-- past a closing brace without an opening one, the stored ends stay and no brace is open
 pub read_alone : {text : List ℕ} {start c : ℕ} {s t w : Place} {run places waits more : List ℕ}
     → AreReadTo text start s places waits → Passes s run t → Passes t (c ∷ []) w → more ≡ []
     → AreReadTo text start w places more

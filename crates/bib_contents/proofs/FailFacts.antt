@@ -69,7 +69,7 @@ fails_stuck (following one closable argument fails) atoms read =
     let more = (unit_back one read).2 in
     fails_stuck fails more.0 more.1
 
--- the kind of error is one that contents have
+-- the kind of an error of contents is one that `IsUnread` allows
 pub fails_kind : {is_verbatim : Bool} {depth : ℕ} {text : List ℕ} {kind : ParseErrorKind} → ContentFails is_verbatim depth text kind
     → IsUnread kind
 fails_kind (unopened one closed) = inr refl

@@ -1,4 +1,4 @@
--- Nested arguments: what each was parsed as, and the output for all of them.
+-- Nested arguments: the parse of each, and the output for all of them.
 use Rattle.std.proofs.Common.{◌≡◌, ℕ, suc, ◌+◌, ◌-◌, ◌<◌, ◌≤◌, Bool, true, false, List, [], ◌∷◌, ◌++◌, length, map, refl, sym, ap, subst, ◌∙◌, append-nil, arith, inl, inr, Some, take, drop, length-append}
 use Rattle.std.specs.Prelude.{encode_utf8_all, slice_index}
 use Rattle.std.specs.List.{list_all}
@@ -31,8 +31,8 @@ use Rattle.bib_contents.proofs.LaidFacts.{is_flat_at, laid_given, written_charac
 use Rattle.bib_contents.proofs.ReaderFacts.{goes_here, goes_unit, unit_shorter}
 use Rattle.bib_contents.proofs.WholeFacts.{whole_reads, whole_capped}
 
--- `frame` is that of the command `name`, and its text begins after `under` and the text before the argument; it lies
--- between `low` and `high`
+-- `frame` parses the argument of the command `name`. The output of the argument begins after `under` and the text before the
+-- argument. The argument is between the offsets `low` and `high`.
 pub record IsBegun (frame : Frame) (name under : List ℕ) (low high : ℕ) : Type 0 where
   pub gives : (argument : List ℕ) → command_text name (Some argument) ≡ effect_text frame.effect name argument
   pub fit : IsFit frame.effect
@@ -74,7 +74,7 @@ abbrev pub weight : List Frame → ℕ
 weight [] = 0
 weight (frame ∷ frames) = length (left frame.s) + 1 + weight frames
 
--- a frame whose parsing went on
+-- `IsBegun` stays true for a later state of the frame
 pub begun_on : {frame on : Frame} {name under : List ℕ} {low high : ℕ} → IsBegun frame name under low high
     → KeepsFrame frame on → StandsRight on → IsBegun on name under low high
 begun_on {frame} {on} {name} {under} {low} {high} begun kept right = record {
@@ -89,14 +89,14 @@ begun_on {frame} {on} {name} {under} {low} {high} begun kept right = record {
   right = right;
 }
 
--- what was parsed of an argument is the same for an equal effect
+-- the state `IsReadTo` of an argument is the same for an equal effect
 based_on : (old new : Effect) {flat : Bool} {whole rest now : List ℕ} {depth : ℕ} (under name : List ℕ) → new ≡ old
     → IsReadTo flat whole (under ++ before_argument old name) rest depth now
     → IsReadTo flat whole (under ++ before_argument new name) rest depth now
 based_on old new {flat} {whole} {rest} {now} {depth} under name same read =
     subst (λ e. IsReadTo flat whole (under ++ before_argument e name) rest depth now) (sym same) read
 
--- the parse of an argument at its end
+-- an argument that was parsed to its end is parsed as its atoms
 ended_as : {flat : Bool} {whole base now : List ℕ} {depth : ℕ} (read : IsReadTo flat whole base [] depth now)
     → Reads false 0 whole read.atoms
 ended_as {whole = whole} read = subst (Reads false 0 whole) (append-nil read.atoms) (read.goes.onward [] end)
@@ -301,7 +301,7 @@ known_inside ends {text} {low} {high} {inside} known stands index some within =
     subst (λ bs. Closes bs (ends.start + index) end) (sym stands.cut)
     (closes_in (length inside.text) (known index some (omega (arith, within, long))) (omega (arith, within)))
 
--- fewer characters are left than a larger size
+-- `IsShorterThan` is also true for a larger size and a smaller lower offset
 pub shorter_wider : (next : Next) (size wide low lower : ℕ) (text same : List ℕ) (s : Place)
     → IsShorterThan size text low s next → size ≤ wide → lower ≤ low → text ≡ same
     → IsShorterThan wide same lower s next

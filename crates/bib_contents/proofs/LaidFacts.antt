@@ -235,7 +235,7 @@ capped_kind {name} (Kind.stays is) cs named capped =
 pub capped_given : (name cs : List ℕ) → list_all is_unbroken name ≡ true → IsCapped cs → IsCapped (command_text name (Some cs))
 capped_given name cs named capped = capped_kind (kind_of name) cs named capped
 
--- putting a command with a capped argument on one line is putting its argument on one line
+-- if the name of a command has no line break, putting its text on one line puts its argument, which is capped, on one line
 flowing_kind : {name : List ℕ} → Kind name → (cs : List ℕ) → list_all is_unbroken name ≡ true → IsCapped cs
     → flowing false (command_text name (Some cs)) ≡ command_text name (Some (flowing false cs))
 flowing_kind (Kind.marks m plain is) cs named capped =
@@ -253,7 +253,7 @@ flowing_kind {name} (Kind.stays is) cs named capped =
     ∙ ap (λ xs. xs ++ flowing false (123 ∷ (cs ++ 125 ∷ []))) (flowing_plain false (92 ∷ name) (and_from (is_unbroken 92) _ refl named))
     ∙ ap (λ xs. (92 ∷ name) ++ xs) opened ∙ sym (is (flowing false cs))
 
--- applying a command and putting its argument on one line can be exchanged
+-- applying a command whose name has no line break and putting its capped argument on one line can be exchanged
 pub laid_given : (is_flat : Bool) (name cs : List ℕ) → list_all is_unbroken name ≡ true → IsCapped cs
     → flat_if is_flat (command_text name (Some cs)) ≡ command_text name (Some (flat_if is_flat cs))
 laid_given true name cs named capped = flowing_kind (kind_of name) cs named capped
@@ -292,7 +292,7 @@ space_after space (Atom.normal c ∷ rest) = space_after (ends_in_space space (c
 space_after space (Atom.verbatim c ∷ rest) = space_after (is_whitespace c) rest
 space_after space (Atom.math text ∷ rest) = space_after space rest
 
--- formatting atoms one part after the other, given whether the first part ends with white space
+-- two lists of atoms are formatted one after the other; the second one depends on whether the text of the first ends with white space
 pub formatted_append : (space : Bool) (xs ys : List Atom)
     → formatted_atoms space (xs ++ ys) ≡ formatted_atoms space xs ++ formatted_atoms (space_after space xs) ys
 formatted_append space [] ys = refl

@@ -87,7 +87,7 @@ itself_hyphen {is_verbatim} {u} {v} {w} before char stops =
     goes_unit {u = ContentUnit.hyphens 1} {inner = []} one refl (λ argument holds. absurd (no_argument holds))
     refl)
 
--- a space or a hyphen that stands alone is parsed as itself
+-- a space with no white space after it, or a hyphen with no hyphen after it, is parsed as itself
 pub itself_alone : {is_verbatim : Bool} {u v w : Place} {c : ℕ} → Itself is_verbatim u v → CharAt v c w
     → is_alone c (left w) ≡ true → Itself is_verbatim u w
 itself_alone {is_verbatim} {u} {v} {w} {c} before char alone =
@@ -102,15 +102,15 @@ itself_alone {is_verbatim} {u} {v} {w} {c} before char alone =
 
 -- ---- one character and the text after it
 
--- a space is single if no white space follows it
+-- a space passes `is_alone` if and only if no white space follows it
 pub alone_space : (c : ℕ) (rest : List ℕ) → c ≡ 32 → is_alone c rest ≡ not (begins is_space rest)
 alone_space c rest is = rw is (or-false (not (begins is_space rest)))
 
--- a hyphen is single if no hyphen follows it
+-- a hyphen passes `is_alone` if and only if no hyphen follows it
 pub alone_hyphen : (c : ℕ) (rest : List ℕ) → c ≡ 45 → is_alone c rest ≡ not (begins (λ d. d == 45) rest)
 alone_hyphen c rest is = rw is refl
 
--- at the end of a text, a character that isn't a space stands alone if it is a hyphen
+-- at the end of a text, a character that isn't a space passes `is_alone` if and only if it is a hyphen
 pub alone_last : (c : ℕ) (rest : List ℕ) → rest ≡ [] → (c ≡ 32 → ⊥) → is_alone c rest ≡ (c == 45)
 alone_last c rest ends differs = rw (ends, ne_eqb c 32 differs) (and-true (c == 45))
 
@@ -197,7 +197,7 @@ pub renders_then : {is_verbatim : Bool} {u v w : Place} (a b c : List ℕ)
     → (shown : List ℕ) × ReadsAs is_verbatim u shown w × (c ≡ a ++ encode_utf8_all shown)
 renders_then a b c first second = (first.0 ++ second.0, reads_then first.1 second.1, two_parts a b c first.0 second.0 first.2 second.2)
 
--- nothing was passed
+-- at an equal place nothing was passed
 pub reads_same : {is_verbatim : Bool} {u v : Place} → v ≡ u → ReadsAs is_verbatim u [] v
 reads_same {is_verbatim} {u} {v} same = subst (λ p. ReadsAs is_verbatim u [] p) (sym same) (reads_none is_verbatim u)
 

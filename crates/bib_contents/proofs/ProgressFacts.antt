@@ -91,7 +91,7 @@ pub taken_if_utf8 : (u v : Place) (c : ℕ) (found : Bool) → IsUtf8 (ahead u)
 taken_if_utf8 u v c true utf8 char = (passed_char char utf8).utf8
 taken_if_utf8 u v c false utf8 none = rw none.0 utf8
 
--- the longest run of characters that pass a test
+-- eating the longest run of characters that pass a test passes them, and no character that passes it follows
 pub taken_while : (test : ℕ → Bool) (u v : Place) (eaten : List ℕ) → IsUtf8 (ahead u) → IsUtf8 eaten → Longest test u v
     → eaten ≡ between u v
     → Passes u (chars eaten) v × (list_all test (chars eaten) ≡ true) × (begins test (left v) ≡ false)

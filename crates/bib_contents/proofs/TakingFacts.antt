@@ -28,7 +28,7 @@ use Rattle.bib_contents.specs.declared.units.TextUnit.{TextUnit}
 use Rattle.bib_contents.specs.declared.units.TextUnit.TheVariants as shown
 use Rattle.bib_contents.proofs.ReaderFacts.{nothing_grows, no_argument, placed_wider}
 
--- the characters of a text after an append
+-- a text with appended characters has its characters and these
 pub grown_chars : (bs more cs : List ℕ) → IsUtf8 bs → IsUtf8 more → more ≡ bs ++ encode_utf8_all cs → chars more ≡ chars bs ++ cs
 grown_chars bs more cs utf8 utf8' grew =
     chars_whole (chars bs ++ cs) more utf8'
@@ -184,7 +184,7 @@ pub command_is : {unit : TextUnit} {name space : Bor (List ℕ)} {command_text :
 command_is {unit} {name} {space} {command_text} argument is same =
     ap text_unit_of is ∙ ap (λ a. ContentUnit.command (chars name.now) (chars space.now) (argument_of a)) same
 
--- the offsets around the argument of a unit, given by equal numbers
+-- the offsets around the argument of a unit can be replaced by equal ones
 pub stands_at : (text : List ℕ) (low high start end : ℕ) → start ≡ low → end ≡ high → (unit : all_units.Unit)
     → IsArgumentBetween text low unit high → IsArgumentBetween text start unit end
 stands_at text low high start end first last unit stands = rw (first, last) stands

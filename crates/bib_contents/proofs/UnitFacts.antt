@@ -223,7 +223,7 @@ command_parts is_verbatim name space rest argument right =
     let a1 = and_parts (not is_verbatim) (is_name name) a2.0 in
     (not-true is_verbatim a1.0, a1.1, a2.1, a3.1, not-true _ a4.1, a5.1)
 
--- the unit with which a text begins is its first unit
+-- if a text begins with a unit, `first_unit` is this unit
 pub unit_first : (is_verbatim : Bool) (u : ContentUnit) (rest : List ℕ) → fits is_verbatim u rest ≡ true
     → first_unit is_verbatim (unit_spelling u ++ rest) ≡ u
 unit_first is_verbatim (ContentUnit.hyphens zero) rest right = absurd (both_ways false refl right)

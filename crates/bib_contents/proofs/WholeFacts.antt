@@ -36,8 +36,7 @@ abbrev breaks_last : ContentUnit → Bool
 breaks_last (ContentUnit.copied c) = is_break c
 breaks_last u = false
 
--- the text of a unit doesn't begin with a line break, and ends with one only if the unit is a line break after a
--- backslash
+-- the text of a unit doesn't begin with a line break, and ends with one only if the unit is a backslash before a line break
 record HasEnds (u : ContentUnit) (inner : List Atom) : Type 0 where
   first : begins is_break (unit_text u inner) ≡ false
   last : breaks_last u ≡ false → ends_in_break (unit_text u inner) ≡ false
@@ -80,8 +79,7 @@ unit_ends (ContentUnit.command name space (Argument.braced text)) rest inner rig
 unit_ends (ContentUnit.other c) rest inner right whole =
     capped_ends (ContentUnit.other c) inner (capped_plain (c ∷ []) (and_from _ _ (ordinary_plain c right) refl))
 
--- the atoms of a unit don't begin with a line break, and end with one only if the unit is a line break after a
--- backslash
+-- the atoms of a unit don't begin with a line break, and end with one only if the unit is a backslash before a line break
 record IsAdded (u : ContentUnit) (atoms : List Atom) : Type 0 where
   led : IsLed atoms
   last : breaks_last u ≡ false → ends_in_break (formatted_atoms false atoms) ≡ false
@@ -99,7 +97,7 @@ added_characters depth u inner has = record {
   last = λ plain. characters_last depth (unit_text u inner) (has.last plain);
 }
 
--- the atoms of a unit with such ends don't begin with a line break, and end with one only after a backslash
+-- `IsAdded` is true of the atoms of a unit with such ends
 added : (depth : ℕ) (u : ContentUnit) (inner : List Atom) → HasEnds u inner → IsAdded u (meaning depth u inner)
 added depth (ContentUnit.hyphens n) inner has = added_characters depth (ContentUnit.hyphens n) inner has
 added depth (ContentUnit.spaces cs) inner has = added_characters depth (ContentUnit.spaces cs) inner has
@@ -112,7 +110,7 @@ added depth (ContentUnit.formula text) inner has = record { led = led_math text;
 added depth (ContentUnit.command name space argument) inner has = added_characters depth (ContentUnit.command name space argument) inner has
 added depth (ContentUnit.other c) inner has = added_characters depth (ContentUnit.other c) inner has
 
--- the unit after a backslash with a line break is white space
+-- a text that begins with a line break begins with a unit of white space
 next_spaces : (c : ℕ) (rest : List ℕ) → is_break c ≡ true → first_unit false (c ∷ rest) ≡ ContentUnit.spaces (c ∷ prefix is_space rest)
 unfolding is_space
 next_spaces c rest breaks = elim (cases_Bool (c == 10)) [
@@ -157,7 +155,7 @@ after_break (ContentUnit.formula text) depth rest atoms breaks right read none =
 after_break (ContentUnit.command name space argument) depth rest atoms breaks right read none = both_ways false refl breaks
 after_break (ContentUnit.other c) depth rest atoms breaks right read none = both_ways false refl breaks
 
--- two texts don't end with a line break if `ys` doesn't, and isn't empty when the unit ends with one
+-- `xs ++ ys` doesn't end with a line break if `ys` doesn't, `xs` does only if the unit does, and `ys` then isn't empty
 last_joined : (u : ContentUnit) (xs ys : List ℕ) → (breaks_last u ≡ true → ys ≡ [] → ⊥)
     → (breaks_last u ≡ false → ends_in_break xs ≡ false) → ends_in_break ys ≡ false → ends_in_break (xs ++ ys) ≡ false
 last_joined u xs [] some alone last = elim (cases_Bool (breaks_last u)) [

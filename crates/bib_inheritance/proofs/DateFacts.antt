@@ -25,7 +25,7 @@ use Rattle.bib_text.proofs.ListFacts.{some_same}
 same_index : (x y : ℕ) → eqb x y ≡ true → x ≡ y
 same_index x y is = grind (arith, is)
 
--- adding an empty date to a cache without dates adds no date
+-- a cache without dates still has none after an empty place is added
 pub unread_more : (dates : Dates) → ((index : ℕ) → IsNone (date_at dates index)) → (index : ℕ) → IsNone (date_at (dates ++ None ∷ []) index)
 unread_more [] none zero = refl
 unread_more [] none (suc index) = refl
@@ -37,7 +37,7 @@ module _ (entries : List Entry) where
   pub none_read : (dates : Dates) → ((index : ℕ) → IsNone (date_at dates index)) → AreDates entries dates
   none_read dates none index d is = absurd (false≢true (sym (none index) ∙ ap is_some is))
 
-  -- caching the date of one more entry
+  -- a cache stays valid after the date of one more entry is cached
   pub dates_more : (dates : Dates) (index : ℕ) (d : Kept) → index < length dates → IsDateAt entries index d
       → AreDates entries dates → AreDates entries (set dates index (Some d))
   dates_more dates index d within here are other e is = elim (cases_Bool (eqb other index)) [
@@ -127,7 +127,7 @@ module _ (entries : List Entry) (dates : Dates) (index : ℕ) (are : AreDates en
     go (Some (Unreadable error)) there was is = ap dated_text (are index (Unreadable error) there).is.0
     go (Some (Dated found)) there was is = cc
 
--- if the cache changes only at an index among `indices`, it has new dates only among `indices`
+-- if a cache has new dates only among `indices`, this stays true after a date is cached at one of these
 pub adds_more : (indices : List ℕ) (k : ℕ) (old mid new : Dates) → k < length indices → AddsAmong indices old mid
     → ((other : ℕ) → IsSome (date_at new other) → IsSome (date_at mid other) ⊎ (other ≡ get_or indices k 0))
     → AddsAmong indices old new

@@ -46,7 +46,7 @@ of_dates fields kind = go (fields (codes "year")) where
   go None may = absurd may
   go (Some y) may = has_date_kind (three_fields fields (plain y)) kind may
 
--- if two lists of entries have the same keys, an entry at an index of one has an own entry at that index of the other
+-- if entries have the keys of the own entries, each of them has an own entry at its index
 written_at : (own entries : List Entry) (index : ℕ) (entry : Entry) → map (λ e. e.key) entries ≡ map (λ e. e.key) own
     → slice_get entries index ≡ Some entry → (written : Entry) × (slice_get own index ≡ Some written)
 written_at own entries index entry keys there =
@@ -54,7 +54,7 @@ written_at own entries index entry keys there =
     sym (length-map entries (λ (e : Entry). e.key)) ∙ ap length keys ∙ length-map own (λ (e : Entry). e.key) in
     (get_or own index entry, slice_get-get_or own index entry (omega (arith, slice_get_within entries index entry there, as_long)))
 
--- the span of a date that can't be parsed, by the own entries
+-- the span of the date error of a resolved entry is one that `IsPlaceAt` allows by the own entries
 pub place_unread : (own entries : List Entry) (index : ℕ) (entry : Entry) (place : Range ℕ)
     → map (λ e. e.key) entries ≡ map (λ e. e.key) own → AllKeepChunks own entries → slice_get entries index ≡ Some entry
     → IsPlaceOfDate (by_name.get entry.fields) place

@@ -37,7 +37,7 @@ use Rattle.bib_inheritance.proofs.GatheredFacts.{Value, bytes_decides, has_names
 use Rattle.bib_collections.specs.Sorted.{ByText, by_bytes}
 use Rattle.bib_inheritance.specs.Resolving.{AllKeepChunks, Inherits, KeepsChunks, at_index, rule_by, texts_of_entries, texts_of_entry}
 
--- ---- what a reference offers, as chunks
+-- ---- the fields that a reference offers, as chunks
 
 styled_if : (b : Bool) (x : Option Value) → option_map styled (cond b x None) ≡ cond b (option_map styled x) None
 styled_if true x = refl
@@ -151,7 +151,7 @@ listed_first f name q rest among below =
     there None apart = refl
     there (Some value) apart = ap (λ b. cond b (Some value) (first_named rest q)) (flipped q name ∙ apart)
 
--- a name has its field in the list if it is among the names
+-- the list has the field of a name if this is among the names, and no field of any other name
 listed_finds : (f : List ℕ → Option Value) (names : Names) (q : List ℕ)
     → first_named (listed f names) q ≡ cond (is_one_of names q) (f q) None
 listed_finds f [] q = refl
@@ -248,7 +248,7 @@ date_chunks own refs = go (looks_for_date (texts_of_entry own)) where
   go true = last_chunks refs
   go false = (None, refl)
 
--- a map with the own fields, the given fields, and an inherited date in place of the own ones
+-- there is a map of the fields that `field_by` returns for the own fields, the given ones and the inherited date
 fields_by : (own : Entry) (given : List (List ℕ × Value)) (date : Option Value)
     → (fields : ByText Value) × ((name : List ℕ) → get fields name ≡ field_by date (get own.fields) (first_named given) name)
 fields_by own given None = (
@@ -269,7 +269,7 @@ pub record IsHeir (own : Entry) (refs : List Entry) (entry : Entry) : Type 0 whe
   pub is : texts_of_entry entry ≡ with_inherited_fields (texts_of_entry own) (texts_of_entries refs)
   pub keeps : KeepsChunks own entry
 
--- an own field keeps its chunks or is removed
+-- an own field keeps its chunks or is removed, if no date is inherited in place of an own field `date`
 stays_by : (date : Option Value) (own : ByText Value) (given : List ℕ → Option Value) (name : List ℕ) (chunks : Value)
     → get own name ≡ Some chunks
     → (option_map styled date ≡ None ⊎ get own (codes "date") ≡ None)

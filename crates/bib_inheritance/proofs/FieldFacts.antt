@@ -92,7 +92,7 @@ styled_by (Some date) own given name =
     (styled_if (is_one_of date_parts name) None (plain_field own given name)
     ∙ ap (cond (is_one_of date_parts name) None) (styled_plain own given name))
 
--- a field that an entry has itself isn't searched for
+-- if an entry has a field, the offered one has no effect
 plain_lacked : {A : Type 0} (own given : Option A) → first_some own (cond (is_some own) None given) ≡ first_some own given
 plain_lacked None given = refl
 plain_lacked (Some x) given = refl

@@ -96,7 +96,7 @@ gathered_none names s gathered q =
     ap (λ b. first_some (cond b (offer s q) None) (gathered_text gathered q))
     (sym (and-false (not (is_one_of never_inherited q))))
 
--- the next name is never inherited, or the reference offers nothing for it
+-- if the next name is never inherited, or the reference offers nothing for it, the map is unchanged
 pub gathered_skip : (names : Names) (i : ℕ) (s : EntryTexts) (n : List ℕ) (old new : GatheredFields) → i < length names
     → n ≡ get_or names i [] → (is_one_of never_inherited n ≡ true) ⊎ (offer s n ≡ None) → IsGathered names i s old new
     → IsGathered names (i + 1) s old new
@@ -112,7 +112,7 @@ gathered_skip names i s n old new within at none h q =
           (sym (among_other names i s q within (ap (λ x. bytes_eq x q) (sym at) ∙ t.0)))
     ]
 
--- the next name has an offer
+-- if the next name may be inherited and has an offer, the offer is inserted into the map
 pub gathered_more : (names : Names) (i : ℕ) (s : EntryTexts) (n : List ℕ) (c : Bor Value) (old mid new : GatheredFields)
     → i < length names → n ≡ get_or names i [] → is_one_of never_inherited n ≡ false → offer s n ≡ Some (styled c.now)
     → tree.UpdatesBy (λ x y. slice_cmp nat_cmp x.now y.now) (λ k. slice_cmp nat_cmp n k.now) mid new (Some c)
@@ -174,7 +174,7 @@ is_some-find q (e ∷ es) =
 pub has_names : (m : ByText Value) (q : List ℕ) → is_one_of (map (λ e. e.0) (entries m)) q ≡ is_some (fields_of m q)
 has_names m q = sym (is_some-find q (entries m)) ∙ ap is_some (sym (get-entries m q)) ∙ same_some styled (get m q)
 
--- a container is offered each field of its reference
+-- for a container, the offers among the names of a reference's fields are the fields that it inherits from this reference
 pub given_container : (entry_type : EntryType) (reference : Reference) (names : Names) (q : List ℕ)
     → is_container entry_type ≡ true → names ≡ map (λ e. e.0) (entries reference.fields.now)
     → offer_among names (texts_of_reference reference) q ≡ offered_field entry_type (texts_of_reference reference) q
@@ -193,7 +193,7 @@ given_container entry_type reference names q is all =
     same true h o = refl
     same false h o = refl
 
--- any other entry is offered the fields that its type inherits
+-- for any other type, the offers among the names that it inherits are the fields that it inherits from the reference
 pub given_other : (entry_type : EntryType) (s : EntryTexts) (q : List ℕ) → is_container entry_type ≡ false
     → offer_among (inheritable entry_type) s q ≡ offered_field entry_type s q
 given_other entry_type s q is =
@@ -209,7 +209,7 @@ given_other entry_type s q is =
     same true false o = refl
     same false h o = refl
 
--- the fields collected after one more reference from the end
+-- after one more reference from the end, the collected fields are those inherited from this reference and the ones after it
 pub given_more : (entry_type : EntryType) (refs : List Reference) (done : ℕ) (r : Reference) (old new : GatheredFields)
     → done < length refs → r ≡ get_or refs (length refs - 1 - done) r
     →
@@ -234,7 +234,7 @@ given_more entry_type refs done r old new within at adds h q =
     (inherited_field entry_type q (texts_of_references (drop (k + 1) refs)))) is
     ∙ sym next
 
--- the fields collected after one more group of names
+-- after one more group of names, the collected fields are the offers for the names of all groups so far
 pub groups_more : (groups : List (Bor (List (Bor (List ℕ))))) (i : ℕ) (d : Bor (List (Bor (List ℕ)))) (s : EntryTexts)
     (old mid new : GatheredFields) → i < length groups
     → ((q : List ℕ) → gathered_text new q ≡ first_some (offer_among (texts (get_or groups i d).now) s q) (gathered_text mid q))

@@ -15,13 +15,13 @@ use Rattle.bib_inheritance.specs.Resolving.{at_index, is_bad_date, texts_of_entr
 use Rattle.bib_inheritance.specs.Turning.{AreDates, Dates, IsUnreadDate, date_at, error_in}
 use Rattle.bib_text.proofs.ListFacts.{some_same}
 
--- one more element that fails a test
+-- if no element so far passes a test, and the next one fails it, none up to the next one passes it
 pub any_more : {A : Type 0} (test : A → Bool) (xs : List A) (i : ℕ) (d : A) → i < length xs
     → test (get_or xs i d) ≡ false → list_any test (take i xs) ≡ false → list_any test (take (i + 1) xs) ≡ false
 any_more test xs i d within not_here none =
     list_any_more test xs i d within ∙ or_from (list_any test (take i xs)) (test (get_or xs i d)) none not_here
 
--- the first element that passes a test
+-- an element that passes a test is the first such one if none before it passes
 pub find_here : {A : Type 0} (test : A → Bool) (xs : List A) (i : ℕ) (d : A) → i < length xs
     → list_any test (take i xs) ≡ false → test (get_or xs i d) ≡ true → find test xs ≡ Some (get_or xs i d)
 find_here test [] i d within none here = absurd (omega (arith, within))

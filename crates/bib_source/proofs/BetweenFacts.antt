@@ -22,7 +22,7 @@ none_added [] index line is = cc
 none_added (l ∷ lines) zero line is = cc
 none_added (l ∷ lines) (suc index) line is = none_added lines index line is
 
--- a removed line has fewer lines of the old side before it than there are before lines of both texts
+-- if only lines of both texts follow `lines`, a removed line has fewer lines of the old side before it than `lines` have
 removed_early : (lines : List Line) (end : List (Bor (List ℕ))) (index : ℕ) (line : Bor (List ℕ))
     → slice_get (lines ++ map Context end) index ≡ Some (Removed line)
     → length (old_side (take index (lines ++ map Context end))) < length (old_side lines)
@@ -45,7 +45,7 @@ added_early (Context l ∷ lines) end (suc index) line is = omega (arith, added_
 added_early (Added l ∷ lines) end (suc index) line is = omega (arith, added_early lines end index line is)
 added_early (Removed l ∷ lines) end (suc index) line is = added_early lines end index line is
 
--- a removed line after a common start and before a common end
+-- a removed line is after the common start and before the common end of the old side
 removed_between : (start : List (Bor (List ℕ))) (lines : List Line) (end : List (Bor (List ℕ))) (index : ℕ) (line : Bor (List ℕ))
     → slice_get (map Context start ++ (lines ++ map Context end)) index ≡ Some (Removed line)
     → (length start ≤ length (old_side (take index (map Context start ++ (lines ++ map Context end)))))
@@ -66,7 +66,7 @@ added_between (l ∷ start) lines end (suc index) line is =
     let rest = added_between start lines end index line is in
     (omega (arith, rest.0), omega (arith, rest.1))
 
--- the merged lines, as one hunk
+-- each changed line of the merged lines, as one hunk, is between the common ends
 pub merged_between : (old new : List (List ℕ)) (start removed added end : List (Bor (List ℕ))) (lines whole : List Line)
     → HaveCommonEnds old new (line_texts start) (line_texts removed) (line_texts added) (line_texts end)
     → old_side lines ≡ line_texts removed → new_side lines ≡ line_texts added → whole ≡ map Context start ++ (lines ++ map Context end)

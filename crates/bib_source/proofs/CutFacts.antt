@@ -1,4 +1,4 @@
--- What is true of merged lines is true of the hunks that are cut from them.
+-- Properties of merged lines are also properties of the hunks that are cut from them.
 use Rattle.std.proofs.Common.{◌≡◌, ℕ, ◌+◌, ◌-◌, ◌<◌, ◌≤◌, ◌⊎◌, inl, inr, false, List, [], ◌∷◌, ◌++◌, length, take, drop, get_or, Some, refl, ap, sym, ◌∙◌, subst, append_assoc, arith, length-append, length-drop}
 use Rattle.std.specs.List.{AllByRecursion, slice_get}
 use Rattle.std.proofs.Math.Seq.{take-append-add}
@@ -15,7 +15,7 @@ use Rattle.bib_source.proofs.EndFacts.{last_same, no_last}
 use Rattle.bib_source.proofs.HunkFacts.{joined, same_sides, unshown}
 use Rattle.bib_source.proofs.RunFacts.{cut_at}
 
--- no lines, or lines and a last one
+-- lines with a last one; a list has no lines, or it has a last one
 record HasLast (lines : List Line) : Type 0 where
   before : List Line
   line : Line
@@ -28,20 +28,20 @@ last_of (x ∷ xs) = elim (last_of xs) [
   | inr some ↦ inr (record { before = x ∷ some.before; line = some.line; is = ap (λ ls. x ∷ ls) some.is })
 ]
 
--- runs without what is after them, which begins with a line of both texts
+-- the first part of runs is runs, if the part after it begins with a line of both texts
 runs_before : (lines after : List Line) → BeginsWithContext after → AreRuns (lines ++ after) → AreRuns lines
 runs_before lines [] begins all = subst AreRuns (append-nil lines) all
 runs_before lines (Context line ∷ after) begins all = (cut_at lines after line all refl).0
 runs_before lines (Removed line ∷ after) begins all = absurd (false≢true (sym (begins (Removed line) after refl)))
 runs_before lines (Added line ∷ after) begins all = absurd (false≢true (sym (begins (Added line) after refl)))
 
--- runs after a line of both texts
+-- the lines of runs after a line of both texts are runs
 runs_after_line : (before lines : List Line) (line : Line) → is_changed line ≡ false → AreRuns (before ++ line ∷ lines) → AreRuns lines
 runs_after_line before lines (Context line) is all = (cut_at before lines line all refl).1
 runs_after_line before lines (Removed line) is all = absurd (false≢true (sym is))
 runs_after_line before lines (Added line) is all = absurd (false≢true (sym is))
 
--- runs without what is before them, which ends with a line of both texts
+-- the last part of runs is runs, if the part before it ends with a line of both texts
 runs_after : (before lines : List Line) → EndsInContext before → AreRuns (before ++ lines) → AreRuns lines
 runs_after before lines ends all = elim (last_of before) [
   | inl none ↦ subst (λ ls. AreRuns (ls ++ lines)) none all
@@ -56,7 +56,7 @@ cut_runs lines hunk all cut =
     runs_before hunk.lines cut.after cut.ends
     (runs_after cut.before (hunk.lines ++ cut.after) cut.starts (subst AreRuns cut.is all))
 
--- a line of a hunk, among all lines
+-- the line at an index of a hunk is that many lines after the start of the hunk in all lines
 get_cut : (before lines after : List Line) (index : ℕ) (line : Line) → slice_get lines index ≡ Some line
     → slice_get (before ++ (lines ++ after)) (length before + index) ≡ Some line
 get_cut before lines after index line is =
@@ -68,7 +68,7 @@ get_cut before lines after index line is =
     (get_or-append-add before (lines ++ after) index line ∙ get_or_append_left lines after line index within
     ∙ get_or_from_slice_get lines index line line is)
 
--- the lines before a line of a hunk, among all lines
+-- the lines before a line of a hunk are the lines before the hunk and the lines before this line in it
 take_cut : (before lines after : List Line) (index : ℕ) → index < length lines
     → take (length before + index) (before ++ (lines ++ after)) ≡ before ++ take index lines
 take_cut before lines after index within =
@@ -127,7 +127,7 @@ all_between old new lines hunks all cut = record {
       (λ hunk is. cut_between (length all.start) (length all.removed) (length all.added) lines hunk all.between.0 is) hunks cut;
 }
 
--- the lines of one side up to `end`, from those up to `start`
+-- the number of lines of one side up to `end` is that up to `start` plus that from `start` to `end`
 pub old_up_to : (lines : List Line) (start end : ℕ) → start ≤ end
     → length (old_side (take end lines)) ≡ length (old_side (take start lines)) + length (old_side (take (end - start) (drop start lines)))
 old_up_to lines start end low =
@@ -142,7 +142,7 @@ new_up_to lines start end low =
     ∙ ap length (new_append (take start lines) (take (end - start) (drop start lines)))
     ∙ length-append (new_side (take start lines)) (new_side (take (end - start) (drop start lines)))
 
--- a line number after skipped lines of both texts
+-- a line number grows by the number of skipped lines, if these are lines of both texts
 pub skipped_old : (lines : List Line) (at start number : ℕ) → at ≤ start → start ≤ length lines
     → AreContext (take (start - at) (drop at lines)) → number ≡ 1 + length (old_side (take at lines))
     → number + (start - at) ≡ 1 + length (old_side (take start lines))
@@ -166,7 +166,7 @@ skipped_new lines at start number low within context is =
 abbrev d : Line
 d = Context no_line
 
--- a hunk is cut out of the list of all lines if neither the line before it nor the line after it, if there is one, is shown
+-- a hunk is cut out of all lines if no line right before it or right after it is shown
 pub cut_of : (lines : List Line) (start end old new : ℕ) → start < end → end ≤ length lines
     → old ≡ 1 + length (old_side (take start lines)) → new ≡ 1 + length (new_side (take start lines))
     → (0 < start → is_visible lines (start - 1) ≡ false) → (end < length lines → is_visible lines end ≡ false)

@@ -27,7 +27,7 @@ pub no_last : {A : Type 0} (before : List A) (x : A) → [] ≡ before ++ x ∷ 
 no_last [] x is = cc
 no_last (y ∷ before) x is = cc
 
--- the last line of a list
+-- equal lists have the same last element
 pub last_same : {A : Type 0} (xs ys : List A) (x y : A) → xs ++ x ∷ [] ≡ ys ++ y ∷ [] → x ≡ y
 last_same [] [] x y is = cc
 last_same [] (z ∷ []) x y is = cc
@@ -38,7 +38,7 @@ last_same (z ∷ xs) (w ∷ ys) x y is =
     let rest : xs ++ x ∷ [] ≡ ys ++ y ∷ [] = cc in
     last_same xs ys x y rest
 
--- two lists end differently after different lines
+-- two lists whose last lines differ end differently
 pub end_differently : (old new : List (Bor (List ℕ))) (i j : ℕ) → i < length old → j < length new
     → ((get_or old i no_line).now ≡ (get_or new j no_line).now → ⊥)
     → EndDifferently (line_texts (take (i + 1) old)) (line_texts (take (j + 1) new))
@@ -52,15 +52,15 @@ pub texts_from : (lines : List (Bor (List ℕ))) (i : ℕ) → i < length lines
     → line_texts (drop i lines) ≡ (get_or lines i no_line).now ∷ line_texts (drop (i + 1) lines)
 texts_from lines i within = ap line_texts (drop_more lines i no_line within)
 
--- a list is cut at an index
+-- the lines are those before an index and those from it on
 pub texts_cut : (lines : List (Bor (List ℕ))) (i : ℕ) → line_texts lines ≡ line_texts (take i lines) ++ line_texts (drop i lines)
 texts_cut lines i = sym (ap line_texts (take-append-drop i lines)) ∙ map-append (λ l. l.now) (take i lines) (drop i lines)
 
--- the slice from an index on
+-- as many lines from an index on as there are after it are all lines from this index on
 pub rest_is : (lines : List (Bor (List ℕ))) (i : ℕ) → take (length lines - i) (drop i lines) ≡ drop i lines
 rest_is lines i = take_all (length lines - i) (drop i lines) (omega (arith, length-drop i lines))
 
--- two lists that agree in the first `start` lines, and after them in the last lines, from `i` and from `j` on
+-- two lists that agree in exactly the first `start` lines, and then in exactly the lines from `i` and `j` on, have these ends
 pub ends_of : (old new old_rest new_rest end : List (Bor (List ℕ))) (start i j : ℕ) → old_rest ≡ drop start old → new_rest ≡ drop start new
     → end ≡ drop i old_rest → line_texts (take start old) ≡ line_texts (take start new)
     → BeginDifferently (line_texts (drop start old)) (line_texts (drop start new))
@@ -81,7 +81,7 @@ ends_of old new old_rest new_rest end start i j old_is new_is end_is same first 
       end_is_longest = last;
     }
 
--- what `!=` says of two lines
+-- two lines are equal if `!=` returns false, and differ if it returns true
 pub lines_same : (old new : List ℕ) (differ : Bool) → differ ≡ not (pointwise eqb old new) → differ ≡ false → old ≡ new
 lines_same old new differ is same = (bytes_eq-Decides old new).0 (by (pointwise eqb old new) (sym is ∙ same))
   where

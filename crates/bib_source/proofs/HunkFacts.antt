@@ -24,7 +24,7 @@ make_skip {old} {new} before (make.next {hunk = hunk} {hunks = hunks} {rest = re
     (append_assoc before more (new_side hunk.lines ++ rest'))
     (make.next (before ++ more) (omega (arith, is, size)) (omega (arith, is', size)) made))
 
--- a hunk at the start, and the hunks after it
+-- a hunk at the start and the hunks after it turn the lines of both into the new ones
 pub make_hunk : (old new : ℕ) (lines : List Line) {hunks : List Hunk} {rest rest' : List (List ℕ)}
     → Make (old + length (old_side lines)) (new + length (new_side lines)) hunks rest rest'
     → Make old new ((record { old = old; new = new; lines = lines }) ∷ hunks) (old_side lines ++ rest) (new_side lines ++ rest')
@@ -125,7 +125,7 @@ hidden_context (d ∷ ls) start (suc count) within hidden =
     (λ i low high. hidden i (omega (arith, low)) (omega (arith, high))) in
     subst (λ xs. AreContext (take (suc count) xs)) (sym (drop_more lines start d within')) (first, rest)
 
--- hidden lines and one more hunk after the hunks so far
+-- the hunks so far are extended by hidden lines and one more hunk
 pub next_hunk : (lines : List Line) (at start end old new : ℕ) (made more : List Hunk) (rest rest' : List (List ℕ))
     (olds news : ℕ) → at ≤ start → start ≤ end → end ≤ length lines
     → AreContext (take (start - at) (drop at lines))
@@ -155,7 +155,7 @@ next_hunk lines at start end old new made more rest rest' olds news low high wit
     (new + (start - at) + length (new_side (take (end - start) (drop start lines)))) more rest rest') is
     (subst (λ n. Make (old + (start - at) + olds) (new + (start - at) + n) more rest rest') is' following))))
 
--- hidden lines up to the end, with no more hunk
+-- the hunks so far are extended by hidden lines up to the end, without another hunk
 pub last_lines : (lines : List Line) (at start end old new : ℕ) (made more : List Hunk) (rest rest' : List (List ℕ))
     (olds news : ℕ) → at ≤ start → start ≤ end → end ≤ length lines → end ≤ start
     → AreContext (take (start - at) (drop at lines))

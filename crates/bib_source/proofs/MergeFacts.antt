@@ -33,7 +33,7 @@ new_added : (lines : List (Bor (List ℕ))) → new_side (map Added lines) ≡ l
 new_added [] = refl
 new_added (line ∷ lines) = ap (λ ls. line.now ∷ ls) (new_added lines)
 
--- appending lines, and appending more
+-- lines that are appended in two steps are appended together
 pub extends_more : (first second third : List Line) (old new old' new' : List (List ℕ)) → Extends first second old new
     → Extends second third old' new' → Extends first third (old ++ old') (new ++ new')
 extends_more first second third old new old' new' one two = record {
@@ -74,7 +74,7 @@ extends_ends before old new start removed added end ends = record {
       ∙ sym ends.new_is;
 }
 
--- the lines up to `index`, and the line there
+-- the lines before `at`, those from `at` to `index` and the line at `index` are the lines up to and including it
 pub texts_after : (lines : List (Bor (List ℕ))) (at index : ℕ) (line : List ℕ) → at ≤ index
     → line_texts (take (index + 1) lines) ≡ line_texts (take index lines) ++ line ∷ []
     → line_texts (take at lines) ++ (line_texts (take (index - at) (drop at lines)) ++ line ∷ []) ≡ line_texts (take (index + 1) lines)
@@ -82,7 +82,7 @@ texts_after lines at index line low is =
     sym (append_assoc (line_texts (take at lines)) (line_texts (take (index - at) (drop at lines))) (line ∷ []))
     ∙ ap (λ ls. ls ++ line ∷ []) (texts_up_to lines at index low) ∙ sym is
 
--- the lines up to the end
+-- the lines before `at` and those from `at` to the end are all lines
 pub texts_to_end : (lines : List (Bor (List ℕ))) (at : ℕ) → at ≤ length lines
     → line_texts (take at lines) ++ line_texts (take (length lines - at) (drop at lines)) ≡ line_texts lines
 texts_to_end lines at low = texts_up_to lines at (length lines) low ∙ ap line_texts (take_all (length lines) lines (omega arith))

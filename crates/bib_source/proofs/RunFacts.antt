@@ -12,7 +12,7 @@ use Rattle.bib_source.specs.declared.comparison.Line.{Line}
 use Rattle.bib_source.specs.declared.comparison.Line.TheVariants.{Context, Removed, Added}
 use Rattle.bib_source.proofs.EndFacts.{no_last}
 
--- no line is a run
+-- the empty list of lines is a run
 no_run : IsRun []
 no_run = record {
   removed = [];
@@ -22,18 +22,18 @@ no_run = record {
   last = λ line before before' is is'. no_last before line is;
 }
 
--- runs, a line of both texts, and runs
+-- runs, a line of both texts and runs are together runs
 pub join : {xs ys : List Line} (line : Bor (List ℕ)) → AreRuns xs → AreRuns ys → AreRuns (xs ++ Context line ∷ ys)
 join line (runs.one run) more = runs.next line run more
 join {ys = ys} line (runs.next {run = xs} {lines = rest} first run all) more =
     subst AreRuns (sym (append_assoc xs (Context first ∷ rest) (Context line ∷ ys))) (runs.next first run (join line all more))
 
--- lines of both texts, and runs
+-- lines of both texts and runs are together runs
 context_runs : (lines : List (Bor (List ℕ))) {more : List Line} → AreRuns more → AreRuns (map Context lines ++ more)
 context_runs [] all = all
 context_runs (line ∷ lines) all = runs.next line no_run (context_runs lines all)
 
--- runs, and lines of both texts
+-- runs and lines of both texts are together runs
 pub runs_context : (xs : List Line) (lines : List (Bor (List ℕ))) → AreRuns xs → AreRuns (xs ++ map Context lines)
 runs_context xs [] all = subst AreRuns (sym (append-nil xs)) all
 runs_context xs (line ∷ lines) all =
@@ -48,7 +48,7 @@ open_context xs lines is more all =
 pub open_after : (xs : List Line) (line : Bor (List ℕ)) → AreRuns xs → IsOpen (xs ++ Context line ∷ [])
 open_after xs line all more follow = subst AreRuns (sym (append_assoc xs (Context line ∷ []) more)) (join line all follow)
 
--- what is between the common start and the common end of two lists of lines is a run
+-- the lines between the common start and the common end of two lists of lines are a run
 run_of_ends : (old new start end : List (List ℕ)) (removed added : List (Bor (List ℕ)))
     → HaveCommonEnds old new start (line_texts removed) (line_texts added) end → IsRun (map Removed removed ++ map Added added)
 run_of_ends old new start end removed added ends = record {
@@ -60,7 +60,7 @@ run_of_ends old new start end removed added ends = record {
   last = ends.end_is_longest;
 }
 
--- lines of both texts, a run and lines of both texts after lines that any runs may follow
+-- lines that any runs may follow, lines of both texts, a run and lines of both texts are together runs
 pub runs_of_ends : (xs : List Line) (old new : List (List ℕ)) (start removed added end : List (Bor (List ℕ))) → IsOpen xs
     → HaveCommonEnds old new (line_texts start) (line_texts removed) (line_texts added) (line_texts end)
     → AreRuns ((((xs ++ map Context start) ++ map Removed removed) ++ map Added added) ++ map Context end)
@@ -88,7 +88,7 @@ run_changed lines run =
     added [] = tt
     added (l ∷ ls) = (refl, added ls)
 
--- the place of a line of both texts: it isn't in a run
+-- a run of changed lines contains no line of both texts
 changed_not : (run before after : List Line) (line : Bor (List ℕ)) → AreChanged run → run ≡ before ++ Context line ∷ after → ⊥
 changed_not [] [] after line all is = cc
 changed_not [] (x ∷ before) after line all is = cc

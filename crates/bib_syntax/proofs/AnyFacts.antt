@@ -1,4 +1,4 @@
--- A match with the longest runs is a match with any runs: the mode `any` accepts what the mode `longest` does.
+-- A match with the longest runs is also a match with any runs, so the mode `any` accepts each text that the mode `longest` accepts.
 use Rattle.std.proofs.Common.{List}
 use Rattle.bib_text.specs.Places.{Place}
 use Rattle.bib_syntax.specs.Reading.{Part, Piece, FieldReading, FileReading}

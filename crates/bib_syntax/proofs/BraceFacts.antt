@@ -12,14 +12,14 @@ use Rattle.bib_text.proofs.BraceFacts.{no_parts, parts_end}
 pub same_braced : (n : ℕ) (u : Place) → SameBraced n u n u
 same_braced n u = record { there = λ x y p c. p; back = λ x y p c. p }
 
--- `SameBraced` from a place to a second one and from there to a third
+-- `SameBraced` is transitive
 pub braced_then : {n m k : ℕ} {u v w : Place} → SameBraced n u m v → SameBraced m v k w → SameBraced n u k w
 braced_then first second = record {
   there = λ x y p c. first.there x y (second.there x y p c) c;
   back = λ x y p c. second.back x y (first.back x y p c) c;
 }
 
--- if parts from `u` are parts from `v`, braces that close from `u` also close from `v`
+-- if parts from `u` up to a closing brace are also parts from `v`, the same is true of text that closes `n` open braces
 closes_map : {n : ℕ} {u v x y : Place} → ((a b : Place) → Parts u a → CharAt a 125 b → Parts v a) → ClosesOpen n u x
     → CharAt x 125 y → ClosesOpen n v x
 closes_map change (last parts) brace = last (change _ _ parts brace)
@@ -29,7 +29,7 @@ run_there : {u v x : Place} → Run is_plain u v → Parts v x → Parts u x
 run_there stop parts = parts
 run_there (step char passes rest) parts = plain char passes (run_there rest parts)
 
--- parts from a plain character up to a closing brace are parts from the place after it
+-- parts from a plain character up to a closing brace are also parts from the place after this character
 pub plain_back : {u v x y : Place} {c : ℕ} → CharAt u c v → is_plain c ≡ true → Parts u x → CharAt x 125 y → Parts v x
 plain_back char passes none brace = absurd (pass_clash is_plain char passes brace refl)
 plain_back {u} {v} {x} char passes (plain char' passes' parts) brace = subst (λ p. Parts p x) (same_char char' char).1 parts
@@ -59,7 +59,7 @@ pub record BracePair (v x : Place) : Type 0 where
   pub close : CharAt inner_end 125 following
   pub rest : Parts following x
 
--- parts from an opening brace up to a closing brace have a closing brace of their own
+-- in parts that begin with an opening brace and end before a closing brace, the opening brace has its own closing brace
 pub opened_parts : {u v x y : Place} → CharAt u 123 v → Parts u x → CharAt x 125 y → BracePair v x
 opened_parts brace none closing = absurd (char_clash brace closing refl)
 opened_parts brace (plain char passes parts) closing = absurd (pass_clash is_plain char passes brace refl)
@@ -72,7 +72,7 @@ opened_back brace (last parts) closing = let o = opened_parts brace parts closin
 opened_back brace (level parts close' rest) closing =
     let o = opened_parts brace parts close' in level o.inner o.close (level o.rest close' rest)
 
--- an opening brace before a text that closes one brace more
+-- if the text after an opening brace closes `suc n` open braces, the text from this brace on closes `n`
 pub closes_suc : {n : ℕ} {u v x : Place} → CharAt u 123 v → ClosesOpen (suc n) v x → ClosesOpen n u x
 closes_suc brace (level parts close rest) = opened_there brace parts close rest
 
@@ -133,7 +133,7 @@ parts_stuck stops brace close slash (plain char passes parts) closing = pass_cla
 parts_stuck stops brace close slash (hidden char any parts) closing = slash _ char
 parts_stuck stops brace close slash (nested char inner end rest) closing = brace _ char
 
--- no brace closes from a place without a plain character, a brace or a backslash
+-- from a place without a plain character, a brace or a backslash, no closing brace can be reached
 pub braced_stuck : {n : ℕ} {u x y : Place} → Stops is_plain u → ((v : Place) → CharAt u 123 v → ⊥)
     → ((v : Place) → CharAt u 125 v → ⊥) → ((v : Place) → CharAt u 92 v → ⊥) → ClosesOpen n u x → CharAt x 125 y → ⊥
 braced_stuck stops brace close slash (last parts) closing = parts_stuck stops brace close slash parts closing
@@ -143,16 +143,16 @@ braced_stuck stops brace close slash (level parts end rest) closing = parts_stuc
 pub closes_zero : {u x : Place} → ClosesOpen zero u x → Parts u x
 closes_zero (last parts) = parts
 
--- the text up to a closing brace with no open brace is parts of a braced text
+-- if no brace is open at a closing brace, the text up to this brace is parts of a braced text
 pub found_parts : {u v w : Place} {n : ℕ} → SameBraced zero u n v → n ≡ 0 → CharAt v 125 w → Parts u v
 found_parts {u} {v} {w} {n} same none_open close =
     closes_zero (same.there v w (subst (λ k. ClosesOpen k v v) (sym none_open) (last none)) close)
 
--- `SameBraced` with an equal second place
+-- `SameBraced` up to a place also holds up to an equal place
 pub braced_same : {n m : ℕ} {u v w : Place} → SameBraced n u m v → w ≡ v → SameBraced n u m w
 braced_same {n} {m} {u} {v} {w} all same = subst (λ p. SameBraced n u m p) (sym same) all
 
--- one brace less is open after a closing brace
+-- after a closing brace, one brace less is open, if at least one was open
 pub braced_less : {n : ℕ} {u v w : Place} (m : ℕ) → SameBraced n u m v → (m ≡ 0 → ⊥) → CharAt v 125 w → SameBraced n u (m - 1) w
 braced_less {n} {u} {v} {w} m all some close =
     let open' : m ≡ suc (m - 1) = omega arith in

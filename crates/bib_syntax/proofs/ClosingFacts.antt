@@ -11,13 +11,13 @@ use Rattle.bib_syntax.specs.OpenBraces.ClosesOpen.{last}
 use Rattle.bib_syntax.specs.declared.raw.closings.Closing.{Closing}
 use Rattle.bib_syntax.proofs.BraceFacts.{same_braced, braced_then, braced_run, braced_open, braced_close, braced_hidden, found_parts, closes_end}
 
--- moving past text that opens and closes no brace
+-- moving past a text that opens and closes no brace keeps the same braces open
 open_over : {u v : Place} (text : List ℕ) (n : ℕ) (starts : List ℕ) → ((m : ℕ) → SameBraced m u m v)
     → AreOpen text n starts u → AreOpen text n starts v
 open_over text n [] over opened = _
 open_over text n (start ∷ more) over opened = (braced_then opened.0 (over n), open_over text (suc n) more over opened.1)
 
--- moving past an opening brace, and past a closing one
+-- moving past an opening brace adds one to the number of open braces, and moving past a closing brace subtracts one
 open_more : {u v : Place} (text : List ℕ) (n : ℕ) (starts : List ℕ) → CharAt u 123 v → AreOpen text n starts u
     → AreOpen text (suc n) starts v
 open_more text n [] brace opened = _
@@ -56,7 +56,7 @@ braces_past_open {u} {v} text opened opened' found start brace here grown braces
       opens = subst (λ starts. AreOpen text zero starts v) (sym (ap reverse grown ∙ reverse_push opened start)) opens;
     }
 
--- moving past a closing brace, which closes the last open brace
+-- a closing brace closes the last open brace, if there is one
 pub braces_past_close : {u v : Place} (text opened opened' : List ℕ) (found found' : List Closing) (at : ℕ) → CharAt u 125 v
     → at ≡ u.at → ClosesLast opened found at opened' found' → AreBracesAt text opened found u → AreBracesAt text opened' found' v
 braces_past_close {u} {v} text opened opened' found found' at brace here (inl (none, none', same)) braces =
@@ -80,7 +80,7 @@ braces_past_close {u} {v} text opened opened' found found' at brace here (inr (s
       opens = open_less text zero (reverse opened') brace opens.1;
     }
 
--- moving past a backslash and the character after it, if there is one
+-- moving past a backslash and the character after it, if there is one, changes nothing
 pub braces_past_hidden : {u v w : Place} (text opened : List ℕ) (found : List Closing) (taken : Option ℕ) → CharAt u 92 v
     → MatchOption taken (AtEnd v × (w ≡ v)) (λ c. CharAt v c w) → AreBracesAt text opened found u
     → AreBracesAt text opened found w
@@ -93,7 +93,7 @@ braces_past_hidden {u} {v} {w} text opened found taken slash is braces = record 
   taken_text None ended = ap (λ p. p.text) ended.1
   taken_text (Some c) char = char.same
 
--- at the end of the text, an open brace never closes
+-- at the end of the text, no brace closes the last open brace, so it moves from `opened` to `found`
 pub braces_end : (u : Place) (text opened opened' : List ℕ) (found found' : List Closing) (n start : ℕ) → AtEnd u
     → AreClosings text found → AreOpen text n (reverse opened) u → opened ≡ opened' ++ start ∷ []
     → found' ≡ found ++ record { start = start; close = None } ∷ []

@@ -19,7 +19,7 @@ pub reports_at : {Fails : ParseErrorKind → Place → Type 0} {kind : ParseErro
     → e ≡ error_at_place kind v → Fails kind v → Reports Fails e
 reports_at v is fact = record { kind = _; place = v; fails = fact; is = is }
 
--- if one rule fails whenever another one does, the same error is reported
+-- if `Fails'` is true of each error of `Fails`, an error that is reported for `Fails` is also reported for `Fails'`
 pub reports_as : {Fails Fails' : ParseErrorKind → Place → Type 0} {e : ParseError}
     → ((kind : ParseErrorKind) (v : Place) → Fails kind v → Fails' kind v) → Reports Fails e → Reports Fails' e
 reports_as implies r = record { kind = r.kind; place = r.place; fails = implies r.kind r.place r.fails; is = r.is }
@@ -32,7 +32,7 @@ stops_either p q first second c v char = rw (first c v char, second c v char) re
 pub at_text_end : {u v : Place} → Ahead u v → AtEnd v → v ≡ text_end u
 at_text_end {u} {v} ahead end = same_place {u = v} {v = text_end u} ahead.text (subst (λ t. v.at ≡ length t) ahead.text end)
 
--- the text ends if a run stopped and no character is there
+-- the text ends if a run stopped and no character for which `Holds` is true is there
 pub ended : {Holds : ℕ → Type 0} {u : Place} → EndsOr Holds u → ((c : ℕ) (v : Place) → CharAt u c v → Holds c → ⊥) → AtEnd u
 ended (inl end) none = end
 ended (inr here) none = absurd (none here.0 here.1 here.2 here.3)
@@ -64,18 +64,18 @@ pub reported_at_end : {u v w : Place} {kind : ParseErrorKind} {e : ParseError} �
     → Ahead u v → AtEnd v → e ≡ error_at_place kind (text_end u)
 reported_at_end {u} {v} {w} {kind} {e} is same ahead end = subst (λ p. e ≡ error_at_place kind p) (same ∙ at_text_end ahead end) is
 
--- the end of the text is the same for an earlier place
+-- if `v` is ahead of `u`, and a rule fails at `text_end u`, an error at `text_end v` is reported for it
 pub reports_end : {Fails : ParseErrorKind → Place → Type 0} {kind : ParseErrorKind} {u v : Place} {e : ParseError}
     → Ahead u v → e ≡ error_at_place kind (text_end v) → Fails kind (text_end u) → Reports Fails e
 reports_end {kind = kind} {u = u} {v = v} {e = e} ahead is fact =
     reports_at (text_end u) (subst (λ t. e ≡ error_at_place kind (place t (length t))) ahead.text is) fact
 
--- no identifier is missing if one begins
+-- no identifier is missing where a character can begin one
 pub identifier_begins : {u v : Place} {kind : ParseErrorKind}
     → ((c : ℕ) × (x : Place) × CharAt u c x × (is_id_start c ≡ true)) → IdentifierFails u kind v → ⊥
 identifier_begins begins (fails.missing stops) = test_clash _ begins.3 (stops _ _ begins.2)
 
--- no piece begins at a place without a brace, a quote, a digit or a first character of an identifier
+-- no piece begins at a place without an opening brace, a quote, a digit or a first character of an identifier
 pub no_beginning : {u : Place} → ((v : Place) → CharAt u 123 v → ⊥) → ((v : Place) → CharAt u 34 v → ⊥)
     → ((c : ℕ) (v : Place) → CharAt u c v → is_ascii_digit c ≡ false)
     → ((c : ℕ) (v : Place) → CharAt u c v → is_id_start c ≡ false)
@@ -93,13 +93,13 @@ reported_same {u} {v} {kind} {e} is same = subst (λ p. e ≡ error_at_place kin
 pub stops_unless : (test : ℕ → Bool) {u : Place} → ((c : ℕ) (v : Place) → CharAt u c v → test c ≡ true → ⊥) → Stops test u
 stops_unless test none c v char = false_from_ne_true (test c) (none c v char)
 
--- the text ends if a search for a closing brace stopped and no brace is there
+-- the text ends if a search for a closing brace stopped and no closing brace is there
 pub comment_at_end : {Holds : ℕ → Type 0} {u : Place} → EndsOr Holds u → ((c : ℕ) → Holds c → c == 125 ≡ true)
     → ((v : Place) → CharAt u 125 v → ⊥) → AtEnd u
 comment_at_end stopped is_close none =
     ended stopped (λ c v char holds. test_clash (c == 125) (is_close c holds) (stops_without 125 none c v char))
 
--- the error that is reported for a file from an equal place
+-- the error of a file is out of memory, or it is also the reported error of the file from an equal place
 pub reported_from : {u v : Place} {text : List ℕ} {e : ParseError} → u ≡ v → Refuses text e (Reports (FileFails u) e)
     → (e ≡ out_of_memory) ⊎ Reports (FileFails v) e
 reported_from same (inl memory) = inl memory

@@ -68,7 +68,7 @@ body_inside (body.preamble quoted white close is_close) = char_inside close
 body_inside (body.strings fields close) = char_inside close
 body_inside (body.entry a key white comma gap fields close) = char_inside close
 
--- an error of the grammar, reported at a place ahead that isn't after the end of the text
+-- an error of the grammar, reported at a place `v` ahead of `u`; `v` isn't after the end of the text if `u` isn't
 record IsLater (u : Place) (kind : ParseErrorKind) (v : Place) : Type 0 where
   syntax : IsTrue (is_syntax kind)
   ahead : Ahead u v

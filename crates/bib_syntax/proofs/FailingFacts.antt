@@ -1,4 +1,4 @@
--- From which offsets parsing fields fails with the same error as from a later place.
+-- Offsets from which parsing fields fails with the same error as from a later place.
 use Rattle.std.proofs.Common.{◌≡◌, ◌≢◌, ℕ, Bool, true, false, cond, List, [], ◌∷◌, ◌++◌, Some, IfSome, BTreeMap, nat_cmp, refl, sym, subst, inl, inr}
 use Rattle.std.specs.BTreeMap as tree
 use Rattle.std.proofs.lemmas.List.Elements.{All-push, All-nil, All-same}
@@ -13,11 +13,11 @@ use Rattle.bib_syntax.specs.declared.raw.ParseError.{ParseError}
 use Rattle.bib_syntax.specs.declared.raw.ParseErrorKind.{ParseErrorKind}
 use Rattle.bib_syntax.proofs.ErrorFacts.{reports_as}
 
--- if parsing fields fails at `here` with an error, it fails with this error from each of `starts`, if it does from `before`
+-- if parsing fields fails at `here` and from each of `before` with one error of the grammar, it does so from each of `starts`
 pub record FailBefore (text : List ℕ) (before starts : List ℕ) (here : Place) : Type 0 where
   pub each : (e : ParseError) → IsSyntaxError text e → Reports (FieldsFails here) e → AllFail text e before → AllFail text e starts
 
--- no offset was added yet
+-- at first, the offsets are the ones in `before`
 pub none_more : (text before : List ℕ) (here : Place) → FailBefore text before before here
 none_more text before here = record { each = λ e error fails all. all }
 
@@ -35,12 +35,12 @@ here_fails {text} {starts = starts} at read same is = record {
   each = λ e error fails all. All-push (FailsAt text e) starts at (read.each e error fails all) (fails_at at same is error fails);
 }
 
--- the current place can move to a later one if each failure from there is a failure from here
+-- the current place can move to another one if each failure from there is a failure from here
 pub further_fails : {text before starts : List ℕ} {here there : Place} → FailBefore text before starts here
     → ((kind : ParseErrorKind) (v : Place) → FieldsFails there kind v → FieldsFails here kind v) → FailBefore text before starts there
 further_fails read implies = record { each = λ e error fails all. read.each e error (reports_as implies fails) all }
 
--- if parsing fails with an error of the grammar, it fails with this error from each of the offsets
+-- if parsing fails at `here` and from each of `before` with an error that isn't out of memory, it does so from each of `starts`
 pub each_fails : {text before starts : List ℕ} {here : Place} {e : ParseError} (P : Type 0)
     → FailBefore text before starts here → here.text ≡ text → (P → Reports (FieldsFails here) e)
     → Refuses here.text e P → e ≢ out_of_memory → AllFail text e before → AllFail text e starts

@@ -243,7 +243,7 @@ fields_unread (fields_fail.ended none white end) (fields.none white') close =
 fields_unread (fields_fail.ended none white end) (fields.last x g) close = field_named x none
 fields_unread (fields_fail.ended none white end) (fields.more x g sign h rest) close = field_named x none
 
--- fields that fail after a field and a comma fail in the same way as the rest after them
+-- if fields that begin with a complete field and a comma fail, the fields after the comma fail with the same error
 fails_after : {u a b c d v : Place} {k : ParseErrorKind} {f : FieldReading} → Field longest u f a → Gap longest a b
     → CharAt b 44 c → Gap longest c d → FieldsFails u k v → FieldsFails d k v
 fails_after x g sign h (fields_fail.first f) = absurd (field_unread f x)

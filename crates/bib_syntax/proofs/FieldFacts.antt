@@ -48,7 +48,7 @@ element_read {start} {u} {a} {b} {c} {d} {ps} e read one white sign white' = rec
   fails = λ kind v f. read.fails kind v (elements_fail.more one white sign white' f);
 }
 
--- the last piece
+-- the last piece, without a # after it: the pieces are complete
 pub elements_found : {start u a b : Place} {ps : List Piece} (e : Piece) → ElementsRead start ps u
     → Element longest u e a → Longest is_whitespace a b → ((x : Place) → CharAt b 35 x → ⊥)
     → Elements longest start (ps ++ e ∷ []) b
@@ -72,12 +72,12 @@ field_read f read one g sign h = record {
   fails = λ kind v x. read.fails kind v (fields_fail.more one g sign h x);
 }
 
--- the last field, without a comma after it
+-- the last field, without a comma after it: the fields are complete
 pub fields_last : {start u a b : Place} {fs : List FieldReading} (f : FieldReading) → FieldsRead start fs u
     → Field longest u f a → Gap longest a b → Fields longest start (fs ++ f ∷ []) b
 fields_last f read one g = read.there _ _ (fields.last one g)
 
--- the fields end after white space
+-- white space without a further field: the fields are complete
 pub fields_end : {start u v : Place} {fs : List FieldReading} → FieldsRead start fs u → Longest is_whitespace u v
     → Fields longest start fs v
 fields_end {start} {u} {v} {fs} read white = subst (λ gs. Fields longest start gs v) (append-nil fs) (read.there _ _ (fields.none white))
@@ -130,7 +130,7 @@ ahead_fields (fields.more f g s h rest) =
     ahead_then (ahead_field f)
     (ahead_then (ahead_gap g) (ahead_then (ahead_char s) (ahead_then (ahead_gap h) (ahead_fields rest))))
 
--- an error at a place ahead is an error at an earlier place
+-- an error in the text of a place ahead is an error in the text of the earlier place, with `Q` if `P` implies it
 pub refuses_from : {u v : Place} {e : ParseError} (P Q : Type 0) → Ahead u v → (P → Q) → Refuses v.text e P → Refuses u.text e Q
 refuses_from P Q ahead implies (inl memory) = inl memory
 refuses_from P Q ahead implies (inr error) = inr (error_back ahead error.0, implies error.1)

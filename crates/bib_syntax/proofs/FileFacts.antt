@@ -83,7 +83,7 @@ ahead_body (body.entry a key white comma gap fields close) =
 pub ahead_block : {u v : Place} {r : FileReading} → Block longest u r v → Ahead u v
 ahead_block b = ahead_then (ahead_head b.head) (ahead_body b.body)
 
--- the body of a block comes after its head
+-- the body of a block begins where any match of its head ends
 pub body_at : {u a v : Place} {p : Part} {r : FileReading} → Head longest u p a → (b : Block longest u r v)
     → Body longest u p (block_kind p.text) a r v
 body_at {u} {a} {v} {p} {r} head b =
@@ -160,7 +160,7 @@ skip_there : {u v : Place} {r : FileReading} → Run is_skipped u v → File lon
 skip_there stop x = x
 skip_there (step char passes rest) x = file.skipped char passes (skip_there rest x)
 
--- the rest of a file after a skipped character, and after a line comment, is a file
+-- the rest of a file after a skipped character is a file with the same content
 pub skipped_rest : {u v : Place} {c : ℕ} {r : FileReading} → CharAt u c v → is_skipped c ≡ true → File longest u r → File longest v r
 skipped_rest char passes (file.end end) = absurd (no_char_at_end end char)
 skipped_rest {r = r} char passes (file.skipped char' passes' x) = subst (λ y. File longest y r) (same_char char' char).1 x
@@ -194,7 +194,7 @@ first_block sign (file.skipped char passes x) = absurd (pass_clash is_skipped ch
 first_block sign (file.line_comment m x) = absurd (char_clash sign m.sign refl)
 first_block sign (file.block b x) = record { following = _; first = _; rest = _; block = b; left = x; whole = refl }
 
--- characters outside of blocks and line comments are skipped
+-- skipped characters add no content
 pub skip_read : {start u v : Place} {says : FileReading} → FileRead start says u → Longest is_skipped u v → FileRead start says v
 skip_read read run = record {
   there = λ r x. read.there r (skip_there run.run x);
@@ -216,7 +216,7 @@ block_read {start} {u} {v} {says} {first} read b = record {
   fails = λ kind w f. read.fails kind w (file_fail.more b f);
 }
 
--- the whole file
+-- at the end of the text, the parsed content is a raw reading from `start`
 pub file_found : {start u : Place} {says : FileReading} → FileRead start says u → AtEnd u → File longest start says
 file_found {start} {u} {says} read end =
     subst (λ r. File longest start r) (then-empty_reading says) (read.there empty_reading (file.end end))
@@ -261,7 +261,7 @@ entry_found {u} {s} {a} {b} {c} {d} {z} {w} {fs} kind key start end starts ends 
     ∙ ap (says_entry key kind fs start) (sym ends) in
     subst (λ r. Body longest u kind BlockKind.entry s r w) same (body.entry a run white comma gap fields close)
 
--- fewer bytes are left after a block, after a line comment, and after a run of skipped characters
+-- after a block less of the text is left
 pub block_smaller : {u v : Place} {r : FileReading} → Block longest u r v → length v.text - v.at < length u.text - u.at
 block_smaller {u} b =
     let h = b.head in

@@ -124,7 +124,7 @@ file_unread (file_fail.more b f) x =
     file_unread f (subst (λ z. File longest z first.rest) (block_same first.block b).1 first.left)
 file_unread (file_fail.first f) x = let first = first_block (fail_sign f).1 x in block_unread f first.block
 
--- a file that fails after a skipped character, a line comment or a block fails in the same way as the rest after it
+-- if a file that begins with a skipped character, a line comment or a block fails, the rest after it fails with the same error
 skipped_fails : {u v w : Place} {c : ℕ} {k : ParseErrorKind} → CharAt u c v → is_skipped c ≡ true → FileFails u k w → FileFails v k w
 skipped_fails {w = w} {k = k} char passes (file_fail.skipped char' passes' f) = subst (λ x. FileFails x k w) (same_char char' char).1 f
 skipped_fails char passes (file_fail.line_comment m f) = absurd (pass_clash is_skipped char passes m.sign refl)

@@ -73,7 +73,7 @@ head_outcome at_sign left = elim (name_outcome left) [
 abbrev BodyAt : Place → Part → BlockKind → Place → Place → Type 0
 BodyAt start p k u v = (says : FileReading) × Body longest start p k u says v
 
--- a run of characters other than one doesn't stop at another character
+-- a truth value and its negation aren't both false
 other_stops : (b : Bool) → b ≡ false → not b ≡ false → ⊥
 other_stops b fails stops = cc
 
@@ -176,14 +176,14 @@ file_map says found failed (inl r) = inl (says r.0, found r.0 r.1)
 file_map says found failed (inr e) =
     inr (e.0, record { kind = e.1.kind; place = e.1.place; fails = failed e.1.kind e.1.place e.1.fails; is = e.1.is })
 
--- what comes next in a file: its end, a skipped character, a line comment or an at sign
+-- the next step in a file: its end, a skipped character, a line comment or an at sign
 data Step (n : ℕ) (u : Place) : Type 0 where
   ended : AtEnd u → Step n u
   skipped : {m c : ℕ} {v : Place} → CharAt u c v → is_skipped c ≡ true → Left m v → m < n → Step n u
   line_comment : {m : ℕ} {v : Place} → LineComment u v → Left m v → m < n → Step n u
   at_sign : {m : ℕ} {v : Place} → CharAt u 64 v → Left m v → m < n → Step n u
 
--- one of these four comes next
+-- one of these four steps applies at each place
 next_step : {n : ℕ} {u : Place} → Left n u → Step n u
 next_step (Left.none end) = Step.ended end
 next_step (Left.more {c = c} char rest) = elim (cases_Bool (c == 64)) [
@@ -217,7 +217,7 @@ file_case (suc bound) below left = elim (next_step left) [
 
 -- ---- recovery
 
--- an at sign that begins a line is at a place, or it isn't
+-- an at sign begins a line at a place, or none does
 line_case : {u v : Place} (c : ℕ) → CharAt u c v → BeginsLine u ⊎ (BeginsLine u → ⊥)
 line_case {u} {v} c char = elim (cases_Bool (c == 64)) [
   | inr no_at ↦ inr (λ line. char_clash char line.1 no_at)
@@ -242,7 +242,7 @@ goes_on_found {u = u} (Left.more {c = c} char rest) =
           found_as (omega arith) following later
     ]
 
--- ---- what is kept of a skipped block
+-- ---- the parts that are kept of a skipped block
 
 -- an opening from one place to the other
 abbrev OpeningAt : Place → Place → Type 0
@@ -261,7 +261,7 @@ comments_found (suc bound) below left =
           found_as (omega (arith, white.fits, less, line.fits)) more (comments.more white.rule line.rule more.rule)
     ]
 
--- the opening of a block is complete or not
+-- at an at sign, a block has an opening or it has none
 opening_found : {n : ℕ} {u v : Place} → CharAt u 64 v → Left n v
     → RuleEnd n (OpeningAt u) ⊎ ((kind : Part) (w : Place) → Opening u kind w → ⊥)
 opening_found char left = elim (name_outcome left) [

@@ -1,4 +1,4 @@
--- What is kept of a block that can't be parsed: at each at sign, exactly one reading.
+-- The complete parts of a block that can't be parsed: from each place, at most one reading is kept.
 use Rattle.std.proofs.Common.{◌≡◌, ◌≢◌, ℕ, zero, suc, ◌+◌, ◌-◌, ◌≤◌, arith, length, drop, Bool, true, false, if◌then◌else◌, List, [], ◌∷◌, ◌++◌, Result, Ok, Err, IfOk, inl, inr, refl, sym, ap, ◌∙◌, subst, append_assoc, append-nil}
 use Rattle.std.specs.Prelude.{take, encode_utf8, ◌==◌}
 use Rattle.std.specs.Char.{is_whitespace, len_utf8}
@@ -58,7 +58,7 @@ char_cut {u} {v} {c} end char within =
 end_cut : (text : List ℕ) (end : ℕ) → end ≤ length text → AtEnd (place (take end text) end)
 end_cut text end within = sym (length-take-le end text within)
 
--- the characters from one place to another are all that is left in the text up to the other
+-- in the text up to a place, some number of characters is left from an earlier place
 pub left_cut : {u w : Place} → Passed u w → u.at ≤ length u.text → (n : ℕ) × Left n (place (take w.at w.text) u.at)
 left_cut {u} passed.stop within = (zero, Left.none (end_cut u.text u.at within))
 left_cut {u} {w} (passed.step {v = v} {c = c} char other rest) within =
@@ -78,7 +78,7 @@ opening_same a b =
     let bracket = (same_char (subst (λ x. CharAt x a.bracket a.after) white a.opens) b.opens).1 in
     (name.0, longest_same (moved (Longest is_whitespace) bracket a.white') b.white')
 
--- the place where the bracket of an opening is
+-- the bracket of an opening is where any match of the at sign, the name and the white space ends
 pub bracket_place : {u x a b : Place} {p q : Part} {v : Place} → CharAt u 64 x → Identifier longest x p a
     → Longest is_whitespace a b → (o : Opening u q v) → b ≡ o.before
 bracket_place {q = q} sign name white o =
@@ -108,7 +108,7 @@ ahead_comments (comments.white w stops) = ahead_run w.run
 ahead_comments (comments.more w r rest) =
     ahead_then (ahead_run w.run) (ahead_then (ahead_char r.sign) (ahead_then (ahead_run r.line.run) (ahead_comments rest)))
 
--- white space and line comments from `start` to white space at `here`
+-- white space and line comments from `start` to `here`, of which the last is the longest white space
 pub record CommentsSoFar (start here : Place) : Type 0 where
   pub before : Place
   pub white : Longest is_whitespace before here
@@ -125,7 +125,7 @@ comments_more {v = v} read line white = record {
   all = λ x rest. read.all x (comments.more read.white line rest);
 }
 
--- no more line comment
+-- if no further line comment begins, the white space and line comments are complete
 pub comments_all : {start here : Place} → CommentsSoFar start here → Stops (λ c. c == 37) here → Comments start here
 comments_all read stops = read.all _ (comments.white read.white stops)
 
@@ -135,7 +135,7 @@ comments_all read stops = read.all _ (comments.white read.white stops)
 pub nameless : {u : Place} → Stops is_id_start u → NoField u
 nameless stops f v field = field_named field stops
 
--- no field is complete where parsing one fails
+-- no field is complete where parsing one fails with an error other than out of memory
 pub no_field : {u : Place} {e : ParseError} → Refuses u.text e (Reports (FieldFails u) e) → e.kind ≢ OutOfMemory → NoField u
 no_field (inl no_room) some f v field = absurd (some (ap (λ error. error.kind) no_room))
 no_field (inr refused) some f v field = field_unread refused.1.fails field
@@ -159,7 +159,7 @@ pub kept_last : {start u a b : Place} {fs : List FieldReading} (f : FieldReading
     → Comments a b → Stops (λ c. c == 44) b → CompleteFields start (fs ++ f ∷ []) b
 kept_last f read one g stops = read.all _ _ (complete.last one g stops)
 
--- no more field
+-- if no further field is complete, the fields so far are all complete fields
 pub kept_all : {start u : Place} {fs : List FieldReading} → KeptSoFar start fs u → NoField u → CompleteFields start fs u
 kept_all {start} {u} {fs} read none = subst (λ gs. CompleteFields start gs u) (append-nil fs) (read.all _ _ (complete.none none))
 
@@ -181,7 +181,7 @@ cut_found {u} {s} {a} {z = z} {fs} kind key start end starts ends reading run wh
     ∙ ap (says_entry key kind fs start) (sym ends) in
     subst (λ r. KeptBody u kind BlockKind.entry s r) same (kept_body.entry run white comma gap fields)
 
--- what follows from a fact about the value if the result is `Ok`
+-- if a fact is true of the value of an `Ok`, so is each consequence of this fact
 pub if_ok : {A E : Type 0} {P Q : A → Type 0} (r : Result A E) → IfOk r P → ((x : A) → P x → Q x) → IfOk r Q
 if_ok (Ok x) holds f = f x holds
 if_ok (Err e) holds f = holds
@@ -190,7 +190,7 @@ if_ok (Err e) holds f = holds
 pub unopened_at : {u here : Place} → u ≡ here → ((kind : Part) (v : Place) → Opening u kind v → ⊥) → Kept here empty_reading
 unopened_at same absent = subst (λ w. Kept w empty_reading) same (kept.unopened absent)
 
--- what is kept after an opening of a known kind
+-- a block with an opening keeps the complete parts of its body
 pub kept_at : {u v here : Place} {kind : Part} {k : BlockKind} {says : FileReading} → u ≡ here → Opening u kind v
     → k ≡ block_kind kind.text → ((w : Place) → w.at ≡ here.at → KeptBody w kind k v says) → Kept here says
 kept_at {u} {v} {here} {kind} {says = says} same opening is body =
@@ -199,7 +199,7 @@ kept_at {u} {v} {here} {kind} {says = says} same opening is body =
 
 -- ---- only one reading is kept
 
--- complete fields are followed by one list of fields
+-- two lists of complete fields from one place are equal and end at the same place
 pub complete_same : {u v w : Place} {fs gs : List FieldReading} → CompleteFields u fs v → CompleteFields u gs w → (fs ≡ gs) × (v ≡ w)
 complete_same (complete.none absent) (complete.none absent') = (refl, refl)
 complete_same (complete.none absent) (complete.last f g stops) = absurd (absent _ _ f)
@@ -260,7 +260,7 @@ kept_same {u} {r} {s} (kept.block {v = v} {kind = kind} opening body) (kept.bloc
 
 -- ---- each entry that is kept is the only part that is kept, and begins at the block
 
--- the entry `e` begins at `u`, and is what is kept of the block there
+-- the entry `e` begins at `u`, and is the only kept part of the block there
 abbrev IsKeptAt : Place → EntryReading → Type 0
 IsKeptAt u e = (e.start ≡ u.at) × Kept u (entry_alone e)
 

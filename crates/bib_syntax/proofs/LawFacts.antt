@@ -1,4 +1,4 @@
--- A text has at most one raw reading: in the mode `longest`, each rule has at most one end and one reading from a place
+-- A text has at most one raw reading. In the mode `longest`, each rule has at most one end and one reading from a place
 -- (lemmas `.._same`).
 use Rattle.std.proofs.Common.{◌≡◌, ℕ, true, false, List, [], ◌∷◌, refl, sym, ap, ◌∙◌, subst}
 use Rattle.std.specs.Prelude.{not, ◌&&◌, ◌||◌, ◌==◌}

@@ -11,7 +11,7 @@ use Rattle.bib_text.specs.Places.Run.{stop, step}
 use Rattle.bib_text.proofs.PlaceFacts.{char_here, char_left, stops_at, stops_at_end}
 use Rattle.bib_syntax.specs.declared.raw.ParseErrorKind.{ParseErrorKind}
 
--- at most this number of characters are from a place to the end of its text
+-- the text from a place to its end has at most this number of characters
 pub data Left : ℕ → Place → Type 0 where
   none : {n : ℕ} {u : Place} → AtEnd u → Left n u
   more : {n : ℕ} {u v : Place} {c : ℕ} → CharAt u c v → Left n v → Left (suc n) u
@@ -21,7 +21,7 @@ pub end_or_char : {n : ℕ} {u : Place} → Left n u → AtEnd u ⊎ ((c : ℕ) 
 end_or_char (Left.none end) = inl end
 end_or_char (Left.more char rest) = inr (_, _, char)
 
--- the characters of the rest of a text from an offset
+-- if the rest of a text from an offset encodes `cs`, at most as many characters are left there as `cs` has
 spelled : (cs text : List ℕ) (at : ℕ) → at ≤ length text → drop at text ≡ encode_utf8_all cs → Left (length cs) (place text at)
 spelled [] text at within rest =
     let left : length (drop at text) ≡ 0 = ap length rest in
@@ -30,7 +30,7 @@ spelled (c ∷ cs) text at within rest =
     let char = char_here text (encode_utf8_all cs) at c rest in
     Left.more char (spelled cs text (at + len_utf8 c) (char_left char) (drop_past_char text (encode_utf8_all cs) at c rest))
 
--- the number of characters of a text in UTF-8
+-- the number of characters of a UTF-8 text has a bound
 pub text_left : (text : List ℕ) → IsUtf8 text → (n : ℕ) × Left n (place text 0)
 text_left text utf8 = (_, spelled utf8.0 text 0 (omega arith) (sym utf8.1.1))
 

@@ -22,7 +22,7 @@ use Rattle.bib_syntax.specs.Grammar.{File as file}
 use Rattle.bib_syntax.specs.Grammar.{BlockKind}
 use Rattle.bib_syntax.proofs.LawFacts.{start_not_white, key_dark}
 
--- white space isn't in any other class of characters that the grammar has runs of
+-- a character of white space is not allowed in an identifier or in a key, and isn't a point
 
 white_not_continue : (c : ℕ) → is_whitespace c ≡ true → is_id_continue c ≡ false
 white_not_continue c white = and_right (not (is_delimiter c) && not (is_control c)) (not (is_whitespace c)) (not_from_true _ white)
@@ -33,7 +33,7 @@ white_not_key c white = and_right (not (c == 44 || c == 125) && not (is_control 
 white_not_point : (c : ℕ) → is_whitespace c ≡ true → c == 46 ≡ false
 white_not_point c white = grind (arith, nat_tests)
 
--- no character of a class without white space is at the start of white space with a failing character after it
+-- a test that fails for white space and for the character after it also fails at the start of this white space
 stops_before : (test : ℕ → Bool) {u v x : Place} {c : ℕ} → ((d : ℕ) → is_whitespace d ≡ true → test d ≡ false)
     → Run is_whitespace u v → CharAt v c x → test c ≡ false → Stops test u
 stops_before test apart stop char fails = stops_at test char fails
@@ -197,7 +197,7 @@ elements_longest (elements.more {w = w} {x = b} e white sign white' rest) g char
       rest = more.rest;
     }
 
--- a name followed by white space and a character that can't continue a name
+-- a name is as long as possible if white space and a character that can't continue a name follow it
 name_longest : {u v w x : Place} {p : Part} {c : ℕ} → Identifier any u p v → Run is_whitespace v w → CharAt w c x
     → is_id_continue c ≡ false → Identifier longest u p v
 name_longest i white char fails = record {
@@ -262,7 +262,7 @@ close_visible {v} {y} {k} char close = record {
   no_line_comment = close_not_percent k close;
 }
 
--- fields that begin after the longest white space
+-- fields with the longest runs that end at `v`
 record FieldsLongest (v : Place) : Type 0 where
   start : Place
   says : List FieldReading

@@ -29,7 +29,7 @@ run_there : {u v x : Place} → Run is_quotable u v → QuotedParts v x → Quot
 run_there stop parts = parts
 run_there (step char passes rest) parts = plain char passes (run_there rest parts)
 
--- parts from a plain character up to a quote are parts from the place after it
+-- parts from a plain character up to a quote are also parts from the place after this character
 pub plain_back : {u v x y : Place} {c : ℕ} → CharAt u c v → is_quotable c ≡ true → QuotedParts u x → CharAt x 34 y → QuotedParts v x
 plain_back char passes none quote = absurd (pass_clash is_quotable char passes quote refl)
 plain_back {u} {v} {x} char passes (plain char' passes' parts) quote = subst (λ p. QuotedParts p x) (same_char char' char).1 parts
@@ -39,11 +39,11 @@ run_back : {u v x y : Place} → Run is_quotable u v → QuotedParts u x → Cha
 run_back stop parts quote = parts
 run_back (step char passes rest) parts quote = run_back rest (plain_back char passes parts quote) quote
 
--- moving past a run of plain characters
+-- moving past a run of plain characters doesn't change which quote closes the text
 pub quoted_run : {u v : Place} → Run is_quotable u v → SameQuoted u v
 quoted_run run = record { there = λ x y p c. run_there run p; back = λ x y p c. run_back run p c }
 
--- no quote closes a quoted text after the end of the text
+-- from the end of the text, no quote closes a quoted text
 quoted_end : {u x y : Place} → AtEnd u → QuotedParts u x → CharAt x 34 y → ⊥
 quoted_end end none quote = no_char_at_end end quote
 quoted_end end (plain char passes parts) quote = no_char_at_end end char
@@ -63,7 +63,7 @@ hidden_end_back slash end (plain char passes parts) quote = pass_clash is_quotab
 hidden_end_back slash end (hidden {w = w'} {c = c'} slash' char' parts) quote =
     no_char_at_end end (subst (λ p. CharAt p c' w') (same_char slash' slash).1 char')
 
--- moving past a backslash and the character after it, if there is one
+-- moving past a backslash and the character after it, if there is one, doesn't change which quote closes the text
 pub quoted_hidden : {u v w : Place} (taken : Option ℕ) → CharAt u 92 v
     → MatchOption taken (AtEnd v × (w ≡ v)) (λ c. CharAt v c w) → SameQuoted u w
 quoted_hidden {u} {v} {w} None slash ended = record {

@@ -42,7 +42,7 @@ pub other_passed : {u v : Place} → Run (λ c. not (c == 64)) u v → Passed u 
 other_passed stop = passed.stop
 other_passed (step char other rest) = passed.step char (λ line. pass_clash (λ c. not (c == 64)) char other line.1 refl) (other_passed rest)
 
--- recovery continues at exactly one place
+-- where recovery continues, each character is an at sign that begins a line
 no_step : {u v : Place} {c : ℕ} → AtEnd u ⊎ BeginsLine u → CharAt u c v → (BeginsLine u → ⊥) → ⊥
 no_step (inl end) char other = no_char_at_end end char
 no_step (inr line) char other = other line
@@ -86,7 +86,7 @@ block_recovered {keeps} {start} says {first} errors read b more others x =
     subst (λ r. Recovered keeps start r (errors ++ others)) (sym (then-then says first more))
     (read (then first more) others (recovered.block b x))
 
--- a skipped block adds its error and what is kept of it
+-- a skipped block adds its error and its kept parts
 pub unread_recovered : {keeps : Bool} {start u v w : Place} {e : ParseError} {kept : FileReading} (says : FileReading)
     (errors : List SkippedBlock) → RecoveredTo keeps start says errors u → CharAt u 64 v → IsUnreadBlock u e → GoesOnAt v w
     → Keeps keeps u w kept → RecoveredTo keeps start (then says kept) (errors ++ skipped_block e u w ∷ []) w
@@ -123,7 +123,7 @@ all_read (recovered.skipped char other rest) = file.skipped char other (all_read
 all_read (recovered.line_comment line rest) = file.line_comment line (all_read rest)
 all_read (recovered.block block rest) = file.block block (all_read rest)
 
--- ---- the search for the next line that begins with an at sign
+-- ---- the search for the next at sign that begins a line
 
 at_sign_here : {u v : Place} (c : ℕ) → CharAt u c v → false ≡ not (c == 64) → (w : Place) × CharAt u 64 w
 at_sign_here {u} {v} c char other = (v, subst (λ x. CharAt u x v) (eqb-true c 64 (true_from_not (c == 64) other)) char)
@@ -168,16 +168,16 @@ search_smaller w taken run (going, blank) is =
 
 -- ---- one more block, or one more skipped block
 
--- the place after a jump to the offset of another reader is the place of this reader
+-- a reader that jumps to the offset of another reader is at the place of the other reader
 pub follows : {u v w : Place} (at : ℕ) → Ahead u v → at ≡ v.at → w ≡ place u.text at → w ≡ v
 follows {u} {v} at ahead is jump = jump ∙ same_place {u = place u.text at} {v = v} (sym ahead.text) is
 
--- what follows from a fact that is true if the result is `Ok`
+-- if a fact is true for an `Ok`, so is each consequence of this fact
 pub on_ok : {E P Q : Type 0} (r : Result (Unit {0}) E) → OnOk r P → (P → Q) → OnOk r Q
 on_ok (Ok done) h f = f h
 on_ok (Err e) h f = h
 
--- what follows from three facts that are true if the result is `Ok`
+-- if three facts are true for an `Ok`, so is each consequence of the three
 pub all_ok : {E P Q R S : Type 0} (r : Result (Unit {0}) E) → OnOk r P → OnOk r Q → OnOk r R → (P → Q → R → S) → OnOk r S
 all_ok (Ok done) p q r f = f p q r
 all_ok (Err e) p q r f = p
@@ -219,7 +219,7 @@ sign_in_cut {v} {text} {cut} {start} {end} sign on is =
     let char : CharAt (place (take end text) start) 64 (place (take end text) v.at) = char_cut end sign (ahead_passed on.passed).at in
     (place (take end text) v.at, subst (λ t. CharAt (place t start) 64 (place (take end text) v.at)) (sym is) char)
 
--- a character boundary is at an at sign
+-- the offset of an at sign is a character boundary
 pub sign_boundary : {u v : Place} → CharAt u 64 v → IsCharBoundary u.text u.at
 sign_boundary {u} {v} sign =
     let byte : get_or u.text u.at 0 ≡ 64 =
@@ -227,14 +227,14 @@ sign_boundary {u} {v} sign =
     let left = char_left sign in
     IsCharBoundary-before_ascii u.text u.at (omega (arith, left, (len_utf8_bounds 64).0)) (subst (λ b. b < 128) (sym byte) (lit< tt))
 
--- what is kept of the text up to the end of a skipped block is what recovery keeps
+-- the complete parts of a skipped block in the text up to its end are the parts that recovery keeps
 pub parts_kept : {text cut : List ℕ} {start end : ℕ} {says : FileReading} → cut ≡ take end text → Kept (place cut start) says
     → Keeps true (place text start) (place text end) says
 parts_kept {start = start} {says = says} is kept = keep.parts (subst (λ t. Kept (place t start) says) is kept)
 
 -- ---- a text has at most one recovery
 
--- the recovery of the rest after a skipped character, after a line comment and after a block
+-- the rest after a skipped character or a line comment has the same recovery
 skipped_left : {keeps : Bool} {u v : Place} {c : ℕ} {r : FileReading} {errors : List SkippedBlock} → CharAt u c v
     → is_skipped c ≡ true → Recovered keeps u r errors → Recovered keeps v r errors
 skipped_left char passes (recovered.end end) = absurd (no_char_at_end end char)
@@ -352,13 +352,13 @@ entries_stand text same (recovered.block {first = first} {rest = rest} b x) =
 entries_stand text same (recovered.unread sign none on keep.nothing x) =
     entries_stand text ((ahead_passed on.passed).text ∙ (sign.same ∙ same)) x
 
--- a cut entry of some skipped blocks is one of these blocks and another one before them
+-- an entry that is a block, or the kept part of one of `errors`, stays so if `block` is prepended to `errors`
 cut_later : (text : List ℕ) (block : SkippedBlock) (errors : List SkippedBlock) (e : EntryReading)
     → IsBlockOf text e ⊎ IsKeptPart text errors e → IsBlockOf text e ⊎ IsKeptPart text (block ∷ errors) e
 cut_later text block errors e (inl stands) = inl stands
 cut_later text block errors e (inr (k, s, below, is, cut)) = inr (suc k, s, omega (arith, below), is, cut)
 
--- what is kept of a skipped block is cut at its start
+-- an entry that is the kept part of a skipped block is the kept part of one of the blocks that begin with this block
 kept_cut : (text : List ℕ) (u w : Place) (error : ParseError) (errors : List SkippedBlock) (e : EntryReading) → w.text ≡ text
     → (e.start ≡ u.at) × Kept (place (take w.at w.text) u.at) (entry_alone e)
     → IsBlockOf text e ⊎ IsKeptPart text (skipped_block error u w ∷ errors) e
@@ -368,7 +368,7 @@ kept_cut text u w error errors e same (start, kept) =
     (subst (λ t. Kept (place (take w.at t) u.at) (entry_alone e)) same kept) in
     inr (zero, skipped_block error u w, omega arith, refl, (sym start, at))
 
--- each recovered entry is the only content of a block at its start, or what is kept of a skipped block
+-- each recovered entry is the only content of a block at its start, or the kept part of a skipped block
 pub full_entries_stand : {u : Place} {says : FileReading} {errors : List SkippedBlock} (text : List ℕ) → u.text ≡ text
     → Recovered true u says errors → AllByRecursion (λ e. IsBlockOf text e ⊎ IsKeptPart text errors e) says.entries
 full_entries_stand text same (recovered.end end) = _
@@ -409,7 +409,7 @@ same_skipped {u = u} (recovered.unread {w = w} {e = e} sign none on held x) seco
 
 -- ---- each entry that could be parsed is recovered, or it is inside a block, a line comment or a skipped block
 
--- an at sign isn't inside another character
+-- a character in whose bytes an at sign begins is this at sign
 in_character : {w v u x : Place} {c : ℕ} → CharAt w c v → CharAt u 64 x → u.text ≡ w.text → w.at ≤ u.at → u.at < v.at → c ≡ 64
 in_character {w} {v} {u} {x} {c} char sign same before inside =
     let byte : get_or w.text u.at 0 ≡ 64 =
@@ -417,7 +417,7 @@ in_character {w} {v} {u} {x} {c} char sign same before inside =
     ∙ byte_from_char (drop u.at u.text) (drop x.at u.text) 64 sign.here (lit< tt) in
     byte_in u.at char before inside (subst (λ b. b < 128) (sym byte) (lit< tt)) ∙ byte
 
--- an at sign at `u` is at the start `w` of the next step of recovery, inside the step, or not before its end `v`
+-- `u` is the start `w` of the next step of recovery, inside the step, or not before its end `v`
 data Next (w v u : Place) : Type 0 where
   reached : w ≡ u → Next w v u
   begun : w.at < u.at → u.at < v.at → Next w v u

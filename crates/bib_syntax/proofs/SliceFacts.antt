@@ -98,7 +98,7 @@ fields_stand text same (fields.more f g sign h rest) =
     let next = ahead_then (ahead_field f) (ahead_then (ahead_gap g) (ahead_then (ahead_char sign) (ahead_gap h))) in
     (field_stands text same f, fields_stand text (next.text ∙ same) rest)
 
--- a reading with only a preamble has no other parts
+-- in a reading with only a preamble, each part is the text in its span, because it has no parts
 nothing_stands : (text : List ℕ) (preamble : List ℕ)
     → ReadingStandsIn text (record { preamble = preamble; entries = []; abbreviations = [] })
 nothing_stands text preamble = record { entries = tt; abbreviations = tt }

@@ -38,12 +38,12 @@ identifier_from {u} {v} {w} {c} char starts run reading = record {
   reading = reading;
 }
 
--- a number without a point
+-- digits without a point after them are a number
 pub number_whole : {u v w : Place} {c : ℕ} → CharAt u c v → is_ascii_digit c ≡ true → Longest is_ascii_digit u w
     → ((x : Place) → CharAt w 46 x → ⊥) → Number longest u w
 number_whole char digit run no_point = whole char digit (longest_rest run char digit) (stops_without 46 no_point)
 
--- a number with a point
+-- digits, a point and digits without another point after them are a number
 pub number_broken : {u v w x y : Place} {c : ℕ} → CharAt u c v → is_ascii_digit c ≡ true → Longest is_ascii_digit u w
     → CharAt w 46 x → Longest is_ascii_digit x y
     → ((z : Place) → CharAt y 46 z → ⊥) → Number longest u y

@@ -30,7 +30,7 @@ use Rattle.bib_syntax.proofs.LeftFacts.{Left, RuleEnd, found_at, found_as, Outco
 abbrev pub NameAt : Place → Place → Type 0
 NameAt u v = Identifier longest u (part u v) v
 
--- a name matches if its first character does
+-- a name matches at a character that can begin one
 name_found : {n : ℕ} {u v : Place} {c : ℕ} → CharAt u c v → is_id_start c ≡ true → Left n v → RuleEnd n (NameAt u)
 name_found char starts rest =
     let run = run_found is_id_continue rest in
@@ -79,12 +79,12 @@ NoQuote u = (w x : Place) → QuotedParts u w → CharAt w 34 x → ⊥
 abbrev QuoteCase : ℕ → Place → Type 0
 QuoteCase n u = RuleEnd n (QuoteClosed u) ⊎ NoQuote u
 
--- whether a quote closes the text from one place, from the same at another place with the same closing quote
+-- if the texts from `u` and from `v` have the same closing quotes, `QuoteCase` from `v` gives `QuoteCase` from `u`
 quote_moved : {m n : ℕ} {u v : Place} → m ≤ n → SameQuoted u v → QuoteCase m v → QuoteCase n u
 quote_moved fits same (inl f) = inl (found_as fits f (f.rule.0, same.there _ _ f.rule.1 f.rule.2, f.rule.2))
 quote_moved fits same (inr none) = inr (λ w x p c. none w x (same.back w x p c) c)
 
--- whether a quote closes the text from a character, if it is known after this character and after one that it escapes
+-- `QuoteCase` at a character follows from `QuoteCase` after it and, if it is a backslash, after the character that it escapes
 quote_step : {m n : ℕ} {u v w : Place} {c : ℕ} → CharAt u c v → Left n v → QuoteCase n v
     → (CharAt u 92 v → SameQuoted u w) → m ≤ n → QuoteCase m w → QuoteCase (suc n) u
 quote_step {u = u} {v = v} {c = c} char rest here hides fits hidden = elim (cases_Bool (c == 34)) [
@@ -146,22 +146,22 @@ BraceClosed depth u y = (x : Place) × ClosesOpen depth u x × CharAt x 125 y
 abbrev NoBrace : ℕ → Place → Type 0
 NoBrace depth u = (x y : Place) → ClosesOpen depth u x → CharAt x 125 y → ⊥
 
--- one of these two cases applies
+-- a brace closes the text from `u` after `depth` closed braces, or none does
 abbrev BraceCase : ℕ → ℕ → Place → Type 0
 BraceCase depth n u = RuleEnd n (BraceClosed depth u) ⊎ NoBrace depth u
 
--- whether a brace closes the whole from one place, from the same at another place with the same closing brace
+-- if the texts from `u` and from `v` have the same closing braces, `BraceCase` from `v` gives `BraceCase` from `u`
 brace_moved : {depth inner m n : ℕ} {u v : Place} → m ≤ n → SameBraced depth u inner v → BraceCase inner m v → BraceCase depth n u
 brace_moved fits same (inl f) = inl (found_as fits f (f.rule.0, same.there _ _ f.rule.1 f.rule.2, f.rule.2))
 brace_moved fits same (inr none) = inr (λ x y p c. none x y (same.back x y p c) c)
 
--- whether a brace closes the whole from a closing brace, if it is known after it
+-- `BraceCase` at a closing brace follows from `BraceCase` after it for each number of open braces
 brace_closes : (depth : ℕ) {n : ℕ} {u v : Place} → CharAt u 125 v → Left n v → ((inner : ℕ) → BraceCase inner n v)
     → BraceCase depth (suc n) u
 brace_closes zero {u = u} close rest here = inl (found_at (omega arith) rest (u, ClosesOpen.last Parts.none, close))
 brace_closes (suc depth) close rest here = brace_moved (omega arith) (brace.braced_close depth close) (here depth)
 
--- whether a brace closes the whole from a character, if it is known after this character and after one that it escapes
+-- `BraceCase` at a character follows from `BraceCase` after it and, if it is a backslash, after the character that it escapes
 brace_step : (depth : ℕ) {m n : ℕ} {u v w : Place} {c : ℕ} → CharAt u c v → Left n v → ((inner : ℕ) → BraceCase inner n v)
     → (CharAt u 92 v → SameBraced depth u depth w) → m ≤ n → BraceCase depth m w → BraceCase depth (suc n) u
 brace_step depth {u = u} {v = v} {c = c} char rest here hides fits hidden = elim (cases_Bool (c == 123)) [
@@ -177,11 +177,11 @@ brace_step depth {u = u} {v = v} {c = c} char rest here hides fits hidden = elim
   ]
 ]
 
--- no brace closes the whole at the end of the text
+-- from the end of the text, no brace closes the text
 brace_end : (depth : ℕ) {n : ℕ} {u : Place} → AtEnd u → BraceCase depth n u
 brace_end depth end = inr (λ x y. brace.closes_end end)
 
--- at each place, a brace closes the whole or none does, with `depth` more braces open
+-- at each place with `depth` open braces, a brace closes the text after these braces are closed, or none does
 brace_case : (depth : ℕ) {n : ℕ} {u : Place} → Left n u → BraceCase depth n u
 brace_case depth (Left.none end) = brace_end depth end
 brace_case depth (Left.more {n = n} char (Left.none end)) =

@@ -15,7 +15,7 @@ or_false_right x y is = (or_parts x y is).1
 pub and_true_right : (x y : Bool) → (x && y) ≡ true → y ≡ true
 and_true_right x y is = (and_parts x y is).1
 
--- a test that is passed or else another one
+-- `cond x true y` is the disjunction of `x` and `y`
 pub or_cond : (x y : Bool) → cond x true y ≡ (x || y)
 or_cond true y = refl
 or_cond false y = refl

@@ -11,7 +11,7 @@ use Rattle.bib_text.specs.Places.{Place, place, CharAt, AtEnd, Run}
 use Rattle.bib_text.specs.Places.Run.{stop, step}
 use Rattle.bib_text.proofs.PlaceFacts.{char_left}
 
--- ---- the first byte of a character is none that goes on in one
+-- ---- the first byte of a character is below 80 or from C0 on
 
 head_of : (x : Bool) (a b rest : List ℕ) → get_or (cond x a b ++ rest) 0 0 ≡ cond x (get_or (a ++ rest) 0 0) (get_or (b ++ rest) 0 0)
 head_of true a b rest = refl
@@ -35,7 +35,7 @@ lead_is c rest =
     ∙ ap (cond (ltb c 128) c)
     (head_of (ltb c 2048) _ _ rest ∙ ap (cond (ltb c 2048) (192 + c / 64)) (head_of (ltb c 65536) _ _ rest))
 
--- a text may be cut where a character stands
+-- the offset of a character is a character boundary
 pub char_boundary : {u v : Place} {c : ℕ} → CharAt u c v → IsCharBoundary u.text u.at
 char_boundary {u} {v} {c} char =
     let same : get_or u.text u.at 0 ≡ get_or (encode c ++ drop v.at u.text) 0 0 =
@@ -49,12 +49,12 @@ char_boundary {u} {v} {c} char =
           (subst (λ b. 128 ≤ b) lead high)),
     )
 
--- a text can be cut where a run begins, if it can be cut where the run ends
+-- the offset where a run begins is a character boundary if the offset where it ends is one
 pub run_boundary : {test : ℕ → Bool} {u v : Place} → Run test u v → IsCharBoundary v.text v.at → IsCharBoundary u.text u.at
 run_boundary stop boundary = boundary
 run_boundary (step char passes rest) boundary = char_boundary char
 
--- ---- its other bytes go on in it
+-- ---- the other bytes of a character are from 80 to BF
 
 -- each of these bytes is from 80 to BF, as the bytes of a character after its first one are
 abbrev GoOn : List ℕ → Type 0
@@ -97,11 +97,11 @@ byte_of {u} {v} {c} k char within =
     sym (get_or-drop u.at u.text k 0) ∙ ap (λ t. get_or t k 0) char.here
     ∙ get_or_append_left (encode_utf8 c) (drop v.at u.text) 0 k (omega (arith, length-encode c))
 
--- where a text ends or a character stands
+-- the place is the end of its text, or a character is there
 abbrev pub Border : Place → Type 0
 Border u = AtEnd u ⊎ ((c : ℕ) × (v : Place) × CharAt u c v)
 
--- the first byte of a character is no other byte of one
+-- no character begins inside another character
 lead_clash : {a u v w : Place} {c d : ℕ} → CharAt a d w → u.text ≡ a.text → CharAt u c v → u.at < a.at → a.at < v.at → ⊥
 lead_clash {a} {u} {v} {w} {c} {d} lead same char before over =
     let k : ℕ = a.at - u.at in
@@ -115,7 +115,7 @@ lead_clash {a} {u} {v} {w} {c} {d} lead same char before over =
     let inside : a.at < length a.text = omega (arith, char_left lead, (len_utf8_bounds d).0) in
     omega (arith, boundary.1 inside high, inner.1, byte)
 
--- no character goes over such a place
+-- a character that begins before such a place ends at or before it
 pub not_over : (text : List ℕ) (at : ℕ) {u v : Place} {c : ℕ} → Border (place text at) → u.text ≡ text → CharAt u c v
     → u.at < at → v.at ≤ at
 not_over text at {u} {v} {c} (inl end) same char before =

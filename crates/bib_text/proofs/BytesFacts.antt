@@ -6,7 +6,7 @@ use Rattle.std.specs.Bool.{one_answer}
 use Rattle.std.proofs.lemmas.Slice.Eq.{bytes_eq-Decides}
 use Rattle.std.proofs.lemmas.Str.{chars-nil}
 
--- texts that the test calls equal are equal
+-- texts that pass `bytes_eq` are equal
 pub bytes_same : (one other : List ℕ) → bytes_eq one other ≡ true → one ≡ other
 bytes_same one other = (bytes_eq-Decides one other).0
 

@@ -29,7 +29,7 @@ white_no_digit c white = grind (arith, nat_tests)
 pub digit_no_hyphen : (c : ℕ) → is_ascii_digit c ≡ true → (c == 45) ≡ false
 digit_no_hyphen c digit = grind (arith, nat_tests)
 
--- a character is a digit if its lowercase form is
+-- a character is a digit if and only if its lowercase form is
 pub lower_digit : (c : ℕ) → is_ascii_digit (to_ascii_lowercase c) ≡ is_ascii_digit c
 lower_digit c = grind (arith, nat_tests)
 

@@ -14,7 +14,7 @@ pub named_none : {A : Type 0} (rows : List (List ℕ × A)) (text : List ℕ) �
 named_none [] text none = refl
 named_none (row ∷ rows) text none = search (arith, none.0, named_none rows text none.1, bytes_eq-Decides)
 
--- of two concatenated tables, the value in the first one is found
+-- a value in the first of two concatenated tables is found
 pub named-append-some : {A : Type 0} (rows more : List (List ℕ × A)) (text : List ℕ) (value : A)
     → value_named rows text ≡ Some value → value_named (rows ++ more) text ≡ Some value
 named-append-some [] more text value found = cc

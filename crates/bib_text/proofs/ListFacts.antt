@@ -10,7 +10,7 @@ use Rattle.std.proofs.lemmas.List.Folds.{list_all-append}
 use Rattle.std.proofs.lemmas.List.Sums.{sum_by-append}
 use Rattle.std.proofs.lemmas.Slice.Eq.{starts_is}
 
--- two values that are there are equal if the options are
+-- the values of equal options are equal
 pub some_same : {A : Type 0} {x y : A} → Some x ≡ Some y → x ≡ y
 some_same e = cc
 
@@ -19,7 +19,7 @@ pub all_append : {A : Type 0} (P : A → Type 0) (xs ys : List A) → AllByRecur
 all_append P [] ys first rest = rest
 all_append P (x ∷ xs) ys first rest = (first.0, all_append P xs ys first.1 rest)
 
--- a property of all elements and of one more
+-- a property of all elements and of one more is one of all elements with this one
 pub all_push : {A : Type 0} (P : A → Type 0) (xs : List A) (x : A) → AllByRecursion P xs → P x → AllByRecursion P (xs ++ x ∷ [])
 all_push P [] x all here = (here, tt)
 all_push P (y ∷ ys) x all here = (all.0, all_push P ys x all.1 here)
@@ -33,7 +33,7 @@ found_any {A} test (y ∷ xs) x found = go (test y) (find test xs) found (found_
   go true rest is later = refl
   go false rest is later = later is
 
--- how many elements pass a test, with one more element
+-- one more element adds 1 to the number of passing elements if it passes the test
 pub count_more : {X : Type 0} (p : X → Bool) (xs : List X) (x : X) → count_by p (xs ++ x ∷ []) ≡ count_by p xs + cond (p x) 1 0
 count_more p xs x = sum_by-append (λ y. cond (p y) 1 0) xs (x ∷ []) ∙ ap (λ n. count_by p xs + n) (omega arith)
 
@@ -46,16 +46,16 @@ cons_cases x p xs (suc k, within, e) = inr (k, omega arith, e)
 pub contains_more : (x p : ℕ) (xs : List ℕ) → Contains xs p → Contains (x ∷ xs) p
 contains_more x p xs (k, within, e) = (suc k, omega arith, e)
 
--- the element after a first part of a list
+-- the element after the first part of a list is at the index that is the length of this part
 pub get_here : {A : Type 0} (before : List A) (x : A) (rest : List A) → slice_get (before ++ x ∷ rest) (length before) ≡ Some x
 get_here [] x rest = refl
 get_here (y ∷ ys) x rest = get_here ys x rest
 
--- a text that begins with a part, by the test
+-- a text that begins with a part passes `starts_with`
 pub begins : (part text rest : List ℕ) → text ≡ part ++ rest → starts_with eqb text part ≡ true
 begins part text rest is = (starts_is Decides-eqb text part (starts_with eqb text part) refl).1 rest is
 
--- a text that doesn't begin with a part, by the test
+-- a text that doesn't begin with a part fails `starts_with`
 pub begins_not : (part text : List ℕ) → ((rest : List ℕ) → text ≢ part ++ rest) → starts_with eqb text part ≡ false
 begins_not part text never = of (starts_with eqb text part) refl where
   of : (b : Bool) → starts_with eqb text part ≡ b → starts_with eqb text part ≡ false
@@ -88,13 +88,13 @@ get_mapped f [] k x here = absurd (cc)
 get_mapped f (z ∷ zs) zero x here = let same : z ≡ x = cc in ap (λ y. Some (f y)) same
 get_mapped f (z ∷ zs) (suc k) x here = get_mapped f zs k x here
 
--- putting an element at an index and mapping
+-- putting an element at an index and mapping a list can be exchanged
 pub map_set : {A B : Type 0} (f : A → B) (xs : List A) (k : ℕ) (y : A) → map f (slice_set xs k y) ≡ slice_set (map f xs) k (f y)
 map_set f [] k y = refl
 map_set f (x ∷ xs) zero y = refl
 map_set f (x ∷ xs) (suc k) y = ap (λ l. f x ∷ l) (map_set f xs k y)
 
--- removing an element and mapping
+-- removing an element and mapping a list can be exchanged
 pub remove_mapped : {A B : Type 0} (f : A → B) (xs : List A) (k : ℕ) → map f (remove xs k) ≡ remove (map f xs) k
 remove_mapped f [] zero = refl
 remove_mapped f [] (suc k) = refl
@@ -154,7 +154,7 @@ passed_weaker p q each (c ∷ cs) all =
 pub passed_append : (p : ℕ → Bool) (xs ys : List ℕ) → list_all p xs ≡ true → list_all p ys ≡ true → list_all p (xs ++ ys) ≡ true
 passed_append p xs ys first second = list_all-append p xs ys ∙ and_from _ _ first second
 
--- the elements that pass a test at the start of a list whose first part passes it
+-- a first part whose elements all pass a test adds its length to the length of the passing prefix
 pub passed_prefix : (p : ℕ → Bool) (xs rest : List ℕ) → list_all p xs ≡ true → prefix_len p (xs ++ rest) ≡ length xs + prefix_len p rest
 passed_prefix p [] rest all = omega arith
 passed_prefix p (x ∷ xs) rest all =

@@ -7,13 +7,13 @@ pub some_mapped : {A B : Type 0} (f : A → B) (o : Option A) → is_some (optio
 some_mapped f None = refl
 some_mapped f (Some x) = refl
 
--- a function of a value, or else of another option
+-- mapping the choice between a value and an option is choosing between the two after mapping each
 pub mapped_cond : {A B : Type 0} (f : A → B) (b : Bool) (x : A) (o : Option A)
     → option_map f (cond b (Some x) o) ≡ cond b (Some (f x)) (option_map f o)
 mapped_cond f true x o = refl
 mapped_cond f false x o = refl
 
--- an option, or else nothing
+-- an option, or else `None`, is the option
 pub or_none : {A : Type 0} (o : Option A) → option_or o None ≡ o
 or_none None = refl
 or_none (Some x) = refl

@@ -86,7 +86,7 @@ stops_at_end test end c v char = absurd (no_char_at_end end char)
 pub stops_at : (test : ℕ → Bool) {u v : Place} {c : ℕ} → CharAt u c v → test c ≡ false → Stops test u
 stops_at test {u} {v} {c} char fails d w other = subst (λ x. test x ≡ false) (same_char char other).0 fails
 
--- one space, and no white space after it
+-- a space with a character after it that isn't white space is the longest run of white space
 pub one_white : {u v w : Place} {d : ℕ} → CharAt u 32 v → CharAt v d w → is_whitespace d ≡ false → Longest is_whitespace u v
 one_white space char dark = record { run = step space refl stop; stops = stops_at is_whitespace char dark }
 
@@ -114,7 +114,7 @@ pub all_push_char : {Holds : ℕ → Type 0} {u v : Place} {c : ℕ} (text : Lis
     → AllBetween Holds u (place text (at + len_utf8 c))
 all_push_char {Holds} {u} text at all char holds = subst (λ p. AllBetween Holds u p) (place_after char) (each.step all char holds)
 
--- a property that follows from the property of each character
+-- if `Holds` implies `Follows`, `AllBetween Holds` implies `AllBetween Follows`
 pub all_map : {Holds Follows : ℕ → Type 0} {u v : Place} → ((c : ℕ) → Holds c → Follows c) → AllBetween Holds u v → AllBetween Follows u v
 all_map follows each.stop = each.stop
 all_map follows (each.step all char holds) = each.step (all_map follows all) char (follows _ holds)
@@ -143,7 +143,7 @@ pub run_of_all : {Holds : ℕ → Type 0} {test : ℕ → Bool} {u v : Place} �
 run_of_all passes each.stop = stop
 run_of_all passes (each.step all char holds) = run_push (run_of_all passes all) char (passes _ holds)
 
--- a run stops at the end of the text, or at a character with a property, if each such character fails the test
+-- a test stops at the end of the text, or at a character with a property, if each such character fails the test
 pub stops_of_end : {Holds : ℕ → Type 0} (test : ℕ → Bool) {u : Place} → ((c : ℕ) → Holds c → test c ≡ false) → EndsOr Holds u → Stops test u
 stops_of_end test fails (inl end) = stops_at_end test end
 stops_of_end test fails (inr here) = stops_at test here.2 (fails _ here.3)
@@ -179,7 +179,7 @@ runs_same (step char passes rest) ends stop ends' = absurd (test_clash _ passes 
 runs_same {test} {u} {v} {w} (step char passes rest) ends (step char' passes' rest') ends' =
     runs_same rest ends (subst (λ p. Run test p w) (sym (same_char char char').1) rest') ends'
 
--- a run without its first character is a run
+-- if a run ends where the test stops, the rest of it after its first character is a run
 pub run_rest : {test : ℕ → Bool} {u v w : Place} {c : ℕ} → Run test u w → Stops test w → CharAt u c v → test c ≡ true → Run test v w
 run_rest stop ends char passes = absurd (test_clash _ passes (ends _ _ char))
 run_rest {test} {u} {v} {w} (step char' passes' rest) ends char passes = subst (λ p. Run test p w) (same_char char' char).1 rest
@@ -261,6 +261,6 @@ before_char {u} {v} ahead char =
     let same : length v.text ≡ length u.text = ap length ahead.text in
     omega (arith, left, same)
 
--- the byte offset after a later character of a text that is in memory is a machine number
+-- in a text of fewer than 2^63 bytes, the byte offset after a later character is below 2^64
 pub after_char_small : {u v w : Place} {c : ℕ} → length u.text < 2 ^ 63 → Ahead u v → CharAt v c w → w.at < 2 ^ 64
 after_char_small {u} {v} {w} {c} fits ahead char = omega (arith, char_left char, ap length ahead.text, char.next)

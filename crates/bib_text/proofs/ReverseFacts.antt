@@ -5,7 +5,7 @@ use mathlib.Core.List.{reverse_aux}
 use Rattle.std.specs.List.{find}
 use denote.Ref.{Bor}
 
--- the first of mapped items that passes
+-- the first mapped item that passes a test comes from the first item whose mapped item passes it
 pub find_of_map : {A B : Type 0} (f : A → B) (p : B → Bool) (items : List A)
     → find p (map f items) ≡ option_map f (find (λ item. p (f item)) items)
 find_of_map f p [] = refl
@@ -28,7 +28,7 @@ twice f (Some item) = refl
 pub reverse_of_map : {A B : Type 0} (f : A → B) (items : List A) → reverse (map f items) ≡ map f (reverse items)
 reverse_of_map f items = reversed_onto f items []
 
--- the last of mapped items that passes, from the last of the items
+-- the last mapped item that passes a test comes from the last item whose mapped item passes it
 pub last_of_map : {A B : Type 0} (f : A → B) (p : B → Bool) (items : List A) (found : Option (Bor A))
     → option_map (λ item. item.now) found ≡ find (λ item. p (f item)) (reverse items)
     → option_map (λ item. f item.now) found ≡ find p (reverse (map f items))

@@ -47,7 +47,7 @@ joined_bytes cs ds before middle after first second =
     first ∙ ap (λ bs. encode_utf8_all cs ++ bs) second ∙ sym (append_assoc (encode_utf8_all cs) _ _)
     ∙ ap (λ bs. bs ++ after) (sym (encodes-append cs ds))
 
--- the byte offset after characters and those after them
+-- the offset after characters and after more of them is the offset after all of them
 pub joined_offset : (cs ds : List ℕ) (from middle to : ℕ) → middle ≡ from + length (encode_utf8_all cs)
     → to ≡ middle + length (encode_utf8_all ds) → to ≡ from + length (encode_utf8_all (cs ++ ds))
 joined_offset cs ds from middle to first second =
@@ -55,7 +55,7 @@ joined_offset cs ds from middle to first second =
     ap length (encodes-append cs ds) ∙ length-append (encode_utf8_all cs) _ in
     omega (arith, first, second, sizes)
 
--- `MovesPast` for characters and those after them
+-- `MovesPast` for characters, and then for more of them, is `MovesPast` for all of them
 pub passed_append : {u v w : Place} {cs ds : List ℕ} → MovesPast u cs v → MovesPast v ds w → MovesPast u (cs ++ ds) w
 passed_append {u} {v} {w} {cs} {ds} first second =
     record {
