@@ -172,7 +172,7 @@ pub points : (names : ByText ℕ) (es : List Entry) (i : ℕ) (e : Entry) → i 
     → by_name.get names e.key ≡ Some i → IsAlone names (keys_of es) i
 points names es i e within is here = inl (ap (by_name.get names) (key_at es i e within is) ∙ here)
 
--- if all indices were checked, the keys are distinct
+-- if each index of the entries is alone, the keys are distinct
 pub all_alone : (names : ByText ℕ) (es : List Entry) (n : ℕ) → ((i : ℕ) → i < n → IsAlone names (keys_of es) i)
     → length es ≤ n → IsTrue true ↔ IsDistinct bytes_eq (keys_of es)
 all_alone names es n all whole =

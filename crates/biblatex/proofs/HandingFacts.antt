@@ -36,7 +36,7 @@ texts_at written es i e first within is flag =
     ∙ ap (λ b. entry_texts written (take i es) ++ text_of written b e ∷ map (text_of written false) (drop (i + 1) es))
     (first_taken es i within ∙ sym flag)
 
--- the texts of the entries up to and including an index
+-- the texts of the entries up to and including an index are those before the index, and the text of the entry at it
 next_text : (written : Entry → List ℕ) (es : List Entry) (i : ℕ) (e : Entry) (first : Bool) → i < length es
     → e ≡ get_or es i e → first ≡ (i == 0)
     → entry_texts written (take (i + 1) es) ≡ entry_texts written (take i es) ++ text_of written first e ∷ []

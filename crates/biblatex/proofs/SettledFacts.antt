@@ -17,7 +17,7 @@ pub run_text : {test : ℕ → Bool} {u v : Place} → Run test u v → v.text �
 run_text Run.stop = refl
 run_text (Run.step char passes rest) = run_text rest ∙ char.same
 
--- the longest run ends at the end of the text exactly if the whole text is a run
+-- the longest run from a place ends at the end of the text exactly if the text from the place on is a run
 pub whole_run : {test : ℕ → Bool} {u v : Place} (text : List ℕ) (b : Bool) → u.text ≡ text → Longest test u v
     → IsTrue b ↔ AtEnd v → IsTrue b ↔ Run test u (place text (length text))
 whole_run {test} {u} {v} text b is longest done = (

@@ -136,7 +136,7 @@ dollar_reserved : (c : ℕ) → is_reserved c ≡ false → (c == 36) ≡ false
 unfolding is_reserved
 dollar_reserved c free = grind arith
 
--- each settled character is written as a unit, if no equal space or hyphen follows it
+-- each settled character is written as a unit, if no hyphen follows a hyphen and no white space a space
 spelt : (v : Bool) (c : ℕ) (rest : List ℕ) → (is_space c ≡ true → c ≡ 32)
     → (c ≡ 45 → begins (λ d. d == 45) rest ≡ false) → (is_space c ≡ true → begins is_space rest ≡ false)
     → IsSpelt v c rest
@@ -178,7 +178,7 @@ put {v} {c} {rest} {atoms} depth one read =
     subst (λ xs. Reads v depth (char_spelling v c ++ rest) (xs ++ atoms)) (one.means depth)
     (next first (one.closable depth) inside following)
 
--- the next atom is no character of this kind, or fails the test
+-- if the next atom is a character of this kind (verbatim if `is_open`), it fails the test
 abbrev pub NextFails : (ℕ → Bool) → Bool → List Atom → Type 0
 NextFails test is_open [] = Unit {0}
 NextFails test true (Atom.verbatim c ∷ rest) = test c ≡ false
@@ -208,7 +208,7 @@ begins_by test false false false true circumflex c rest slash fails = slash
 begins_by test false false false false true c rest slash fails = slash
 begins_by test false false false false false c rest slash fails = fails
 
--- the output for a character that fails the test doesn't begin with one that passes it
+-- for a test that a backslash fails: the output for a character that fails it doesn't begin with one that passes it
 begins_spelled : (test : ℕ → Bool) (v : Bool) (c : ℕ) (rest : List ℕ) → test 92 ≡ false → test c ≡ false
     → begins test (char_spelling v c ++ rest) ≡ false
 unfolding char_spelling
@@ -258,7 +258,7 @@ spaces_of : IsOfCharacters is_space
 unfolding is_space
 spaces_of = record { slash = refl; opens = refl; closes = refl; dollar = refl }
 
--- no hyphen follows a hyphen of its kind
+-- two characters that are no pair are not both hyphens
 hyphen_apart : (c d : ℕ) → c ≡ 45 → is_pair c d ≡ false → (d == 45) ≡ false
 hyphen_apart c d is apart =
     let shown : is_pair 45 d ≡ false = subst (λ x. is_pair x d ≡ false) is apart in
