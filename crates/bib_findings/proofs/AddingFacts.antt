@@ -60,7 +60,7 @@ reported_next said errors index item old mid new finding within is before report
     ∙ ap (λ l. old ++ (malformed_findings said (take index errors) ++ l)) (sym one)
     ∙ ap (λ l. old ++ l) (sym (malformed_more said errors index item within is))
 
--- if the error of the next malformed field isn't reported, the findings of the first ones stay
+-- if the error of the next malformed field isn't reported, the findings of the first ones are also those up to it
 pub unreported_next : (said : EntryReading) (errors : List (List ℕ × TypeError)) (index : ℕ) (item : List ℕ × TypeError)
     (old mid : List Finding) → index < length errors → item ≡ get_or errors index item
     → mid ≡ old ++ malformed_findings said (take index errors)
@@ -191,7 +191,7 @@ added_in_order none one two three new a b c d empty first second third fourth =
     let start : one ≡ a = first ∙ ap (λ l. l ++ a) empty in
     added_thrice one two three new b c d second third fourth ∙ ap (λ l. l ++ (b ++ (c ++ d))) start
 
--- six lists joined in turn, and from the last to the first
+-- the concatenation of six lists doesn't depend on the order in which they are joined
 joined_in_order : (a b c d e f : List Finding) → ((a ++ (b ++ (c ++ d))) ++ e) ++ f ≡ a ++ (b ++ (c ++ (d ++ (e ++ f))))
 joined_in_order a b c d e f = simp append_assoc
 

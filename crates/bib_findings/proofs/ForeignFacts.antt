@@ -63,7 +63,7 @@ counted_same fields index field old new within is own before =
     (foreign_next fields index field within is ∙ ap (λ l. foreign_of (map field_of (take index fields)) ++ l) none
     ∙ append-nil (foreign_of (map field_of (take index fields))))) before
 
--- counting all fields of an entry counts those of the entry
+-- after the last field of an entry, its fields that other programs write are counted
 pub counted_entry : (said : Spanned RawEntry) (fields : List Pair) (index : ℕ) (old new : List Counted) → fields ≡ said.v.fields.items
     → length fields ≤ index → CountsMore (foreign_of (map field_of (take index fields))) old new
     → CountsMore (foreign_among (entry_reading_of said ∷ [])) old new
@@ -78,7 +78,7 @@ among_more entries one =
     ap foreign_of (flat_map-append (λ e. e.fields) entries (one ∷ []))
     ∙ filter-append (λ f. is_foreign f.name.text) (flat_map (λ e. e.fields) entries) (flat_map (λ e. e.fields) (one ∷ []))
 
--- the fields of other programs of the first entries at some indices and the next one
+-- the fields of other programs of the entries at the first indices and at the next one
 among_next : (said : List (Spanned RawEntry)) (origins : List ℕ) (index : ℕ) (one : Spanned RawEntry)
     → All (λ i. i < length said) origins → index < length origins → one ≡ get_or said (get_or origins index 0) one
     → foreign_among (entries_at (map entry_reading_of said) (take (index + 1) origins))
