@@ -29,7 +29,7 @@ ascii_fact test all b below =
     (ap test here ∙ fails)) all))
     (cases_Bool (test b))
 
--- a test that holds if another does, given that this holds
+-- if `a` implies `b` and `a` is true, `b` is true
 pub implied : (a b : Bool) → (not a || b) ≡ true → a ≡ true → b ≡ true
 implied true b both is = both
 implied false b both is = absurd (both_ways false refl is)
@@ -154,21 +154,21 @@ drop_none (b ∷ c ∷ bs) last =
     cond_second (is_whitespace b) (length (drop_trailing_whitespace (c ∷ bs)) == 0) []
     (b ∷ drop_trailing_whitespace (c ∷ bs)) some ∙ ap (λ l. b ∷ l) more
 
--- a text without white space at its start is the same when that is trimmed
+-- an ASCII text without white space at its start is unchanged by `trim_start`
 pub start_none : (bs : List ℕ) → IsAscii bs → skip_leading_whitespace bs ≡ bs → trim_start bs ≡ bs
 unfolding trim_start
 start_none bs ascii none =
     ap (λ cs. encode_utf8_all (skip_leading_whitespace cs)) (chars-IsAscii bs ascii) ∙ ap encode_utf8_all none
     ∙ encodes-IsAscii bs ascii
 
--- a space before a text without white space at its start is trimmed
+-- a space before an ASCII text without white space at its start is trimmed
 pub start_one : (bs : List ℕ) → IsAscii (32 ∷ bs) → IsAscii bs → skip_leading_whitespace bs ≡ bs → trim_start (32 ∷ bs) ≡ bs
 unfolding trim_start
 start_one bs ascii more none =
     ap (λ cs. encode_utf8_all (skip_leading_whitespace cs)) (chars-IsAscii (32 ∷ bs) ascii) ∙ ap encode_utf8_all none
     ∙ encodes-IsAscii bs more
 
--- a text that doesn't end with a space is the same when its end is trimmed
+-- an ASCII text that doesn't end in white space is unchanged by `trim_end`
 pub end_none : (bs : List ℕ) → IsAscii bs → ends_in_space false bs ≡ false → trim_end bs ≡ bs
 unfolding trim_end
 end_none bs ascii last =

@@ -43,7 +43,7 @@ all_any test words all = all_follow (is_kept_word test) (is_kept_word is_name_by
 pub name_no_space : (b : ℕ) → is_name_byte b ≡ true → not (is_whitespace b) ≡ true
 name_no_space b name = (and_parts (not (is_whitespace b)) _ (name_plain b name)).0
 
--- a word with or without a comma after it
+-- an item of a line: a non-empty word of bytes of a written name, other than `and`
 abbrev pub is_line_item : List ℕ → Bool
 is_line_item word = is_item word && list_all is_line_byte word
 
@@ -199,7 +199,7 @@ line_spelt (f ∷ fs) suffix given first all some =
     ∙ append_assoc (spaced (f ∷ fs)) (44 ∷ []) (32 ∷ spaced (comma suffix ++ given))
     ∙ ap (λ l. spaced (f ∷ fs) ++ (44 ∷ 32 ∷ l)) (sym (suffix_line suffix given all some))
 
--- a person is written as one normal chunk
+-- a person with a family name and a given name, and a prefix in lower case if any, is written as one normal chunk
 pub plain_line : (prefix name suffix given : List (List ℕ)) → AllWords is_small_letter prefix → 0 < length name
     → AllWords is_name_byte suffix → 0 < length given
     → plain_chunks (person (spaced name) (spaced given) (spaced prefix) (spaced suffix))
