@@ -103,7 +103,7 @@ parted a text dash utf8 some is =
     let more = chars_some text utf8 some in
     ap (up_to a) (sym is ∙ ap after_dash more.2) ∙ sym (ap (goes_on_with a) more.2)
 
--- one more value
+-- appending a value and putting one before the others commute
 joined_first : {A : Type 0} (a r : A) (found : Option (List A))
     → with_first (Some a) (option_map (λ rs. rs ++ r ∷ []) found)
     ≡ option_map (λ rs. rs ++ r ∷ []) (with_first (Some a) found)
@@ -122,7 +122,7 @@ all_without [] ys = refl
 all_without (Some a ∷ xs) ys = ap (with_first (Some a)) (all_without xs ys)
 all_without (None ∷ xs) ys = refl
 
--- one more value exists
+-- if all values so far and the next one exist, they are all values up to the next one
 pub all_step : {X A : Type 0} (f : X → Option A) (xs : List X) (i : ℕ) (x : X) (rs : List A) (r : A) → i < length xs
     → x ≡ get_or xs i x → all_of (map f (take i xs)) ≡ Some rs → f x ≡ Some r
     → all_of (map f (take (i + 1) xs)) ≡ Some (rs ++ r ∷ [])
@@ -142,7 +142,7 @@ all_stop f xs i x within is none =
     ∙ ap (λ y. all_of (map f (take i xs) ++ y ∷ map f (drop (i + 1) xs))) none
     ∙ all_without (map f (take i xs)) (map f (drop (i + 1) xs))
 
--- all values exist
+-- at the end of the list, the values so far are all values
 pub all_done : {X A : Type 0} (f : X → Option A) (xs : List X) (i : ℕ) (rs : List A) → length xs ≤ i
     → all_of (map f (take i xs)) ≡ Some rs → Some rs ≡ all_of (map f xs)
 all_done f xs i rs end before = sym before ∙ ap (λ ys. all_of (map f ys)) (take_all i xs end)
