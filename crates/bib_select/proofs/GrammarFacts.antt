@@ -52,7 +52,7 @@ err_is_no_ok is = cc
 pub ok_same : {A E : Type 0} {a b : A} (r : Result A E) → r ≡ Ok a → r ≡ Ok b → a ≡ b
 ok_same r is other = cc
 
--- both steps succeed
+-- if two steps in turn succeed, the first succeeds, and so does the second with its value
 pub steps : {A B : Type 0} (r : Result A SelectionError) (next : A → Result B SelectionError) (b : B) → and_then r next ≡ Ok b
     → (a : A) × (r ≡ Ok a) × (next a ≡ Ok b)
 steps (Ok a) next b is = (a, refl, is)
