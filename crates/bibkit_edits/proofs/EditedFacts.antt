@@ -117,7 +117,7 @@ fields_made keys edit set d new has name value made = record {
   read = made.read.read;
 }
 
--- what a call that edits a field of some entries returns
+-- a text that a call returns is an outcome of `Fields`, if it has an edit of a field of some entries
 pub all_fields_made : {S E : Type 0} (bytes : S → List ℕ) (r : Result S E) (keys : List (List ℕ)) (edit : FieldEdit)
     (set : BTreeSet (Bor (List ℕ))) (d : Document)
     → ((key : List ℕ) → is_in_set set key ≡ is_listed keys key) → OnOk r (CanBeNewName (edit_name edit))
