@@ -146,7 +146,7 @@ record BeginsAt {A : Type 0} (all : List A) (index : ℕ) (one : A) (rest : List
   more : drop (suc index) all ≡ rest
   within : index < length all
 
--- the element at an index from which the rest of the list begins with it
+-- if the rest of a list from an index on begins with an element, it is the element at the index
 begins_at : {A : Type 0} (all : List A) (index : ℕ) (one : A) (rest : List A) → drop index all ≡ one ∷ rest → BeginsAt all index one rest
 begins_at [] zero one rest is = cc
 begins_at [] (suc index) one rest is = cc
