@@ -108,7 +108,7 @@ counts_found : (all fields : List FieldReading) → map counted_finding (map (co
 counts_found all [] = refl
 counts_found all (f ∷ fields) = ap (λ l. foreign_finding all f ∷ l) (counts_found all fields)
 
--- mapping pairs of counts to findings maps the counts
+-- mapping counts to findings is mapping them to pairs, and these to findings
 pairs_found : (counted : List Counted)
     → map (λ c. counted_finding (counted_of c)) counted ≡ map counted_finding (map counted_of counted)
 pairs_found [] = refl

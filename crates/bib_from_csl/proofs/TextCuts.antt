@@ -20,7 +20,7 @@ prefix_taken prefix text (Some x) h =
     ap Some (h.2 ∙ ap (λ k. drop k text) h.1.0)
     ∙ sym (ap (λ b. cond b (Some (drop (length prefix) text)) None) (begins prefix text (drop h.0 text) h.1.1))
 
--- a list with one more element has one that passes exactly if it had one or the new one passes; the same for all elements
+-- one more element: some element passes if one did or the new one does, and all pass if all did and the new one does
 pub any_more : {X : Type 0} (p : X → Bool) (xs : List X) (x : X) (found more : Bool) → found ≡ list_any p xs
     → more ≡ (found || p x) → more ≡ list_any p (xs ++ x ∷ [])
 any_more p xs x found more was is =

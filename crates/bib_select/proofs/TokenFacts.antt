@@ -1,4 +1,4 @@
--- Tokens of a text: each one comes from the characters at its place, and all of them are read from left to right.
+-- Tokens of a text: each one is determined by the characters at its place, and they are scanned from left to right.
 use Rattle.std.proofs.Common.{◌≡◌, ◌<◌, ◌-◌, ℕ, Bool, true, false, List, [], ◌∷◌, ◌++◌, length, refl, sym, ap, subst, inl, inr, append_assoc, Option, Some, None, MatchOption}
 use Rattle.std.specs.Prelude.{◌==◌, not, ◌&&◌, Result, Ok, Err}
 use Rattle.std.specs.Char.{is_whitespace}
