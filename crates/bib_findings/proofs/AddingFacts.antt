@@ -106,7 +106,7 @@ report_added said entry missing errors listed old one two new (Ok u) same_errors
 }
 report_added said entry missing errors listed old one two new (Err x) same_errors malformed first second third = tt
 
--- appending the finding of a type, those of a report, those of unknown fields and those of single fields in turn adds the findings of the
+-- appending the findings of the type, the report, the unknown fields and the single fields of an entry in turn adds the findings of the
 -- entry
 pub entry_added : {E U : Type 0} (missing : Names) (said : EntryReading) (entry : Entry) (old one two three new : List Finding)
     (r : Result U E)
@@ -195,8 +195,8 @@ added_in_order none one two three new a b c d empty first second third fourth =
 joined_in_order : (a b c d e f : List Finding) → ((a ++ (b ++ (c ++ d))) ++ e) ++ f ≡ a ++ (b ++ (c ++ (d ++ (e ++ f))))
 joined_in_order a b c d e f = simp append_assoc
 
--- appending the findings of references, of likely duplicates, of stray fields, of keys, of parents and of foreign fields in turn to an
--- empty list makes those between entries
+-- the findings of references, likely duplicates, stray fields, keys, parents and foreign fields, appended in turn to an empty list, are
+-- those between entries
 pub between_are : (text : List ℕ) (skipped : List SkippedBlock) (names : ByText ℕ) (said : List EntryReading) (origins : List ℕ)
     (own : List Entry) (whole : List EntryReading) (none one two three four five new : List Finding)
     → whole ≡ whole_among skipped (entries_at said origins)

@@ -231,7 +231,7 @@ kinds_apart : (id kind text other more : List ℕ) → (get_or (kind ++ text) 0 
 kinds_apart id kind text other more differ one two =
     differ (ap (λ l. get_or l 0 0) (sym (of_kind id kind text one) ∙ of_kind id other more two))
 
--- if at most one of three tests passes, adding an index to a list for each test that passes adds it once if any of them passes
+-- if at most one of three tests passes, adding an index for each one that passes adds it once, or not at all if none passes
 one_of_three : (a b c : Bool) (had more : List ℕ) (add : List ℕ → List ℕ) → add had ≡ more
     → (a ≡ true → b ≡ true → ⊥) → (a ≡ true → c ≡ true → ⊥) → (b ≡ true → c ≡ true → ⊥)
     → cond c (add (cond b (add (cond a (add had) had)) (cond a (add had) had))) (cond b (add (cond a (add had) had)) (cond a (add had) had))

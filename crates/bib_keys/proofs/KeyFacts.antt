@@ -241,7 +241,7 @@ more_keys old new keys text key are is = record {
   same = λ other. is.others other ∙ has_more keys key other (is_key_taken old other) (are.same other);
 }
 
--- the keys of the entries before an index, and the first new key for the one at it, are the keys of the entries up to it
+-- the keys of the entries up to an index are those of the entries before it, and the first new key for the one at it
 pub keys_more : (pattern : List Part) (entries : List Entry) (i : ℕ) (entry : Entry) (keys : List (List ℕ)) (text key : List ℕ)
     → AreKeys pattern (take i entries) keys → i < length entries → entry ≡ get_or entries i entry → text ≡ pattern_text pattern entry
     → IsFirstNew keys text key → AreKeys pattern (take (i + 1) entries) (keys ++ (key ∷ []))

@@ -104,7 +104,7 @@ holder_added m mid new name index v items left other is = of (bytes_eq name othe
 abbrev nobody : Node
 nobody = record { names = []; references = [] }
 
--- the node at an index has a name exactly if it has it in the list before, or if it is the last one and has it
+-- the node at an index has a name exactly if it had it before, or if it is the added one and has it
 pub node_push : (nodes : List Node) (node : Node) (index : ℕ) (name : List ℕ)
     → HasName (nodes ++ node ∷ []) index name ↔
     (HasName nodes index name ⊎ ((index ≡ length nodes) × (is_listed node.names name ≡ true)))

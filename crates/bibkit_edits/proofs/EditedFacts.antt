@@ -195,7 +195,7 @@ first_none text = record { made = none; read = inl refl }
 made_read : {edit : Edit} {text new : List ℕ} → IsMade edit text new → (d : Document) × IsDocumentOf new d
 made_read made = (made.edited.document, record { same = sym made.edited.is; read = made.edited.read })
 
--- if the first `i` edits are made, and the edit at the index `i` is made of their text, then the first `i + 1` edits are made
+-- if the first `i` edits are made, and the edit at the index `i` is made of their text, the first `i + 1` are made
 pub first_more : (edits : List Edit) (i : ℕ) (d : Edit) {text new between newer : List ℕ} → i < length edits
     → AreFirstMade (take i edits) text new → between ≡ new
     → IsMade (get_or edits i d) between newer → AreFirstMade (take (i + 1) edits) text newer

@@ -87,7 +87,7 @@ settled_name name linked identifier small is = (
   (λ settled. ap not (is ∙ settled.apart)),
 )
 
--- after a settled field, the property is equivalent to the settledness of the remaining fields
+-- after a settled field, `P` is equivalent to `Q` and the settledness of the remaining fields
 pub fields_after : {P Q : Type 0} {f : List ℕ × List (Spanned Chunk)} {fs rest : List (List ℕ × List (Spanned Chunk))}
     → P ↔ (Q × AllByRecursion IsSettledField fs) → fs ≡ f ∷ rest → IsSettledField f
     → P ↔ (Q × AllByRecursion IsSettledField rest)
@@ -97,7 +97,7 @@ fields_after {P} {Q} {f} {fs} {rest} before is settled =
       (λ both. whole.1 (both.0, (settled, both.1))),
     )
 
--- if a field isn't settled, the property doesn't hold
+-- if the next field isn't settled, `P` doesn't hold
 pub field_not : {P Q : Type 0} {f : List ℕ × List (Spanned Chunk)} {fs rest : List (List ℕ × List (Spanned Chunk))}
     → P ↔ (Q × AllByRecursion IsSettledField fs) → fs ≡ f ∷ rest → (IsSettledField f → ⊥) → P → ⊥
 field_not {P} {Q} {f} {fs} {rest} before is unsettled p =

@@ -29,7 +29,7 @@ kind_fails F (kind.AbbreviationCycle n) memory text = text
 kind_fails F (kind.ReferenceCycle k) memory text = text
 kind_fails F kind.OutOfMemory memory text = memory
 
--- if an error is out of memory or an error of the text, and `F` holds for the status in both cases, it holds for the status of the error
+-- if `F` holds for `OutOfMemory`, and for `Refused` if the text has an error, it holds for the status of each of these errors
 error_fails : {Q R : Type 0} (F : Status → Type 0) (e : ParseError) → (e ≡ out_of_memory) ⊎ (Q × R) → F OutOfMemory
     → (R → F Refused) → F (status_of_error e)
 error_fails F e (inl is) memory text = subst (λ e. F (status_of_error e)) (sym is) memory
