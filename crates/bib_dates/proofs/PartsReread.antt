@@ -66,7 +66,7 @@ digits_plain (d ∷ ds) h = let p = and_parts _ _ h in and_from _ _ (digit_plain
 pub plain-append : (xs ys : List ℕ) → plain xs ≡ true → plain ys ≡ true → plain (xs ++ ys) ≡ true
 plain-append xs ys h k = list_all-append is_plain xs ys ∙ and_from _ _ h k
 
--- the number of digits at the start of a text
+-- the run of digits at the start of a number, and the text after it, is the number
 run_len : (width n : ℕ) (xs rest : List ℕ) → IsNumber width n xs → Ends rest → prefix_len is_ascii_digit (xs ++ rest) ≡ width
 run_len width n xs rest is ends =
     let e = passed_prefix is_ascii_digit xs rest is.digits in let s = is.size in let z = ends.no_digit in omega arith

@@ -186,7 +186,7 @@ entries_none definitions said = record {
   below = below_empty 0;
 }
 
--- the elements after the next one
+-- the elements after the one at an index are those from the next index on
 ahead_next : {A : Type 0} (all rest : List A) (index : ℕ) (one : A) → drop index all ≡ one ∷ rest → drop (index + 1) all ≡ rest
 ahead_next all rest index one is = rw add-one (begins_at all index one rest is).more
 

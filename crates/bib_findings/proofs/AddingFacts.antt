@@ -35,7 +35,7 @@ use Rattle.bib_findings.specs.Names.{AreOfUnknown}
 use Rattle.bib_findings.specs.declared.codes.Code.TheVariants.{SuperfluousField}
 use Rattle.bib_findings.specs.declared.finding.Finding.{Finding}
 
--- the findings of the first malformed fields and of the next one
+-- the findings of the malformed fields up to an index are those of the fields before it and of the one at it
 malformed_more : (said : EntryReading) (errors : List (List ℕ × TypeError)) (index : ℕ) (item : List ℕ × TypeError)
     → index < length errors → item ≡ get_or errors index item
     → malformed_findings said (take (index + 1) errors)

@@ -22,7 +22,7 @@ firsts_after = each_after if_first
 abbrev pub raised : FieldReading → FieldReading × ℕ → FieldReading × ℕ
 raised g c = (c.0, cond (have_one_name c.0 g) (one_field_more c.1) c.1)
 
--- the number of items that pass a test among some items and one more
+-- one more item adds 1 to the number of items that pass a test if it passes, and 0 otherwise
 pub count_more : {A : Type 0} (p : A → Bool) (items : List A) (one : A)
     → count_by p (items ++ one ∷ []) ≡ count_by p items + cond (p one) 1 0
 count_more p items one = omega (arith, sum_by-append (λ x. cond (p x) 1 0) items (one ∷ []))
@@ -133,7 +133,7 @@ all_raised fields g (f ∷ firsts) =
     by true more = omega (arith, more)
     by false more = omega (arith, more)
 
--- the counts of some fields and one more
+-- one more field raises the count of its name, or adds a count if its name is new
 pub counts_more : (fields : List FieldReading) (g : FieldReading)
     → counts (fields ++ g ∷ []) ≡ map (raised g) (counts fields) ++ map (count_of (fields ++ g ∷ [])) (if_first fields g)
 counts_more fields g =

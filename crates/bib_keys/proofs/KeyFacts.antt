@@ -171,7 +171,7 @@ now_closed m0 m1 m2 text key number closed new one two = record {
       below
       suffixed)
 
--- a text gets its key
+-- after the numbers of a text and of its first free key are set, the text has got this key
 pub gets_key : (m0 m1 m2 : Numbers) (text key text_name key_name : List ℕ) (number : ℕ) → AreBelowTaken m0
     → text_name ≡ str_to_ascii_lowercase text → key_name ≡ str_to_ascii_lowercase key → IsFirstFree m0 text number key
     → SetsNumber m0 m1 text_name (number + 1) → SetsNumber m1 m2 key_name 1 → TakesKey m0 m2 text key

@@ -137,7 +137,7 @@ pub first_of : (all : List Part) (text : List ℕ) → IsPattern all text → 0 
 first_of _ _ IsPattern.end some = absurd (omega arith)
 first_of _ _ (IsPattern.next {part = p} {parts = ps} {text = t} {rest = r} first rest) some = (p, ps, t, r, first, rest, refl)
 
--- one more part was read
+-- if a part begins the remaining text, it is the last of the parts that were read, and the text after it remains
 pub read_more : (text : List ℕ) (parts : List Part) (part : Part) (here rest after : List ℕ) → IsReadTo text parts rest → IsPart part here
     → rest ≡ here ++ after → 0 < length rest → IsReadTo text (parts ++ (part ∷ [])) after
 read_more text parts part here rest after so_far is_part is some = record {

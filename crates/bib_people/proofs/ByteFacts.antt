@@ -115,7 +115,7 @@ ascii_of test small [] all k = omega arith
 ascii_of test small (b ∷ bs) all zero = small b (and_parts (test b) (list_all test bs) all).0
 ascii_of test small (b ∷ bs) all (suc k) = ascii_of test small bs (and_parts (test b) (list_all test bs) all).1 k
 
--- if a test implies another one, so does passing it throughout
+-- if a test implies another one, elements that all pass the first all pass the second
 pub all_follow : {A : Type 0} (one two : A → Bool) → ((b : A) → one b ≡ true → two b ≡ true) → (bs : List A)
     → list_all one bs ≡ true → list_all two bs ≡ true
 all_follow one two follows [] all = refl

@@ -61,7 +61,7 @@ spaced_begins ((b ∷ bs) ∷ words) all =
 
 -- two lists of words
 
--- words with a space before each, one list after the other
+-- the texts of two lists of words, with a space before each word, are that of their concatenation
 pub after_append : (xs ys : List (List ℕ)) → after_words (xs ++ ys) ≡ after_words xs ++ after_words ys
 after_append [] ys = refl
 after_append (x ∷ xs) ys =
@@ -216,7 +216,7 @@ spaced_words_of ((b ∷ bs) ∷ words) all =
     let both = and_parts (is_solid (b ∷ bs)) (list_all is_solid words) all in
     one_word b bs words both.0 (after_words_of words both.1)
 
--- the letters of such words
+-- the letters of words with a gap before each are those of their text
 pub letters_after : (words : List (List ℕ)) → word_letters false (words_at false words) ≡ letters_of (after_words words)
 letters_after [] = refl
 letters_after (word ∷ words) =

@@ -141,7 +141,7 @@ prefix_passes test (c ∷ cs) = here (test c) refl (prefix_passes test cs)
     here true is more = and_from _ _ is more
     here false is more = refl
 
--- the digits of a parsed leading number
+-- a parsed leading number is that of the digits at the start, and the text after these is left
 number_spelt : (cs : List ℕ) (found : ℕ × List ℕ) → leading_number cs ≡ Some found
     → IsNumber (leading_run is_ascii_digit cs) found.0 × (rest_after is_ascii_digit cs ≡ found.1)
 unfolding leading_number

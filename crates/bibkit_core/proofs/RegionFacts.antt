@@ -63,7 +63,7 @@ both_none : (xs : List ℕ) → both (position_after xs) (position_after []) ≡
 both_none xs =
     ap₂ (λ l c. record { line = l; column = c }) (omega arith) (omega arith) ∙ ap position_after (sym (append-nil xs))
 
--- the position after the first text and `n` bytes of the second one
+-- `both` gives the position after the first text and the first `n` bytes of the second one
 both_taken : (xs ys : List ℕ) (n : ℕ) → n ≤ length ys
     → both (position_after xs) (position_after (take n ys)) ≡ position_after (xs ++ take n ys)
 both_taken xs ys zero within = both_none xs
@@ -76,7 +76,7 @@ both_taken xs ys (suc n) within =
     ∙ ap position_after (append_assoc xs (take n ys) (byte ∷ []))
     ∙ ap (λ zs. position_after (xs ++ zs)) (sym (take-suc ys n 0 below))
 
--- the position after two texts
+-- `both` gives the position after two texts
 both_texts : (xs ys : List ℕ) → both (position_after xs) (position_after ys) ≡ position_after (xs ++ ys)
 both_texts xs ys =
     ap (λ zs. both (position_after xs) (position_after zs)) (sym (take_all (length ys) ys (omega arith)))

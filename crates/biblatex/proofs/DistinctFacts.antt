@@ -179,6 +179,6 @@ all_alone names es n all whole =
     let size : length (keys_of es) ≡ length es = length-map es (λ x. x.key) in
     ((λ yes. distinct names (keys_of es) (λ i within. all i (omega (arith, within, size, whole)))), (λ d. refl))
 
--- the slice from an index to the end
+-- the slice from an index to the end is the rest of the list from there on
 pub to_end : (es : List Entry) (n : ℕ) → take (length es - n) (drop n es) ≡ drop n es
 to_end es n = ap (λ k. take k (drop n es)) (sym (length-drop n es)) ∙ take-length (drop n es)

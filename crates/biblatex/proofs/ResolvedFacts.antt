@@ -109,7 +109,7 @@ names_go l m (x ∷ a) (y ∷ b) n e c =
     ∙ ap (λ k. with_claims m.names (claims_for (claims y) k)) n)
     (ap (drop 1) c)
 
--- the graph of entries, from the names and the texts of the entries
+-- the graph of entries, in terms of their names and texts
 by_all_texts : (names : ByText ℕ) (own : List Entry)
     → graph_by names own ≡ map (λ (s : EntryTexts). references names s.fields) (texts_of_entries own)
 by_all_texts names [] = refl
