@@ -19,7 +19,7 @@ use Rattle.std.specs.declared.ops.Range.{Range}
 use Rattle.std.specs.declared.string.String.{String}
 use Rattle.std.proofs.Common.{Result, Ok, Err, inl, inr, ◌≡◌, ◌<◌, ◌≤◌, ℕ, Bool, true, List, [], ◌∷◌, length, get_or, map, sym, ap, ◌∙◌, subst, arith}
 
--- mapping a list with one element
+-- mapping a list with one element gives the image of this element
 pub one_item : {X Y : Type 0} (f : X → Y) (xs : List X) (x : X) → 1 ≤ length xs → length xs < 2 → x ≡ get_or xs 0 x → map f xs ≡ f x ∷ []
 one_item f [] x least most is = absurd (omega arith)
 one_item f (y ∷ []) x least most is = ap (λ z. f z ∷ []) (sym is)
@@ -75,7 +75,7 @@ no_bibliography_shown {shows} {bytes} found answer utf8 is same =
     subst (λ status. IsBibliographyAnswer shows bytes (string_bytes answer.text) status) (sym listed.1)
     (IsBibliographyAnswer.no_bibliography utf8 listed.0)
 
--- the output for a text with a bibliography
+-- the output that a command shows for a bibliography is its output for a text with this bibliography
 pub bibliography_shown : {shows : Bibliography → List ℕ → ℕ → Type 0} {bytes text : List ℕ} {status : ℕ}
     (found : Result Bibliography Answer) (bibliography : Bibliography) → IsUtf8 bytes → IsParseAnswer bytes found
     → found ≡ Ok bibliography → shows bibliography text status
@@ -102,7 +102,7 @@ lacking_apart is same = apart (sym is ∙ inner same) where
   apart : (let e : SourceError = source.OutOfMemory in e) ≡ source.Failed → ⊥
   apart same = cc
 
--- the line of an error that quotes a name, from its parts
+-- a line of these parts is the line of an error that quotes a name
 pub quoted_line : {Z E : Type 0} (r : Result (String Z) E) (said : List ℕ × List ℕ) (span : Range ℕ) (quoted : List ℕ)
     → IfSome (debug_str said.1) (λ listed. quoted ≡ listed)
     → IfOk r

@@ -43,7 +43,7 @@ report_added e key missing superfluous errors listed old one two new (Err x) sam
     third =
     tt
 
--- the lines of the errors with one more error
+-- appending the line of the next error appends the lines of the errors up to it
 pub error_next : (key : List ℕ) (errors : List (List ℕ × TypeError)) (i : ℕ) (item : List ℕ × TypeError)
     (name old mid new : List ℕ) → i < length errors → item ≡ get_or errors i item → name ≡ item.0
     → mid ≡ old ++ flat_map (malformed_line key) (take i errors) → new ≡ mid ++ malformed_line key (name, item.1)
@@ -59,7 +59,7 @@ error_next key errors i item name old mid new within is named before line =
 pub none_reported : AreReported [] []
 none_reported = record { reports = []; listed = refl; allowed = All-nil IsReport; text = refl }
 
--- the reports with one more entry
+-- appending the report on one more entry gives the reports on all entries
 pub report_next : (before : List (Bor Entry)) (entry : Bor Entry) (old new : List ℕ)
     → AreReported (map (λ e. e.now) before) old → AddsReport entry.now old new
     → AreReported (map (λ e. e.now) (before ++ entry ∷ [])) new

@@ -31,7 +31,7 @@ ten_stands (b ∷ text) (suc at) (suc n) ends before split =
     ap (λ d. cond d (Some (b ∷ text)) (from_ten text)) (begins_not ten (b ∷ text) (before 0 (omega arith)))
     ∙ ten_stands text at n (omega (arith, ends)) (λ k below. before (suc k) (omega (arith, below))) split
 
--- `split_once` of std at `10.` finds it
+-- `split_once` of std at `10.` finds the text from the first `10.` on
 pub ten_found : (text : List ℕ) (r : Option (Bor (List ℕ) × Bor (List ℕ)))
     → MatchOption r (FindsText ten text None)
     (λ x. (i : ℕ) × (j : ℕ) × FindsText ten text (Some (i, j)) × (x.0.now ≡ take i text) × (x.1.now ≡ drop j text)
@@ -41,7 +41,7 @@ ten_found text None h = sym (ten_lacks text h)
 ten_found text (Some x) h =
     ap (λ rest. Some (ten ++ rest)) h.4 ∙ sym (ten_stands text h.0 h.1 h.2.1.ends h.2.0 h.2.1.split)
 
--- a text that is the same as another one, or an error
+-- if the value of an Ok equals `text`, it equals each text that `text` equals
 pub same_or_error : {E : Type 0} (r : Result (List ℕ) E) (text other : List ℕ) → IfOk r (λ t. t ≡ text) → text ≡ other
     → IfOk r (λ t. t ≡ other)
 same_or_error (Ok t) text other is same = is ∙ same

@@ -1,4 +1,4 @@
--- Editors of an entry that has none.
+-- An entry without fields of editors has no variables of editors.
 use Rattle.std.proofs.Common.{◌≡◌, ◌++◌, if◌then◌else◌, ℕ, Bool, true, false, List, [], Option, Some, None, is_some, refl, ap₂, codes, true≢false}
 use Rattle.bib_chunks.specs.Values.{Value}
 use Rattle.bib_entry.specs.declared.entry.Entry.{Entry}
@@ -19,7 +19,7 @@ unfolding names_said
 nobody uses None none = refl
 nobody uses (Some people) none = absurd (true≢false none)
 
--- a field that isn't there lists nobody
+-- a missing field lists nobody
 pub none_listed : (v : Variable) (entry : Entry) (people role : List ℕ) → is_some (field entry people) ≡ false
     → editors_listed v entry people role ≡ []
 unfolding editors_listed
@@ -27,7 +27,7 @@ none_listed v entry people role none =
     either_way (is_under v (role_of (field entry role))) (names_said (uses_prefix entry) (field entry people))
     (nobody (uses_prefix entry) (field entry people) none)
 
--- nor do the four
+-- if the four fields of editors are missing, they list nobody
 pub none_under : (v : Variable) (entry : Entry) → is_some (field entry (codes "editor")) ≡ false
     → is_some (field entry (codes "editora")) ≡ false
     → is_some (field entry (codes "editorb")) ≡ false → is_some (field entry (codes "editorc")) ≡ false → editors_under v entry ≡ []
@@ -38,7 +38,7 @@ none_under v entry first second third fourth =
     (ap₂ (λ a b. a ++ b) (none_listed v entry (codes "editorb") (codes "editorbtype") third)
     (none_listed v entry (codes "editorc") (codes "editorctype") fourth)))
 
--- so that no variable of theirs is there
+-- if they list nobody, the item has no variable of editors
 nothing_given : (v : Variable) (names : List Name) → names ≡ [] → given_people v names ≡ []
 unfolding given_people
 nothing_given v names none = rw none refl

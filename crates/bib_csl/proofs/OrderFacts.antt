@@ -1,4 +1,4 @@
--- The variables of an item stand in one order, so that each stands there once.
+-- The variables of an item are in a fixed order, so each occurs at most once.
 use Rattle.std.proofs.Common.{◌≡◌, ◌≤◌, ◌<◌, ◌+◌, ◌==◌, ℕ, suc, Bool, true, false, if◌then◌else◌, List, [], ◌∷◌, ◌++◌, Option, Some, None, length, codes, bytes_eq, refl, ap, ◌∙◌, arith}
 use Rattle.std.specs.List.{AllByRecursion}
 use Rattle.serde_json.specs.Data.{string, Members, no_members, put}
@@ -34,7 +34,7 @@ order =
     Author ∷ Editor ∷ Compiler ∷ Director ∷ Organizer ∷ Translator ∷ ContainerAuthor ∷ Issued ∷
     Accessed ∷ EventDate ∷ OriginalDate ∷ []
 
--- the place of the variable with this name in it
+-- the index of the variable with this name in a list; the length of the list if there is none
 abbrev place : List ℕ → List Variable → ℕ
 place name [] = 0
 place name (v ∷ vs) = if bytes_eq name (variable_name v) then 0 else suc (place name vs)
@@ -42,7 +42,7 @@ place name (v ∷ vs) = if bytes_eq name (variable_name v) then 0 else suc (plac
 abbrev index : Variable → ℕ
 index v = place (variable_name v) order
 
--- variables from one place in this order up to before another
+-- variables in this order, from one index up to before another
 pub data IsBetween : ℕ → ℕ → List Field → Type 0 where
   none : {lo hi : ℕ} → lo ≤ hi → IsBetween lo hi []
   more : {lo hi : ℕ} {f : Field} {fs : List Field} → lo ≤ index f.variable → IsBetween (index f.variable + 1) hi fs
@@ -56,7 +56,7 @@ from_before : {lo mid hi : ℕ} {fs : List Field} → lo ≤ mid → IsBetween m
 from_before h (none k) = none (omega (arith, h, k))
 from_before h (more k p) = more (omega (arith, h, k)) p
 
--- variables after others
+-- variables in order, followed by later ones, are in order
 joins : {lo mid hi : ℕ} {fs gs : List Field} → IsBetween lo mid fs → IsBetween mid hi gs → IsBetween lo hi (fs ++ gs)
 joins (none h) q = from_before h q
 joins (more h p) q = more h (joins p q)
@@ -163,14 +163,14 @@ details_in_order kind entry =
     joins (volume_fields_in_order kind entry) (joins (page_fields_in_order entry) (joins (identifier_fields_in_order entry)
     (joins (archive_fields_in_order entry) (note_fields_in_order entry))))
 
--- the variables of an item
+-- all variables of an item are in order
 all_in_order : (kind : ItemType) (entry : Entry) → IsBetween 0 51 (item_fields kind entry)
 unfolding item_fields
 all_in_order kind entry =
     joins (work_in_order kind entry)
     (joins (details_in_order kind entry) (joins (people_fields_in_order kind entry) (date_fields_in_order entry)))
 
--- a name that stands before these variables, or after them, keeps what it has
+-- adding variables doesn't change the member of a name that is before all of them in the order, or after all of them
 kept_before : (q : List ℕ) {lo hi : ℕ} {fs : List Field} (ms : Members) → place q order < lo → IsBetween lo hi fs
     → get_member q (with_variables fs ms) ≡ get_member q ms
 unfolding with_variable
@@ -193,7 +193,7 @@ kept_after q ms h (more {f = f} k p) =
     absurd (omega (arith, h, later, e)) in
     kept_after q _ h p ∙ get_member-put_other q (variable_name f.variable) (content_json f.content) ms apart
 
--- each variable is found with what it holds
+-- the member of each variable is its content
 abbrev IsFound : Members → Field → Type 0
 IsFound ms f = get_member (variable_name f.variable) ms ≡ Some (content_json f.content)
 
@@ -214,7 +214,7 @@ variables_found entry = found _ (all_in_order (type_of_entry entry) entry)
 id_is_not_type : codes "id" ≡ codes "type" → ⊥
 id_is_not_type same = let lengths : 2 ≡ 4 = ap length same in absurd (omega (arith, lengths))
 
--- the key and the type stand after all variables in this order
+-- `id` and `type` are no variables, so their members are the key and the type of the entry
 pub key_found : (entry : Entry)
     → get_member (codes "id") (with_variables (item_of_entry entry).fields (head_members (item_of_entry entry)))
     ≡ Some (string entry.key)

@@ -1,4 +1,4 @@
--- Texts of chunks that stand as they are.
+-- Texts of chunks that formatting doesn't change.
 use Rattle.std.proofs.Common.{◌≡◌, ◌++◌, ℕ, true, false, List, [], ◌∷◌, refl, sym, ap, ◌∙◌, append-nil}
 use lib.Utf8.{encode, encodes}
 use Rattle.std.specs.List.{list_all}
@@ -24,7 +24,7 @@ all_in_line : (cs : List ℕ) → list_all is_in_line (encodes cs) ≡ true → 
 all_in_line [] h = refl
 all_in_line (c ∷ cs) h = let p = both is_in_line c cs h in rw (char_in_line c p.0) (all_in_line cs p.1)
 
--- normal text on one line
+-- formatting doesn't change normal text without line breaks
 pub normal_stands : (bs : List ℕ) → IsUtf8 bs → list_all is_in_line bs ≡ true → bs ≡ encodes (flowing false (chars bs) ++ [])
 normal_stands bs utf8 h =
     let cs = chars bs in
@@ -34,6 +34,6 @@ normal_stands bs utf8 h =
     ∙ flowing_run false cs [] (all_in_line cs (ap (list_all is_in_line) spelt ∙ h)) ∙ append-nil cs in
     sym (ap encodes (append-nil (flowing false cs) ∙ same) ∙ spelt)
 
--- verbatim text
+-- verbatim text is the encoding of its characters
 pub verbatim_stands : (bs : List ℕ) → IsUtf8 bs → bs ≡ encodes (chars bs ++ [])
 verbatim_stands bs utf8 = sym (ap encodes (append-nil (chars bs)) ∙ encodes-chars bs utf8)

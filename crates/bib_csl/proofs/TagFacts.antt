@@ -13,7 +13,7 @@ use Rattle.bib_csl.specs.Numbers.{follows_dash_after, page_sign, pages_from}
 use Rattle.bib_csl.specs.Unmarked.{is_unmarked}
 use Rattle.bib_csl.proofs.ByteFacts.{not_this, both}
 
--- a character of a name
+-- the next character of a name is written
 pub loosened_step : (out more total : List ℕ) {u x : Place} {c : ℕ} → CharAt u c x → IsUtf8 (ahead u) → more ≡ out ++ loosen c
     → out ++ loosened (chars (ahead u)) ≡ total → (x.text ≡ u.text) × IsUtf8 (ahead x) × (more ++ loosened (chars (ahead x)) ≡ total)
 loosened_step out more total {u} {x} {c} char utf8 wrote before =
@@ -24,11 +24,11 @@ loosened_step out more total {u} {x} {c} char utf8 wrote before =
           ∙ ap (λ cs. out ++ loosened cs) (sym passed.spelt) ∙ before,
     )
 
--- its end
+-- at the end of a name, nothing is left to write
 pub loosened_end : (out total : List ℕ) (u : Place) → AtEnd u → out ++ loosened (chars (ahead u)) ≡ total → out ++ [] ≡ total
 loosened_end out total u end before = ap (λ cs. out ++ loosened cs) (sym (chars_at_end u end)) ∙ before
 
--- a character of ranges of pages
+-- the next character of ranges of pages is written
 pub pages_step : (out more total : List ℕ) (before after : Bool) {u x : Place} {c : ℕ} → CharAt u c x → IsUtf8 (ahead u)
     → more ≡ out ++ page_sign before c → after ≡ follows_dash_after before c
     → out ++ pages_from before (chars (ahead u)) ≡ total
@@ -43,12 +43,12 @@ pages_step out more total before after {u} {x} {c} char utf8 wrote goes given =
           ∙ ap (λ cs. out ++ pages_from before cs) (sym passed.spelt) ∙ given,
     )
 
--- their end
+-- at the end of ranges of pages, nothing is left to write
 pub pages_end : (out total : List ℕ) (before : Bool) (u : Place) → AtEnd u
     → out ++ pages_from before (chars (ahead u)) ≡ total → out ++ [] ≡ total
 pages_end out total before u end given = ap (λ cs. out ++ pages_from before cs) (sym (chars_at_end u end)) ∙ given
 
--- a character of a text with tags
+-- the next character of a text with tags is written
 pub marked_step : (has_tags : Bool) (out more total : List ℕ) (tags next : List (List ℕ)) (name after : Option (List ℕ)) {u x : Place}
     {c : ℕ} → CharAt u c x → IsUtf8 (ahead u)
     → more ≡ out ++ said has_tags tags name c → next ≡ open_after tags name c → after ≡ name_after name c
@@ -64,13 +64,13 @@ marked_step has_tags out more total tags next name after {u} {x} {c} char utf8 w
           ∙ ap (λ cs. out ++ marked_from has_tags tags name cs) (sym passed.spelt) ∙ before,
     )
 
--- its end
+-- at the end of a text with tags, only the command that is being read and the closing tags are left to write
 pub marked_end : (has_tags : Bool) (out total : List ℕ) (tags : List (List ℕ)) (name : Option (List ℕ)) (u : Place) → AtEnd u
     → out ++ marked_from has_tags tags name (chars (ahead u)) ≡ total → out ++ said_last has_tags tags name ≡ total
 marked_end has_tags out total tags name u end before =
     ap (λ cs. out ++ marked_from has_tags tags name cs) (sym (chars_at_end u end)) ∙ before
 
--- the tag of the innermost brace that is left
+-- the closing tag of the innermost brace that is still open is written
 pub ended_step : (has_tags : Bool) (out more total : List ℕ) (tag : List ℕ) (old new : List (List ℕ)) → old ≡ new ++ tag ∷ []
     → more ≡ out ++ unwrap_or (closing_tag has_tags tag) [] → out ++ all_ended has_tags (reverse old) ≡ total
     → more ++ all_ended has_tags (reverse new) ≡ total
@@ -96,7 +96,7 @@ no_tilde : list_all is_unmarked (encode 126) ≡ false
 unfolding encode
 no_tilde = refl
 
--- it is written as it stands
+-- such a character is written unchanged
 untie_same : (c : ℕ) → list_all is_unmarked (encode c) ≡ true → untie c ≡ encode c
 unfolding untie
 untie_same c good = rw (not_this is_unmarked 126 c no_tilde good) refl
@@ -131,7 +131,7 @@ marked_same has_tags (c ∷ cs) h =
     ap₂ (λ a b. a ++ b) (said_same has_tags c p.0)
     (ap₂ (λ t n. marked_from has_tags t n cs) (open_same c p.0) (name_same c p.0) ∙ marked_same has_tags cs p.1)
 
--- a text without such bytes stays
+-- a text without such bytes is unchanged
 pub loosened_stays : (bs : List ℕ) → IsUtf8 bs → list_all is_unmarked bs ≡ true → bs ≡ loosened (chars bs)
 loosened_stays bs utf8 h =
     let spelt = encodes-chars bs utf8 in sym (loosened_same (chars bs) (ap (list_all is_unmarked) spelt ∙ h) ∙ spelt)

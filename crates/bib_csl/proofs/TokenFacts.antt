@@ -22,7 +22,7 @@ use Rattle.bib_csl.specs.declared.members.Held.{Held}
 use Rattle.bib_csl.specs.Json.{with_string, parts_members, name_members, name_json, month_items, date_parts_json, with_parts, with_season, with_circa, with_literal, date_members}
 use Rattle.bib_csl.specs.Tokens.{tokens_of, held_json, members_held, member_tokens, text_tokens, parts_tokens, name_tokens, month_tokens, circa_tokens, dates_tokens, literal_tokens, season_tokens, date_tokens}
 
--- the elements of an array one after another
+-- the tokens of an array are those of its elements in turn, between brackets
 pub array_tokens : {T : Type 0} (element : T → Data) (xs : List T)
     → begin_array ∷ (flat_map (λ x. tokens_of (element x)) xs ++ end_array ∷ [])
     ≡ tokens_of (array (items_of (map element xs)))
@@ -33,7 +33,7 @@ array_tokens element xs = ap (λ ts. begin_array ∷ ts) (each element xs) where
   each element [] = refl
   each element (x ∷ xs) = append_assoc (tokens_of (element x)) _ _ ∙ ap (λ ts. tokens_of (element x) ++ ts) (each element xs)
 
--- the members of an object one after another
+-- the tokens of an object are those of its members in turn, between braces
 each_member : (ms : List (Bor (List ℕ) × Held))
     → flat_map (λ m. member_tokens m.0.now m.1) ms ++ end_object ∷ []
     ≡ members_tokens (members_outline (members_held ms))
@@ -47,7 +47,7 @@ pub object_tokens : (ms : List (Bor (List ℕ) × Held))
     ≡ tokens_of (object (members_held ms))
 object_tokens ms = ap (λ ts. begin_object ∷ ts) (each_member ms)
 
--- a member that is put into a map from names
+-- the order of borrowed names, by their bytes
 abbrev by_name : Bor (List ℕ) → Bor (List ℕ) → Ordering
 by_name a b = slice_cmp nat_cmp a.now b.now
 
@@ -62,14 +62,14 @@ pub held_put : (ms : List (Bor (List ℕ) × Held)) (name : Bor (List ℕ)) (hel
 held_put [] name held = refl
 held_put (m ∷ ms) name held = held_one (by_name name m.0) _ _ _ ∙ rw (held_put ms name held)
 
--- a text, unless there is none
+-- the tokens of a member with a text, unless the flag says that the text is missing
 abbrev chosen_tokens : Bool → List ℕ → List ℕ → List Token
 chosen_tokens none name text = if none then [] else key name ∷ token.string text ∷ []
 
 abbrev chosen_put : Bool → List ℕ → Data → Members → Members
 chosen_put none name d members = if none then members else put name d members
 
--- the parts of a name, those that there are
+-- the tokens of the parts that a name has are in the order of the members' names
 parts_ordered : (no_d no_f no_g no_n no_s : Bool) (d f g n s : List ℕ)
     → begin_object ∷ ((chosen_tokens no_d (codes "dropping-particle") d ++ (chosen_tokens no_f (codes "family") f
     ++ (chosen_tokens no_g (codes "given") g
@@ -139,7 +139,7 @@ date_parts_ordered p =
     ∙ ap (λ y. begin_array ∷ number y ∷ items_tokens (items_outline (month_items p.month p.day)))
     (sym (integer_text p.year))
 
--- the members of a date, those that there are
+-- the tokens of the members that a date has are in the order of the members' names
 chosen_ordered : (circa no_parts : Bool) (dates : Data) (literal : Option (List ℕ)) (season : Option Season)
     → begin_object
     ∷

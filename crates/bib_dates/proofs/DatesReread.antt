@@ -147,7 +147,7 @@ without_x text h = any_none is_date_byte (λ b. b == 88) no_x text h
 without_slash : (text : List ℕ) → list_all is_date_byte text ≡ true → holds 47 text ≡ false
 without_slash text h = any_none is_date_byte (λ b. b == 47) no_slash text h
 
--- a test that no element of two lists passes, no element of the appended lists passes
+-- if no element of two lists passes a test, no element of their concatenation passes it
 none_of : (p : ℕ → Bool) (xs ys : List ℕ) → list_any p xs ≡ false → list_any p ys ≡ false → list_any p (xs ++ ys) ≡ false
 none_of p xs ys h k = list_any-append p xs ys ∙ rw h k
 

@@ -66,7 +66,7 @@ digits_plain (d ∷ ds) h = let p = and_parts _ _ h in and_from _ _ (digit_plain
 pub plain-append : (xs ys : List ℕ) → plain xs ≡ true → plain ys ≡ true → plain (xs ++ ys) ≡ true
 plain-append xs ys h k = list_all-append is_plain xs ys ∙ and_from _ _ h k
 
--- the number of digits at the start of a text
+-- the run of digits at the start of a number, and the text after it, is the number
 run_len : (width n : ℕ) (xs rest : List ℕ) → IsNumber width n xs → Ends rest → prefix_len is_ascii_digit (xs ++ rest) ≡ width
 run_len width n xs rest is ends =
     let e = passed_prefix is_ascii_digit xs rest is.digits in let s = is.size in let z = ends.no_digit in omega arith
@@ -109,7 +109,7 @@ not_begun byte (x ∷ xs) rest h some other =
     let p = and_parts _ _ h in
     ne_eqb x byte (λ e. let q : is_ascii_digit byte ≡ true = ap is_ascii_digit (sym e) ∙ p.0 in cc)
 
--- a year of four digits without a sign
+-- four digits without a sign are parsed as a year
 year_digits : (n : ℕ) (xs rest : List ℕ) → IsNumber 4 n xs → Ends rest → year (xs ++ rest) ≡ says (pos n, rest)
 unfolding year sign
 year_digits n xs rest is ends =
@@ -162,7 +162,7 @@ no_hyphen (x ∷ xs) rest h some =
     let p = and_parts _ _ h in
     let e : (x == 45) ≡ false = ne_eqb x 45 (λ e. let q : is_ascii_digit 45 ≡ true = ap is_ascii_digit (sym e) ∙ p.0 in cc) in rw e refl
 
--- after a hyphen the number is left
+-- after a hyphen, the number and the text after it are left
 pub hyphens_read : (width n : ℕ) (xs rest : List ℕ) → 0 < width → IsNumber width n xs → Ends rest
     → after_hyphens (45 ∷ (xs ++ rest)) ≡ says (xs ++ rest)
 unfolding after_hyphens

@@ -10,7 +10,7 @@ use Rattle.std.proofs.lemmas.Bool.Decides.{nat_tests}
 use Rattle.std.proofs.lemmas.Bool.{and_parts}
 use Rattle.bib_dates.specs.Parts.{lies}
 
--- a sign, a digit or an uppercase letter
+-- an ASCII byte from `!` to the backtick, or a tilde: a sign, a digit or an uppercase letter
 abbrev pub is_plain : ℕ → Bool
 is_plain b = lies 33 96 b || b == 126
 

@@ -146,7 +146,7 @@ record BeginsAt {A : Type 0} (all : List A) (index : ℕ) (one : A) (rest : List
   more : drop (suc index) all ≡ rest
   within : index < length all
 
--- the element at an index from which the rest of the list begins with it
+-- if the rest of a list from an index on begins with an element, it is the element at the index
 begins_at : {A : Type 0} (all : List A) (index : ℕ) (one : A) (rest : List A) → drop index all ≡ one ∷ rest → BeginsAt all index one rest
 begins_at [] zero one rest is = cc
 begins_at [] (suc index) one rest is = cc
@@ -186,7 +186,7 @@ entries_none definitions said = record {
   below = below_empty 0;
 }
 
--- the elements after the next one
+-- the elements after the one at an index are those from the next index on
 ahead_next : {A : Type 0} (all rest : List A) (index : ℕ) (one : A) → drop index all ≡ one ∷ rest → drop (index + 1) all ≡ rest
 ahead_next all rest index one is = rw add-one (begins_at all index one rest is).more
 

@@ -114,7 +114,7 @@ loaded_none definitions said = record {
   below = below_empty 0;
 }
 
--- the claimed names after one more entry
+-- after one more entry, the claimed names are the old ones and its claims
 pub same_next : (earlier : List (List ℕ)) (entry : Entry) (names : ByText ℕ) (index : ℕ)
     → ((name : List ℕ) → is_some (by_name.get names name) ≡ is_claimed earlier name)
     → (name : List ℕ)
@@ -125,7 +125,7 @@ same_next earlier entry names index same name =
     ∙ ap (λ b. b || is_claimed (claims entry) name) (same name)
     ∙ sym (list_any-append (bytes_eq name) earlier (claims entry))
 
--- adding an entry to a bibliography of added entries
+-- adding one more entry to the empty bibliography appends it, and its claims point to it
 pub bibliography_next : (found : List Entry) (entry : Entry) (names : ByText ℕ)
     → loaded_after empty_bibliography found ≡ record { entries = found; names = names }
     → loaded_after empty_bibliography (found ++ entry ∷ [])

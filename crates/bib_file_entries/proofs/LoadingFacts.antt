@@ -61,7 +61,7 @@ module _ {A B : Type 0} (R : A → B → Type 0) where
   turned_onto (a ∷ xs) xs₂ [] ys₂ all onto = absurd all
   turned_onto (a ∷ xs) xs₂ (b ∷ ys) ys₂ all onto = turned_onto xs (a ∷ xs₂) ys (b ∷ ys₂) all.1 (all.0, onto)
 
-  -- and after reversing both
+  -- two lists related element by element stay so after reversing both
   pub AllZip-reverse : (xs : List A) (ys : List B) → AllZip R xs ys → AllZip R (reverse xs) (reverse ys)
   AllZip-reverse xs ys all = turned_onto xs [] ys [] all tt
 
@@ -101,7 +101,7 @@ module _ (definitions : Definitions) where
   refused_at fields i p pairs e within here all (inr error) =
       inr (error_at_field fields i p pairs e within all (subst (λ q. IsFieldError definitions q e) here error))
 
-  -- one more parsed field
+  -- if the next field is parsed too, the fields up to it are parsed
   pub read_more : (fields : List Pair) (i : ℕ) (p : Pair) (pairs more : List (List ℕ × List (Spanned Chunk)))
       (pair : List ℕ × List (Spanned Chunk)) → i < length fields → p ≡ get_or fields i p
       → AllZip (IsRead definitions) (take i fields) pairs → IsRead definitions p pair → more ≡ pairs ++ pair ∷ []

@@ -57,7 +57,7 @@ field_stays definitions p none =
     } in
     ap build (sym (known_stay definitions (pieces_of p) none))
 
--- the value of a borrowed copy of a field, or else of the borrowed field itself
+-- the value of an optional borrow, or else of another one, is the optional value, or else the other value
 pub now_or : {A : Type 0} (o : Option (Bor A)) (d : Bor A) → (unwrap_or o d).now ≡ unwrap_or (option_copied o) d.now
 now_or None d = refl
 now_or (Some x) d = refl
@@ -73,7 +73,7 @@ left_out definitions said kept old errors new e is error noted pushed = record {
   errors = pushed ∙ ap (λ l. l ++ e ∷ []) noted ∙ append_assoc old (unknown_names definitions (pieces_of said)) (e ∷ []);
 }
 
--- one more piece that is no undefined abbreviation
+-- if the pieces so far and the next one contain no undefined abbreviation, the pieces up to it contain none
 pub none_next : (definitions : Definitions) (field : List (Spanned RawChunk)) (i : ℕ) (d : Spanned RawChunk) → i < length field
     → unknown_names definitions (map piece_of (take i field)) ≡ [] → unknown_names definitions (piece_of (get_or field i d) ∷ []) ≡ []
     → unknown_names definitions (map piece_of (take (i + 1) field)) ≡ []

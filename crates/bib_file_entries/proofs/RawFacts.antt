@@ -16,7 +16,7 @@ use Rattle.bib_entry.specs.declared.entry.Entry.{Entry}
 use Rattle.bib_file_entries.specs.Loading.{IsEntryOf, IsFieldsError, AreReadable, IsFieldOf, last_definition, last_field}
 use Rattle.bib_file_entries.specs.Loaded.{IsEntry, IsFirstErrorOfFields, AllCanBeRead, FieldSays, definition_in, field_in, name_of}
 
--- finding an element of a mapped list
+-- the first image that passes a test is the image of the first element whose image passes
 find_map : {A B : Type 0} (test : B → Bool) (f : A → B) (xs : List A) → find test (map f xs) ≡ option_map f (find (λ x. test (f x)) xs)
 find_map test f [] = refl
 find_map test f (x ∷ xs) =

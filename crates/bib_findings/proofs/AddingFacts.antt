@@ -35,7 +35,7 @@ use Rattle.bib_findings.specs.Names.{AreOfUnknown}
 use Rattle.bib_findings.specs.declared.codes.Code.TheVariants.{SuperfluousField}
 use Rattle.bib_findings.specs.declared.finding.Finding.{Finding}
 
--- the findings of the first malformed fields and of the next one
+-- the findings of the malformed fields up to an index are those of the fields before it and of the one at it
 malformed_more : (said : EntryReading) (errors : List (List ℕ × TypeError)) (index : ℕ) (item : List ℕ × TypeError)
     → index < length errors → item ≡ get_or errors index item
     → malformed_findings said (take (index + 1) errors)
@@ -60,7 +60,7 @@ reported_next said errors index item old mid new finding within is before report
     ∙ ap (λ l. old ++ (malformed_findings said (take index errors) ++ l)) (sym one)
     ∙ ap (λ l. old ++ l) (sym (malformed_more said errors index item within is))
 
--- if the error of the next malformed field isn't reported, the findings of the first ones stay
+-- if the error of the next malformed field isn't reported, the findings of the first ones are also those up to it
 pub unreported_next : (said : EntryReading) (errors : List (List ℕ × TypeError)) (index : ℕ) (item : List ℕ × TypeError)
     (old mid : List Finding) → index < length errors → item ≡ get_or errors index item
     → mid ≡ old ++ malformed_findings said (take index errors)
@@ -106,7 +106,7 @@ report_added said entry missing errors listed old one two new (Ok u) same_errors
 }
 report_added said entry missing errors listed old one two new (Err x) same_errors malformed first second third = tt
 
--- appending the finding of a type, those of a report, those of unknown fields and those of single fields in turn adds the findings of the
+-- appending the findings of the type, the report, the unknown fields and the single fields of an entry in turn adds the findings of the
 -- entry
 pub entry_added : {E U : Type 0} (missing : Names) (said : EntryReading) (entry : Entry) (old one two three new : List Finding)
     (r : Result U E)
@@ -191,12 +191,12 @@ added_in_order none one two three new a b c d empty first second third fourth =
     let start : one ≡ a = first ∙ ap (λ l. l ++ a) empty in
     added_thrice one two three new b c d second third fourth ∙ ap (λ l. l ++ (b ++ (c ++ d))) start
 
--- six lists joined in turn, and from the last to the first
+-- the concatenation of six lists doesn't depend on the order in which they are joined
 joined_in_order : (a b c d e f : List Finding) → ((a ++ (b ++ (c ++ d))) ++ e) ++ f ≡ a ++ (b ++ (c ++ (d ++ (e ++ f))))
 joined_in_order a b c d e f = simp append_assoc
 
--- appending the findings of references, of likely duplicates, of stray fields, of keys, of parents and of foreign fields in turn to an
--- empty list makes those between entries
+-- the findings of references, likely duplicates, stray fields, keys, parents and foreign fields, appended in turn to an empty list, are
+-- those between entries
 pub between_are : (text : List ℕ) (skipped : List SkippedBlock) (names : ByText ℕ) (said : List EntryReading) (origins : List ℕ)
     (own : List Entry) (whole : List EntryReading) (none one two three four five new : List Finding)
     → whole ≡ whole_among skipped (entries_at said origins)

@@ -22,7 +22,7 @@ firsts_after = each_after if_first
 abbrev pub raised : FieldReading → FieldReading × ℕ → FieldReading × ℕ
 raised g c = (c.0, cond (have_one_name c.0 g) (one_field_more c.1) c.1)
 
--- the number of items that pass a test among some items and one more
+-- one more item adds 1 to the number of items that pass a test if it passes, and 0 otherwise
 pub count_more : {A : Type 0} (p : A → Bool) (items : List A) (one : A)
     → count_by p (items ++ one ∷ []) ≡ count_by p items + cond (p one) 1 0
 count_more p items one = omega (arith, sum_by-append (λ x. cond (p x) 1 0) items (one ∷ []))
@@ -39,7 +39,7 @@ count_none p (one ∷ items) none =
       count_none p items (or_false_right (p one) (list_any p items) none),
     )
 
--- the names of two fields are the same in either order
+-- whether two fields have one name doesn't depend on their order
 pub name_turned : (f g : FieldReading) → have_one_name f g ≡ have_one_name g f
 name_turned f g = by (have_one_name f g) (have_one_name g f) refl refl where
   turned : (x y : List ℕ) → bytes_eq x y ≡ true → bytes_eq y x ≡ true
@@ -55,7 +55,7 @@ name_turned f g = by (have_one_name f g) (have_one_name g f) refl refl where
 name_alike : (g f e : FieldReading) → have_one_name f e ≡ true → have_one_name g f ≡ have_one_name g e
 name_alike g f e same = ap (λ n. bytes_eq (lowercase_name g) n) ((bytes_eq-Decides (lowercase_name f) (lowercase_name e)).0 same)
 
--- if a field has a name and an earlier one has its name, an earlier one has the name
+-- if `f` has the name of `g`, and an earlier field has the name of `f`, an earlier field has the name of `g`
 earlier_alike : (g f : FieldReading) (earlier : List FieldReading) → list_any (have_one_name f) earlier ≡ true
     → have_one_name g f ≡ true → list_any (have_one_name g) earlier ≡ true
 earlier_alike g f [] there is = there
@@ -70,14 +70,14 @@ earlier_alike g f (e ∷ earlier) there is =
         ap (λ b. have_one_name g e || b) (rest (sym (ap (λ b. b || list_any (have_one_name f) earlier) differs) ∙ there))
         ∙ or-true (have_one_name g e)
 
--- if a test is passed among `x` or `y` alike, so is it with a test that is passed only if an earlier one is
+-- the step of `any_first` for a field that is left out, in Booleans; `e` is true if `h` is
 skipped : (x y e h : Bool) → (h ≡ true → e ≡ true) → (x || (e || (h || false))) ≡ (y || (e || (h || false)))
     → (x || e) ≡ ((h || y) || e)
 skipped x y true h follows same = or-true x ∙ sym (or-true (h || y))
 skipped x y false true follows same = absurd (let clash : false ≡ true = follows refl in cc)
 skipped x y false false follows same = same
 
--- if a test is passed among `x` or `y` alike, so is it with one more test
+-- the step of `any_first` for a field that is listed, in Booleans
 listed : (x y e h : Bool) → (x || (e || (h || false))) ≡ (y || (e || (h || false))) → ((h || x) || e) ≡ ((h || y) || e)
 listed x y e true same = refl
 listed x y true false same = same
@@ -87,7 +87,7 @@ listed x y false false same = same
 abbrev occurs : FieldReading → List FieldReading → Bool
 occurs g = list_any (have_one_name g)
 
--- a name occurs among the first fields with each name if it occurs among all fields
+-- a name occurs among the first fields with each name or earlier exactly if it occurs among all fields or earlier
 any_first : (g : FieldReading) (earlier fields : List FieldReading)
     → (occurs g (firsts_after earlier fields) || occurs g earlier) ≡ (occurs g fields || occurs g earlier)
 any_first g earlier [] = refl
@@ -133,7 +133,7 @@ all_raised fields g (f ∷ firsts) =
     by true more = omega (arith, more)
     by false more = omega (arith, more)
 
--- the counts of some fields and one more
+-- one more field raises the count of its name, or adds a count if its name is new
 pub counts_more : (fields : List FieldReading) (g : FieldReading)
     → counts (fields ++ g ∷ []) ≡ map (raised g) (counts fields) ++ map (count_of (fields ++ g ∷ [])) (if_first fields g)
 counts_more fields g =
@@ -141,7 +141,7 @@ counts_more fields g =
     ∙ map-append (count_of (fields ++ g ∷ [])) (firsts_after [] fields) (if_first fields g)
     ∙ ap (λ l. l ++ map (count_of (fields ++ g ∷ [])) (if_first fields g)) (all_raised fields g (firsts_after [] fields))
 
--- a name occurs among the counts of some fields if it occurs among the fields
+-- a name occurs among the counts of some fields exactly if it occurs among the fields
 pub any_counted : (fields : List FieldReading) (g : FieldReading)
     → list_any (λ c. have_one_name g c.0) (counts fields) ≡ list_any (have_one_name g) fields
 any_counted fields g =
@@ -153,7 +153,7 @@ any_counted fields g =
     or_false true = refl
     or_false false = refl
 
--- mapping a list whose items are their own images
+-- mapping doesn't change a list whose items are their own images
 pub map_same : {A : Type 0} (f : A → A) (items : List A) (d : A)
     → ((k : ℕ) → k < length items → f (get_or items k d) ≡ get_or items k d) → map f items ≡ items
 map_same f [] d same = refl

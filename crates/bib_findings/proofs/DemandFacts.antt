@@ -8,7 +8,7 @@ use Rattle.bib_syntax.specs.Reading.{EntryReading}
 use Rattle.bib_tables.specs.Requirements.{Names}
 use Rattle.bib_findings.specs.Demands.{date_demand, demanded_field, demands_of, is_met, missing_fields, unmet_fields}
 
--- the fields for the unmet ones of two lists of requirements
+-- the fields for the unmet ones of two lists of requirements are those for the first list, and then those for the second
 unmet-append : (said : EntryReading) (entry : Entry) (demands others : List Names)
     → unmet_fields said entry (demands ++ others) ≡ unmet_fields said entry demands ++ unmet_fields said entry others
 unmet-append said entry demands others =

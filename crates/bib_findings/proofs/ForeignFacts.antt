@@ -31,7 +31,7 @@ counts_both : (first second : List FieldReading) (old mid new : List Counted) �
 counts_both first second old mid new before later fields are =
     subst (AreFieldsCounted new) (append_assoc fields first second) (later (fields ++ first) (before fields are))
 
--- the fields of other programs among the first fields and the next one
+-- the fields of other programs up to an index are those before it, and then the one at it if it is such a field
 foreign_next : (fields : List Pair) (index : ℕ) (field : Pair) → index < length fields → field ≡ get_or fields index field
     → foreign_of (map field_of (take (index + 1) fields))
     ≡ foreign_of (map field_of (take index fields)) ++ foreign_of (field_of field ∷ [])
@@ -63,7 +63,7 @@ counted_same fields index field old new within is own before =
     (foreign_next fields index field within is ∙ ap (λ l. foreign_of (map field_of (take index fields)) ++ l) none
     ∙ append-nil (foreign_of (map field_of (take index fields))))) before
 
--- counting all fields of an entry counts those of the entry
+-- after the last field of an entry, its fields that other programs write are counted
 pub counted_entry : (said : Spanned RawEntry) (fields : List Pair) (index : ℕ) (old new : List Counted) → fields ≡ said.v.fields.items
     → length fields ≤ index → CountsMore (foreign_of (map field_of (take index fields))) old new
     → CountsMore (foreign_among (entry_reading_of said ∷ [])) old new
@@ -71,14 +71,14 @@ counted_entry said fields index old new is end before =
     subst (λ l. CountsMore (foreign_of l) old new)
     (ap (map field_of) (take_all index fields end ∙ is) ∙ sym (append-nil (map field_of said.v.fields.items))) before
 
--- the fields of other programs of some entries and one more
+-- the fields of other programs of some entries and one more are those of the entries, and then those of that one
 among_more : (entries : List EntryReading) (one : EntryReading)
     → foreign_among (entries ++ one ∷ []) ≡ foreign_among entries ++ foreign_among (one ∷ [])
 among_more entries one =
     ap foreign_of (flat_map-append (λ e. e.fields) entries (one ∷ []))
     ∙ filter-append (λ f. is_foreign f.name.text) (flat_map (λ e. e.fields) entries) (flat_map (λ e. e.fields) (one ∷ []))
 
--- the fields of other programs of the first entries at some indices and the next one
+-- the same for the entries at the first indices and at the next one
 among_next : (said : List (Spanned RawEntry)) (origins : List ℕ) (index : ℕ) (one : Spanned RawEntry)
     → All (λ i. i < length said) origins → index < length origins → one ≡ get_or said (get_or origins index 0) one
     → foreign_among (entries_at (map entry_reading_of said) (take (index + 1) origins))
@@ -108,7 +108,7 @@ counts_found : (all fields : List FieldReading) → map counted_finding (map (co
 counts_found all [] = refl
 counts_found all (f ∷ fields) = ap (λ l. foreign_finding all f ∷ l) (counts_found all fields)
 
--- mapping pairs of counts to findings maps the counts
+-- mapping counts to findings is mapping them to pairs, and these to findings
 pairs_found : (counted : List Counted)
     → map (λ c. counted_finding (counted_of c)) counted ≡ map counted_finding (map counted_of counted)
 pairs_found [] = refl

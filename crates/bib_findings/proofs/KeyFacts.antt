@@ -35,7 +35,7 @@ find_more test (item ∷ items) one =
 abbrev pub key_text : EntryReading → List ℕ
 key_text e = e.key.text
 
--- the first entry of some that passes is that of these and one more, unless none passes and the other one does
+-- one more entry doesn't change the key of the first entry that passes, if there is such an entry whenever the new one passes
 same_first : (said : EntryReading) (first : Option EntryReading) (test : Bool)
     → (test ≡ true → (text : List ℕ) × (option_map key_text first ≡ Some text))
     → option_map key_text first ≡ option_map key_text (or_other first (cond test (Some said) None))
@@ -47,7 +47,7 @@ pub or_none : {A : Type 0} (first : Option A) → or_other first None ≡ first
 or_none None = refl
 or_none (Some a) = refl
 
--- an entry without a key has no text
+-- if no key is found, no entry is
 nothing : (first : Option EntryReading) → option_map key_text first ≡ None → first ≡ None
 nothing None none = refl
 nothing (Some e) none = absurd (let clash : Some (key_text e) ≡ None = none in cc)
@@ -67,7 +67,7 @@ keys_same firsts earlier said text are known name =
     ))
     ∙ ap (option_map key_text) (sym (find_more test earlier said))
 
--- storing the key of an entry with a new one extends the first keys by it
+-- storing a key that no earlier entry has extends the first keys by the key of its entry
 pub keys_more : (old new : List ℕ → Option (Bor (List ℕ))) (earlier : List EntryReading) (said : EntryReading) (key : Bor (List ℕ))
     (stored : List ℕ) → stored ≡ lowercase_key said → key.now ≡ key_text said → AreFirstKeys old earlier → old stored ≡ None
     → ((name : List ℕ) → new name ≡ update bytes_eq old stored (Some key) name) → AreFirstKeys new (earlier ++ said ∷ [])

@@ -136,14 +136,14 @@ filter_none test (item ∷ items) none =
     by rest true passes = absurd (let clash : true ≡ false = All-head (λ one. test one ≡ true → true ≡ false) item items none passes in cc)
     by rest false fails = ap (λ b. cond b (item ∷ filter test items) (filter test items)) fails ∙ rest
 
--- what follows from having one of some identities follows from having the first, and from having one of the others
+-- a property of the items that have one of some identities holds for those that have the first
 of_first : (P : EntryReading → Type 0) (id : List ℕ) (ids : Names) (items : List EntryReading)
     → All (λ one. HasOneOf (id ∷ ids) one → P one) items → All (λ one. has_identity id one ≡ true → P one) items
 of_first P id ids items all =
     All-weaker (λ one. HasOneOf (id ∷ ids) one → P one) (λ one. has_identity id one ≡ true → P one)
     (λ one follows has. follows (or_left (has_identity id one) (list_any (λ i. has_identity i one) ids) has)) items all
 
--- the same for the others
+-- the same for the items that have one of the others
 of_others : (P : EntryReading → Type 0) (id : List ℕ) (ids : Names) (items : List EntryReading)
     → All (λ one. HasOneOf (id ∷ ids) one → P one) items → All (λ one. HasOneOf ids one → P one) items
 of_others P id ids items all =

@@ -115,7 +115,7 @@ annotated_none name none =
     (sym (drop_all (position_or_len (λ b. b == char.plus) name + 1) name (let past : length name ≤ _ = omega (arith, none) in past)))
     refl
 
--- what `split_once` says of a name at its first plus sign
+-- the result of `split_once` for a name at its first plus sign
 abbrev SplitAtPlus : List ℕ → Option (Bor (List ℕ) × Bor (List ℕ)) → Type 0
 SplitAtPlus name r =
     MatchOption r (position_or_len (λ b. b == char.plus) name ≡ length name)

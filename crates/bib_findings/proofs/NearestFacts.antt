@@ -138,7 +138,7 @@ nearest_stays seen name known nearest least edits most first is of large far = b
   by false not_plausible (Some best) first is =
       subst (λ l. IsFirstNearest l name best) (sym (filter_same (is_plausible name) seen known not_plausible)) first
 
--- a name that begins with a known one is an extension of it unless an `s` follows
+-- a name that begins with a known one is an extension of it, unless the rest is an `s`
 pub extension_some : (name known rest : List ℕ) (n : ℕ) → FindsTextPrefix known name (Some n) → rest ≡ drop n name
     → not (bytes_eq rest (codes "s")) ≡ is_extension name known
 extension_some name known rest n here is =

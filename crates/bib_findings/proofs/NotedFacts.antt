@@ -230,7 +230,7 @@ pub in_range : (said : List (Spanned RawEntry)) (indices : List ℕ) → All (λ
     → All (λ index. index < length (map entry_reading_of said)) indices
 in_range said indices there = subst (λ n. All (λ index. index < n) indices) (sym (length-map said entry_reading_of)) there
 
--- the selection of the first indices and the next one appends that index if its entry has a shared mark
+-- the selection of the first indices and the next one appends that index if its entry has a mark that occurs more than once
 pub chosen_next : (met : BTreeMap ℕ Bool) (all : List Marks) (indices found new : List ℕ) (index : ℕ) (other : Marks)
     (d : ℕ) (shared : Bool) → length all ≡ length indices → index < length indices
     → ((listed : List ℕ) → AreMetMarks met listed → shared ≡ has_repeated listed (get_or all index other))

@@ -231,7 +231,7 @@ kinds_apart : (id kind text other more : List ℕ) → (get_or (kind ++ text) 0 
 kinds_apart id kind text other more differ one two =
     differ (ap (λ l. get_or l 0 0) (sym (of_kind id kind text one) ∙ of_kind id other more two))
 
--- if at most one of three tests passes, adding an index to a list for each test that passes adds it once if any of them passes
+-- if at most one of three tests passes, adding an index for each one that passes adds it once, or not at all if none passes
 one_of_three : (a b c : Bool) (had more : List ℕ) (add : List ℕ → List ℕ) → add had ≡ more
     → (a ≡ true → b ≡ true → ⊥) → (a ≡ true → c ≡ true → ⊥) → (b ≡ true → c ≡ true → ⊥)
     → cond c (add (cond b (add (cond a (add had) had)) (cond a (add had) had))) (cond b (add (cond a (add had) had)) (cond a (add had) had))
@@ -300,7 +300,7 @@ pub still_there : (old new : List ℕ → Option (Vec ℕ Global)) (count : ℕ)
 still_there old new count ids index there within is id =
     subst (All (λ i. i < count)) (sym (is id)) (remembered_there count ids index id (stored_indices (old id)) within (there id))
 
--- what the test of an order means
+-- `nat_lt` decides the order of numbers
 less : (one other : ℕ) → nat_lt one other ≡ true → one < other
 less one other is = grind (arith, nat_tests, is)
 
@@ -401,7 +401,7 @@ alike_same seen said earlier one first =
     ap (λ l. slice_get l 0)
     (given_agree (alike_by seen said one) (same_by earlier one) (identities one) (λ id. ap (first_alike one) (first id)))
 
--- the finding for the entry that is found by the stored indices is the one of an entry at this index
+-- the finding for the entry that the stored indices find is that of the entry at `index`, compared with the earlier ones
 pub finds_same : (seen : List ℕ → Option (Vec ℕ Global)) (said : List (Spanned RawEntry)) (earlier : List EntryReading) (index : ℕ)
     (item : Spanned RawEntry) (first : Option EntryReading) → index < length said → item ≡ get_or said index item
     → first ≡ alike_among seen (map entry_reading_of said) (entry_reading_of item) (identities (entry_reading_of item))
@@ -413,7 +413,7 @@ finds_same seen said earlier index item first within is found are =
     ∙ sym (append-nil (duplicate_after earlier (entry_reading_of item)))
     ∙ ap (λ o. duplicates_after earlier (cons_option o [])) (sym (entry_at said index item within is))
 
--- the findings of two lists in turn
+-- the findings of a concatenation are those of the first list, and then those of the second after it
 pub duplicates_both : (earlier entries more : List EntryReading)
     → duplicates_after earlier (entries ++ more) ≡ duplicates_after earlier entries ++ duplicates_after (earlier ++ entries) more
 duplicates_both earlier [] more = ap (λ before. duplicates_after before more) (sym (append-nil earlier))
@@ -433,12 +433,12 @@ entries_one_more said indices at index within is =
     ap (entries_at said) (take_more indices at 0 within ∙ ap (λ i. take at indices ++ i ∷ []) (sym is))
     ∙ filter_map-append (slice_get said) (take at indices) (index ∷ [])
 
--- what holds anyway holds if the result is Ok
+-- a fact that holds for any result holds if the result is Ok
 pub on_ok : {U E : Type 0} {P : Type 0} (r : Result U E) → P → OnOk r P
 on_ok (Ok u) p = p
 on_ok (Err e) p = tt
 
--- what follows from a fact that holds if the result is Ok also holds then
+-- a consequence of a fact that holds if the result is Ok holds then too
 pub on_ok_more : {U E : Type 0} {P Q : Type 0} (r : Result U E) → (P → Q) → OnOk r P → OnOk r Q
 on_ok_more (Ok u) more p = more p
 on_ok_more (Err e) more p = tt

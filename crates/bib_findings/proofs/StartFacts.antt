@@ -27,7 +27,7 @@ seen_some : (e : Option (Bor (Spanned RawEntry))) → is_some e ≡ true → is_
 seen_some (Some e) is = refl
 seen_some None is = is
 
--- an entry that begins where an earlier one begins changes nothing
+-- if an earlier entry begins where the next one begins, the map needs no change
 pub starts_same : (entries : BTreeMap ℕ (Bor (Spanned RawEntry))) (earlier : List EntryReading) (said : EntryReading)
     → AreEntriesByStart entries earlier → is_some (get nat_cmp entries said.start) ≡ true
     → AreEntriesByStart entries (earlier ++ said ∷ [])

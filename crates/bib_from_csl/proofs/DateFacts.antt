@@ -1,4 +1,4 @@
--- Dates, written and read again.
+-- Dates parse from their written form.
 use Rattle.std.proofs.Common.{◌≡◌, ℕ, ◌+◌, ◌<◌, Bool, false, cond, List, refl, sym, ap, ap₂, ◌∙◌, arith, Option, Some, None, ℤ, pos, negsuc}
 use Rattle.std.specs.Prelude.{◌||◌, ◌&&◌, not, is_some, option_map}
 use Rattle.std.specs.Ordering.{int_eq}
@@ -43,7 +43,7 @@ datetime_back x k =
     parts_back x.year x.month x.day k.year k.day
     ∙ ap (λ t. Some (record { year = x.year; month = x.month; day = x.day; time = t })) (sym k.time)
 
--- a date as it is read again: it isn't exact where it wasn't sure or exact
+-- a date as it is parsed from its written form: approximate if it was uncertain or approximate
 abbrev again : Date → Date
 again d = date_with d.value (d.uncertain || d.approximate)
 

@@ -18,7 +18,7 @@ listed_members_view : {A : Type 0} (ms : List (Bor (List ℕ) × Value A))
 listed_members_view [] = refl
 listed_members_view (m ∷ ms) = ap (λ js. (m.0.now, value_view m.1) ∷ js) (listed_members_view ms)
 
--- a test of all that a list is made into
+-- the images of all items pass a test exactly if all items of the mapped list pass it
 pub all_mapped : {X Y : Type 0} (test : Y → Bool) (f : X → Y) (xs : List X) → list_all (λ x. test (f x)) xs ≡ list_all test (map f xs)
 all_mapped test f [] = refl
 all_mapped test f (x ∷ xs) = ap (λ b. test (f x) && b) (all_mapped test f xs)

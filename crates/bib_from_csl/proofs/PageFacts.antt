@@ -1,4 +1,4 @@
--- The pages that ranges become are read as these ranges.
+-- The written pages of ranges are parsed as these ranges, and converted back to the same text.
 use Rattle.std.proofs.Common.{◌≡◌, ℕ, ◌+◌, ◌<◌, ◌^◌, Bool, true, false, cond, List, [], ◌∷◌, ◌++◌, length, map, refl, sym, ap, ◌∙◌, subst, arith, append_assoc, append-nil, Some}
 use Rattle.std.specs.Prelude.{codes, ◌==◌, ◌||◌, encode_utf8, encode_utf8_all}
 use Rattle.std.specs.List.{list_all, AllByRecursion, slice_split, onto_first}
@@ -71,7 +71,7 @@ page_chars_if same r = cond same (decimal r.start) (decimal r.start ++ 8211 ∷ 
 abbrev page_chars : Range ℕ → List ℕ
 page_chars r = page_chars_if (r.start == r.end) r
 
--- they spell the range
+-- these characters are parsed as the range
 page_range : (b : Bool) (r : Range ℕ) → (r.start == r.end) ≡ b → RangeKept r → range_of (page_chars_if b r) ≡ Some r
 page_range true r same kept = range_read_of (decimal r.start) r (record {
   before = [];
@@ -108,7 +108,7 @@ page_all false r kept =
     list_all-append is_of_page (decimal r.start) (8211 ∷ decimal r.end)
     ∙ and_from _ _ (decimal_of_page r.start kept.0) (decimal_of_page r.end kept.1)
 
--- their bytes are those that are written
+-- the bytes of these characters are those of the written pages
 decimal_bytes : (n : ℕ) → n < 2 ^ 32 → encode_utf8_all (decimal n) ≡ decimal n
 decimal_bytes n small =
     encodes-IsAscii (decimal n)
@@ -130,7 +130,7 @@ page_written r kept = page_bytes (r.start == r.end) r kept
 decimal_some : (n : ℕ) → n < 2 ^ 32 → 0 < length (decimal n)
 decimal_some n small = (decimal_is_IsNumeral n (omega arith)).0.0
 
--- ---- the characters of several
+-- ---- the characters of several ranges
 
 abbrev more_chars : List (Range ℕ) → List ℕ
 more_chars [] = []
@@ -165,7 +165,7 @@ joined_first : (separator next : List ℕ) → 0 < length next → joined separa
 unfolding joined
 joined_first separator next more = cond-false (length next == 0) _ _ (not_nothing next more)
 
--- what stands after pages
+-- the pages of ranges after a text that isn't empty: the text, and each range after a comma and a space
 after_pages : (before : List ℕ) (rs : List (Range ℕ)) → AllByRecursion RangeKept rs → 0 < length before
     → pages_after before rs ≡ before ++ encode_utf8_all (more_chars rs)
 unfolding pages_after lib.Utf8.encode
@@ -208,7 +208,7 @@ more_scalar [] kept = refl
 more_scalar (r ∷ rs) kept =
     scalars_both (page_chars r) (more_chars rs) (all_scalar (page_chars r) (page_of r kept.0)) (more_scalar rs kept.1)
 
--- ---- where the list is cut
+-- ---- the parts of the list between commas
 
 no_comma : (cs : List ℕ) → list_all is_of_page cs ≡ true → NonePass (λ c. c == 44) cs
 no_comma [] all = tt
@@ -240,7 +240,7 @@ cut_after_space lead r (q ∷ rs) first rest free =
     (none_both lead (page_chars r) free (no_comma (page_chars r) (page_of r first)))
     ∙ ap (λ ts. (lead ++ page_chars r) ∷ ts) (cut_after_space (32 ∷ []) q rs rest.0 rest.1 (refl, tt))
 
--- ---- what the pieces say
+-- ---- the texts of the parts, and the ranges that they are parsed as
 
 skip_none : (cs : List ℕ) → list_all is_of_page cs ≡ true → skip_leading_whitespace cs ≡ cs
 skip_none [] all = refl
@@ -359,7 +359,7 @@ ranges_are r rs first rest =
     ∙ ap (λ ps. all_of (map range_of ps)) (all_parts (encode_utf8_all cs) no_place r rs first rest)
     ∙ each_read (r ∷ rs) (first, rest)
 
--- ---- what is shown of them
+-- ---- the text that the characters are converted back to
 
 sign_of_digit : (b : Bool) (c : ℕ) → is_ascii_digit c ≡ true → page_sign b c ≡ encode_utf8 c
 unfolding page_sign

@@ -1,4 +1,4 @@
--- Names of people, written and read again.
+-- Names of people parse from their written form.
 use Rattle.std.proofs.Common.{◌≡◌, ℕ, suc, Bool, true, false, cond, List, [], ◌∷◌, ◌++◌, length, map, refl, sym, ap, ap₂, ◌∙◌, arith, get_or}
 use Rattle.std.proofs.lemmas.List.{append-nil}
 use Rattle.std.specs.Prelude.{not, ◌&&◌, ◌||◌, ◌==◌, bytes_eq, codes, encode_utf8, encode_utf8_all, unwrap_or}
@@ -31,7 +31,7 @@ use Rattle.bib_from_csl.specs.PlainPeople.{ArePlainNames, IsPlainLiteral, IsPlai
 use Rattle.bib_from_csl.specs.WrittenPeople.{name_chunks, names_chunks, names_from, particle}
 use Rattle.bib_from_csl.proofs.PlainFacts.{name_free, kept_parts, text_of_parts, parts_written, parts_part, named_person, kept_person, person_is, line_comma, line_shown}
 
--- it is read wherever it stands in a list: of three, and alone
+-- a kept person is parsed at each place in a list, as a list of three and a list of one show
 abbrev separator : Value → Value
 separator l = nowhere (Normal (codes " and ")) ∷ l
 
@@ -68,7 +68,7 @@ shown_verbatim t true following utf8 =
     (ap (λ b. chars t ++ b) (formatted_empties before_and (space_after false (Verbatim t)) following)
     ∙ append-nil (chars t)) ∙ encodes-chars t utf8
 
--- a text without a tilde has no ties
+-- a text without a tilde is unchanged by `loosened`
 loosened_same : (cs : List ℕ) → list_any (λ c. c == 126) cs ≡ false → loosened cs ≡ encode_utf8_all cs
 unfolding loosen
 loosened_same [] none = refl
@@ -254,7 +254,7 @@ says_something uses p k =
     && ((length p.dropping_particle == 0) && (length p.non_dropping_particle == 0)))))
     [] (Parts p ∷ [])) (ne_eqb (length p.family) 0 (λ none. omega (arith, k.has_family, none)))
 
--- a literal name
+-- a name without parts parses from one verbatim chunk
 braced_whole : (t : List ℕ) (before following : Bool) → is_literal (padded before following (Verbatim t)) ≡ true
 unfolding is_literal
 braced_whole t false false = refl
@@ -279,7 +279,7 @@ literal_something : (t : List ℕ) → IsPlainLiteral t → unless_empty (Litera
 unfolding unless_empty says_nothing
 literal_something t k = ap (λ b. cond b [] (Literal t ∷ [])) (ne_eqb (length t) 0 (λ none. omega (arith, k.some, none)))
 
--- a name
+-- a plain name is written as one chunk, and parses from it
 chunk_of : (uses : Bool) (name : Name) → IsPlainName uses name → Chunk
 chunk_of uses (Literal t) k = Verbatim t
 chunk_of uses (Parts p) k = Normal (text_of_parts uses p k)
@@ -300,7 +300,7 @@ unfolding chunk_of
 name_read uses (Literal t) k before following = ap unless_empty (literal_said uses t k before following) ∙ literal_something t k
 name_read uses (Parts p) k before following = ap unless_empty (parts_said uses p k before following) ∙ says_something uses p k
 
--- a list of names
+-- the chunks of a list of plain names
 abbrev chunks_of : (uses : Bool) (names : List Name) → ArePlainNames uses names → List Chunk
 chunks_of uses [] all = []
 chunks_of uses (name ∷ names) all = chunk_of uses name all.0 ∷ chunks_of uses names all.1
@@ -323,7 +323,7 @@ all_read uses before name [] k all = ap (λ l. l ++ []) (name_read uses name k b
 all_read uses before name (next ∷ more) k all =
     ap₂ (λ a b. a ++ b) (name_read uses name k before true) (all_read uses true next more all.0 all.1)
 
--- plain names are read back
+-- plain names, at least one, parse from their written form
 pub plain_names_read : (uses : Bool) (name : Name) (names : List Name) → ArePlainNames uses (name ∷ names)
     → names_listed uses (names_chunks uses (name ∷ names)) ≡ name ∷ names
 unfolding names_listed

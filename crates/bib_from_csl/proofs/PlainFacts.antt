@@ -1,4 +1,4 @@
--- A plain name is written as one line of its words, as BibTeX has it.
+-- A plain name is written as one line of its words, in BibTeX's form.
 use Rattle.std.proofs.Common.{◌≡◌, ℕ, ◌<◌, suc, Bool, true, false, cond, List, [], ◌∷◌, ◌++◌, length, refl, sym, ap, ap₂, ◌∙◌, arith}
 use Rattle.std.proofs.lemmas.List.{append-nil}
 use Rattle.std.proofs.Common.{append_assoc}
@@ -46,7 +46,7 @@ name_free b name =
     (ascii_fact (λ x. not (is_name_byte x) || (not (x == 32) && not (x == 126))) free_table b (name_small b name))
     name
 
--- a kept word by its parts
+-- the properties of a kept word
 pub record Kept (word : List ℕ) : Type 0 where
   pub bytes : list_all is_name_byte word ≡ true
   pub other : is_word_and word ≡ false
@@ -90,7 +90,7 @@ words_in_spaced : (words : List (List ℕ)) → AllWords is_name_byte words → 
 words_in_spaced [] all some = absurd (omega arith)
 words_in_spaced (word ∷ words) all some = split_spaced word words all
 
--- a kept word may stand in a name as BibTeX has it
+-- kept words can occur in a name in BibTeX's form
 not_and_word : (word : List ℕ) → is_word_and word ≡ false → bytes_eq word (codes "and") ≡ false
 not_and_word word other = of (bytes_eq word (codes "and")) refl where
   of : (b : Bool) → bytes_eq word (codes "and") ≡ b → bytes_eq word (codes "and") ≡ false
@@ -151,9 +151,9 @@ plain_particle (w ∷ ws) all =
     (and_from (are_plain_words (spaced (w ∷ ws))) (has_small_words (spaced (w ∷ ws)))
     (plain_words (w ∷ ws) any (omega arith)) small)
 
--- a plain name is written as BibTeX has it
+-- a plain name is written in BibTeX's form
 
--- the line of a name by its words
+-- the parts of a name with their separators are the line of its words
 pub text_line : (prefix name suffix given : List (List ℕ)) → AllWords is_small_letter prefix
     → AllWords is_name_byte name → 0 < length name → AllWords is_name_byte suffix → 0 < length given
     → with_separator (spaced prefix) (codes " ")
@@ -192,7 +192,7 @@ text_line prefix name suffix given small capital has_name tail has_given = of pr
       ∙ ap (λ l. l ++ rest) (sym (spaced_then (w ∷ ws) name (omega arith) has_name))
       ∙ sym (line_spelt ((w ∷ ws) ++ name) suffix given (omega arith) tail has_given)
 
--- a plain name by its words
+-- the words and the text of the line of a plain name
 words_of_parts : (uses : Bool) (p : NameParts) (k : IsPlainParts uses p) → List (List ℕ)
 words_of_parts uses p k = line_items (k.prefix.words ++ k.family.words) k.suffix.words k.given_name.words
 
@@ -276,7 +276,7 @@ parts_written uses p k =
     ∙ ap (λ b. cond b (nowhere (Normal (plain_text_of uses p)) ∷ []) (extended_chunks p)) (bibtex_name uses p k)
     ∙ ap (λ t. nowhere (Normal t) ∷ []) (plain_text_is uses p k)
 
--- the words of a line
+-- the words of a plain name are items of a line
 line_words : (uses : Bool) (p : NameParts) (k : IsPlainParts uses p) → AllWords is_name_byte (k.prefix.words ++ k.family.words)
 line_words uses p k =
     list_all-append (is_kept_word is_name_byte) k.prefix.words k.family.words
@@ -321,7 +321,7 @@ person_is uses p k =
     ∙ plain_line k.prefix.words k.family.words k.suffix.words k.given_name.words k.prefix.kept (family_words uses p k)
     k.suffix.kept (given_words uses p k)
 
--- what is shown of a part
+-- the text of an unchanged normal chunk, with or without empty chunks around it
 shown_normal : (t : List ℕ) (before following : Bool) → chars t ≡ t → flowing false t ≡ t → encode_utf8_all t ≡ t
     → text (padded before following (Normal t)) ≡ t
 unfolding chars
@@ -334,7 +334,7 @@ shown_normal t true following same flows spelt =
     (ap₂ (λ a b. a ++ b) (ap (flowing false) same ∙ flows)
     (formatted_empties before_and (space_after false (Normal t)) following) ∙ append-nil t) ∙ spelt
 
--- a line has a comma, so it isn't the word for other people
+-- the line of a plain name has a comma, so it isn't the word `others`
 has_comma : (leading_run rest : List ℕ) → list_any (λ b. b == 44) (leading_run ++ (44 ∷ rest)) ≡ true
 has_comma [] rest = refl
 has_comma (b ∷ bs) rest = ap (λ c. (b == 44) || c) (has_comma bs rest) ∙ or_true (b == 44) where
@@ -350,7 +350,7 @@ line_comma uses p k =
     (more_some k.prefix.words k.family.words (family_words uses p k)) k.suffix.kept (given_words uses p k))
     ∙ has_comma (spaced (k.prefix.words ++ k.family.words)) _
 
--- a line as it is shown
+-- the text of such a line, with or without empty chunks around it, is the line
 pub line_shown : (uses : Bool) (p : NameParts) (k : IsPlainParts uses p) (before following : Bool)
     → text (padded before following (Normal (text_of_parts uses p k))) ≡ text_of_parts uses p k
 unfolding text_of_parts

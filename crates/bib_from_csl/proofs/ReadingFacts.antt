@@ -9,7 +9,7 @@ use Rattle.bib_from_csl.specs.declared.reading.ItemsReading.{ItemsReading}
 use Rattle.bib_from_csl.specs.declared.reading.ItemsReading.TheVariants.{Are, Refused}
 use Rattle.bib_from_csl.specs.GivenItems.{before_fields, before_items, is_head, item_in, items_read_from, member_of, members_read}
 
--- members after others, where all have their form
+-- members after others; `None` if one of them has a wrong form
 abbrev pub after_fields : List Given → Option (List Given) → Option (List Given)
 after_fields before None = None
 after_fields before (Some fields) = Some (before ++ fields)
@@ -18,13 +18,13 @@ pub after_none : (fields : Option (List Given)) → after_fields [] fields ≡ f
 after_none None = refl
 after_none (Some fields) = refl
 
--- one more
+-- the first of the members is added to those before it
 pub after_one : (before : List Given) (field : Given) (rest : Option (List Given))
     → after_fields before (before_fields (Some field) rest) ≡ after_fields (before ++ field ∷ []) rest
 after_one before field None = refl
 after_one before field (Some fields) = ap Some (sym (append_assoc before (field ∷ []) fields))
 
--- a member of the head, a member that has its form, and one that hasn't
+-- a member `id` or `type` is skipped; any other member is added, or has a wrong form, and the result is `None`
 pub head_passed : (before : List Given) (m : List ℕ × Json) (ms : List (List ℕ × Json)) → is_head m.0 ≡ true
     → after_fields before (members_read (m ∷ ms)) ≡ after_fields before (members_read ms)
 head_passed before m ms head =

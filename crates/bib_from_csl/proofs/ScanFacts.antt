@@ -5,7 +5,7 @@ use Rattle.std.specs.Str.{chars, IsUtf8}
 use Rattle.bib_text.specs.Places.{Place, CharAt, AtEnd}
 use Rattle.bib_text.proofs.TextFacts.{ahead, MovesPast, passed_char, chars_at_end}
 
--- a character of a text, of each of which this is written
+-- after the text of the next character is written, the texts of the remaining characters are still to be written
 pub scanned_step : (written : ℕ → List ℕ) (out more total : List ℕ) {u x : Place} {c : ℕ} → CharAt u c x
     → IsUtf8 (ahead u) → more ≡ out ++ written c
     → out ++ flat_map written (chars (ahead u)) ≡ total
@@ -19,7 +19,7 @@ scanned_step written out more total {u} {x} {c} char utf8 wrote before =
           ∙ ap (λ cs. out ++ flat_map written cs) (sym passed.spelt) ∙ before,
     )
 
--- its end
+-- at the end, nothing is still to be written
 pub scanned_end : (written : ℕ → List ℕ) (out total : List ℕ) (u : Place) → AtEnd u
     → out ++ flat_map written (chars (ahead u)) ≡ total → out ++ [] ≡ total
 scanned_end written out total u end before = ap (λ cs. out ++ flat_map written cs) (sym (chars_at_end u end)) ∙ before

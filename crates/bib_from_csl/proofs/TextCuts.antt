@@ -1,4 +1,4 @@
--- Texts that are cut.
+-- Prefixes of texts, and tests of one more element.
 use Rattle.std.proofs.Common.{◌≡◌, ◌+◌, ℕ, Bool, cond, List, [], ◌∷◌, ◌++◌, drop, length, sym, ap, ◌∙◌, MatchOption, Option, Some, None}
 use Rattle.std.specs.Borrow.{Bor}
 use Rattle.std.specs.List.{list_all, list_any}
@@ -10,7 +10,7 @@ use Rattle.bib_from_csl.specs.Tags.{without_prefix}
 use Rattle.bib_text.proofs.ListFacts.{begins, begins_not}
 use Rattle.std.proofs.Math.Bool.{or-false, and-true}
 
--- what is left after a prefix
+-- `strip_prefix` of std returns the text after the prefix
 pub prefix_taken : (prefix text : List ℕ) (r : Option (Bor (List ℕ)))
     → MatchOption r (FindsTextPrefix prefix text None)
     (λ x. (n : ℕ) × FindsTextPrefix prefix text (Some n) × (x.now ≡ drop n text) × (length x.now + n ≡ length text))
@@ -20,7 +20,7 @@ prefix_taken prefix text (Some x) h =
     ap Some (h.2 ∙ ap (λ k. drop k text) h.1.0)
     ∙ sym (ap (λ b. cond b (Some (drop (length prefix) text)) None) (begins prefix text (drop h.0 text) h.1.1))
 
--- one more element that passes or doesn't
+-- one more element: some element passes if one did or the new one does, and all pass if all did and the new one does
 pub any_more : {X : Type 0} (p : X → Bool) (xs : List X) (x : X) (found more : Bool) → found ≡ list_any p xs
     → more ≡ (found || p x) → more ≡ list_any p (xs ++ x ∷ [])
 any_more p xs x found more was is =

@@ -1,4 +1,4 @@
--- The pieces of an array make it.
+-- The pieces of an array, joined, are its text.
 use Rattle.std.proofs.Common.{◌≡◌, ℕ, List, [], ◌∷◌, ◌++◌, codes, true, false, refl, ap}
 use Rattle.bib_json.specs.Arrays.{further_elements, array_text, in_pieces}
 

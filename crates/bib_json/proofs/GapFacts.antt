@@ -1,4 +1,4 @@
--- White space after a text of printed tokens means nothing.
+-- A line feed after a text of printed tokens doesn't change its tokens.
 use Rattle.std.proofs.Common.{◌≡◌, ℕ, Bool, true, false, cond, ◌&&◌, List, [], ◌∷◌, ◌++◌, map, refl, sym, ap, ap₂, ◌∙◌, append_assoc, append-nil, inl, inr}
 use Rattle.json.specs.Token.{Token, begin_object, end_object, begin_array, end_array, key, string, number, boolean, null, bad}
 use Rattle.json.specs.Word.{ends_word, word}
@@ -61,7 +61,7 @@ gap_ends [] r h e = e
 gap_ends (x ∷ g) r (inl is, h) e = rw is
 gap_ends (x ∷ g) r (inr is, h) e = rw is
 
--- after a value stands white space, a comma, a closing bracket or nothing
+-- the text after a value doesn't continue a word: it begins with white space, a comma or a bracket, or it is the tail
 spaced_ends : (ps : List (List ℕ × Token)) (tail : List ℕ) → AreGaps ps → ends_word tail ≡ true
     → ends_word (print_spaced true ps ++ tail) ≡ true
 unfolding print_spaced

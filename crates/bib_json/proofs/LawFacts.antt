@@ -26,12 +26,12 @@ passed Less v rest p = refl
 passed Equal v rest p = absurd p
 passed Greater v rest p = absurd p
 
--- a name stands not among greater ones
+-- a name isn't found among fields with greater names
 none_after : (name : List ℕ) (fields : List Field) → T (below_all by_bytes name fields) → find by_bytes name fields ≡ None
 none_after name [] p = refl
 none_after name (field ∷ rest) p = passed (by_bytes name field.0) field.1 _ (first _ _ p) ∙ none_after name rest (second _ _ p)
 
--- what is found under a name once a field was put, and then those after it
+-- the member of a name after a field was put, and then the fields after it
 next : (b : Bool) (name : List ℕ) (field : Field) (rest : List Field) (ms : Members) → bytes_eq name field.0 ≡ b
     → T (below_all by_bytes field.0 rest)
     → option_or (option_map (field_json name) (find by_bytes name rest)) (get_member name (put field.0 (field_json field.0 field.1) ms))
@@ -59,7 +59,7 @@ found_among (field ∷ rest) ms name p =
     option_or (option_map (field_json name) (cond b (Some field.1) (find by_bytes name rest)))
     (get_member name ms)) (sym (is_eq-slice_cmp name field.0))
 
--- a field is found in the object of all fields
+-- the member of a name in the object of all fields is the JSON value of the field of this name
 pub found_field : (fields : ByText Value) (name : List ℕ)
     → get name (fields_json fields) ≡ option_map (field_json name) (by_name.get fields name)
 found_field fields name =

@@ -1,4 +1,4 @@
--- No part of an entry is a float, so the text of its object is known; and none lies deep, so that text is read again.
+-- The object of an entry has no float, so its text is known. It is not deep, so the text is parsed back.
 use Rattle.std.proofs.Common.{◌≡◌, ℕ, suc, ◌≤◌, arith, List, [], ◌∷◌, map, ℤ, pos, negsuc, Bool, true, false, if◌then◌else◌, Option, Some, None, option_map, option_and_then, unwrap_or, Ordering, Less, Equal, Greater, nat_cmp, refl}
 use Rattle.std.proofs.Math.Nat.{le-max_left, le-max_right, max-le}
 use Rattle.std.specs.Cmp.Lexicographic.{slice_cmp}
@@ -38,22 +38,22 @@ use Rattle.bib_json.specs.Values.{person_members, person_json, range_json, part_
 use Rattle.bib_json.specs.declared.types.ValueType.{ValueType}
 use Rattle.bib_json.specs.declared.types.ValueType.TheVariants as type
 
--- a value has no float and nests at most so deep
+-- a value has no float, and its depth is at most `n`
 record IsPlain (n : ℕ) (d : Data) : Type 0 where
   pub no_float : has_float d ≡ false
   pub shallow : depth d ≤ n
 
--- nor do members
+-- members have no float, and their depth is at most `n`
 record ArePlain (n : ℕ) (ms : Members) : Type 0 where
   pub no_float : members_have_float ms ≡ false
   pub shallow : members_depth ms ≤ n
 
--- a value, if there is one
+-- the same for an optional value
 abbrev IsPlainIfGiven : ℕ → Option Data → Type 0
 IsPlainIfGiven n None = Unit {0}
 IsPlainIfGiven n (Some d) = IsPlain n d
 
--- the values of members
+-- the same for the optional values of members
 abbrev AreGivenPlain : ℕ → List Member → Type 0
 AreGivenPlain n [] = Unit {0}
 AreGivenPlain n (m ∷ rest) = IsPlainIfGiven n m.1 × AreGivenPlain n rest
@@ -67,7 +67,7 @@ one_deeper a n p = omega arith
 one_less : (a : ℕ) → a ≤ 6 → suc a ≤ max_depth
 one_less a p = omega arith
 
--- a member before others, and what these two are
+-- members are plain exactly if the first one and the others are
 before_plain : {n : ℕ} (k : List ℕ) (d : Data) (ms : Members) → IsPlain n d → ArePlain n ms → ArePlain n (member k d ms)
 before_plain k d ms p q = record { no_float = or_from _ _ p.no_float q.no_float; shallow = max-le p.shallow q.shallow }
 
@@ -132,11 +132,11 @@ mapped_plain : {n : ℕ} {T : Type 0} (f : T → Data) (o : Option T) → ((x : 
 mapped_plain f None p = tt
 mapped_plain f (Some x) p = p x
 
--- a value that has no parts
+-- a value of depth 0 without a float is plain
 leaf : {n : ℕ} (d : Data) → has_float d ≡ false → depth d ≡ 0 → IsPlain n d
 leaf d p q = record { no_float = p; shallow = omega arith }
 
--- what lies less deep
+-- a greater bound holds too
 deeper : {m n : ℕ} (d : Data) → m ≤ n → IsPlain m d → IsPlain n d
 deeper {m} {n} d h p = record { no_float = p.no_float; shallow = at_most_one_more (depth d) m n p.shallow h }
 
@@ -275,6 +275,6 @@ whole_plain entry =
 pub entry_has_no_float : (entry : Entry) → has_float (entry_object entry) ≡ false
 entry_has_no_float entry = (whole_plain entry).no_float
 
--- it nests less deep than is read
+-- the depth of an entry's object is less than the greatest that is parsed
 pub entry_is_shallow : (entry : Entry) → suc (depth (entry_object entry)) ≤ max_depth
 entry_is_shallow entry = one_less (depth (entry_object entry)) (whole_plain entry).shallow

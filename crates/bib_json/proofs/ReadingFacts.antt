@@ -1,4 +1,4 @@
--- An array that is written element by element is read as the array of the elements' values.
+-- An array that is written element by element is parsed as the array of the elements' values.
 use Rattle.std.proofs.Common.{◌≡◌, ℕ, suc, ◌≤◌, arith, List, [], ◌∷◌, ◌++◌, map, fold, codes, cond, Bool, true, false, Option, Some, option_map, option_and_then, Result, Ok, Err, IfOk, String, Global, string_bytes, inr, refl, sym, ap, ap₂, subst, ◌∙◌, append_assoc, append-nil}
 use Rattle.std.proofs.lemmas.Grind.{fold-append}
 use Rattle.std.proofs.Math.Nat.{max-le}
@@ -32,17 +32,17 @@ after ended ts = fold (λ _ t. ends t) ended ts
 
 -- ---- tokens with gaps
 
--- tokens on a line of their own
+-- tokens, with a line feed before the first of them
 abbrev on_own_line : List Token → List (List ℕ × Token)
 on_own_line [] = []
 on_own_line (t ∷ ts) = (codes "\n", t) ∷ map (λ t. ([], t)) ts
 
--- those of elements, and the end of the array
+-- the tokens of elements, each on a new line, and the end of the array
 abbrev elements : List Data → List (List ℕ × Token)
 elements [] = (codes "\n", Token.end_array) ∷ []
 elements (d ∷ ds) = on_own_line (json_tokens (outline d)) ++ elements ds
 
--- those of the array
+-- the tokens of the array
 abbrev whole : List Data → List (List ℕ × Token)
 whole [] = ([], Token.begin_array) ∷ ([], Token.end_array) ∷ []
 whole (d ∷ ds) = ([], Token.begin_array) ∷ elements (d ∷ ds)
@@ -81,7 +81,7 @@ gaps_of_whole : (ds : List Data) → AreGaps (whole ds)
 gaps_of_whole [] = (tt, (tt, tt))
 gaps_of_whole (d ∷ ds) = (tt, gaps_of_elements (d ∷ ds))
 
--- ---- how they are printed
+-- ---- the text of these tokens
 
 grouped : (a b c d : List ℕ) → a ++ (b ++ (c ++ d)) ≡ (a ++ (b ++ c)) ++ d
 grouped a b c d = simp append_assoc
@@ -114,7 +114,7 @@ mutual
   members_ended no_members ended = refl
   members_ended (member k d ms) ended = fold-append _ _ (json_tokens (outline d)) (members_tokens (members_outline ms)) ∙ members_ended ms _
 
--- the tokens of a value begin one, and end one
+-- the first of these tokens begins a value, and a value has ended after the last
 record AreOfValue (ts : List Token) : Type 0 where
   pub first : Token
   pub others : List Token
@@ -171,7 +171,7 @@ whole_text (d ∷ ds) =
     ∙ ap (λ l. 91 ∷ 10 ∷ l) (sym (append_assoc (compact_text d) (print_spaced true (elements ds)) (codes "\n")))
     ∙ ap (λ l. 91 ∷ (l ++ codes "\n")) (sym (spaced_element false d (elements ds)))
 
--- ---- what it is read as
+-- ---- the value that the text is parsed as
 
 mutual
   depth_outline : (d : Data) → tree.depth (outline d) ≡ depth d
@@ -193,7 +193,7 @@ mutual
 self_le : (n : ℕ) → n ≤ n
 self_le n = omega arith
 
--- tokens of a text that are those of a value can be printed
+-- if the tokens of a text are those of a value, `HasNumbers` holds for the value
 numbers_of : (text : List ℕ) (d : Data) → tokens text ≡ json_tokens (outline d) → HasNumbers (outline d)
 numbers_of text d same =
     let j = outline d in
@@ -201,7 +201,7 @@ numbers_of text d same =
     (ap (json.value (tree.depth j)) (same ∙ sym (append-nil (json_tokens j)))
     ∙ value-json_tokens j (tree.depth j) [] (self_le (tree.depth j)))
 
--- what is read of tokens of a value
+-- the JSON value that tokens are parsed as
 abbrev parsed : List Token → Option json.Json
 parsed ts = option_and_then (λ p. json.if_last p.0 p.1) (json.value max_depth ts)
 
@@ -212,7 +212,7 @@ parsed_value d shallow =
     (ap (json.value max_depth) (sym (append-nil (json_tokens j)))
     ∙ value-json_tokens j max_depth [] (subst (λ n. n ≤ max_depth) (sym (depth_outline d)) shallow))
 
--- a value whose text is read as it, token by token
+-- the text of a value has the tokens of the value, is parsed as it, and is not too deep
 pub record IsRead (d : Data) : Type 0 where
   pub same : tokens (compact_text d) ≡ json_tokens (outline d)
   pub value : read (compact_text d) ≡ Some d
@@ -247,7 +247,7 @@ not_deep n h = omega arith
 one_deeper : (n : ℕ) → n ≤ 126 → suc n ≤ max_depth
 one_deeper n h = omega arith
 
--- the array is read
+-- the text of an array of such values is parsed as the array
 pub array_read : (ds : List Data) → AreRead ds → read (array_text (map compact_text ds)) ≡ Some (array (items_of ds))
 array_read ds r =
     let d = array (items_of ds) in
@@ -261,7 +261,7 @@ array_read ds r =
 
 -- ---- entries
 
--- the text of an entry that was written is read back
+-- the text that is written for an entry is parsed back
 pub read_back : {E : Type 0} (result : Result (String Global) E) (v : Data) (entry : Entry) → v ≡ entry_object entry
     → IfOk result (λ s. has_float v ≡ false → string_bytes s ≡ compact_text v)
     → IfOk result (λ s. IsInOrder (string_bytes s) v)
@@ -284,7 +284,7 @@ texts_are : (entries : List Entry) → map compact_text (map entry_object entrie
 texts_are [] = refl
 texts_are (entry ∷ rest) = ap (λ l. json_text_of entry ∷ l) (texts_are rest)
 
--- an array of entries is read
+-- the text of an array of entries is parsed as the array of their objects
 pub entries_read : (entries : List Entry) → AllByRecursion IsReadBack entries
     → read (array_text (map json_text_of entries)) ≡ Some (array_of entry_object entries)
 entries_read entries h =

@@ -61,7 +61,7 @@ single_none last (c ∷ text) (x ∷ a) b h e =
 abbrev pub is_no_hyphen : ℕ → Bool
 is_no_hyphen c = not (c == 45)
 
--- a text without hyphens
+-- a text without hyphens has no two in a row
 single_letters : (last : ℕ) (text : List ℕ) → list_all is_no_hyphen text ≡ true → is_single last text ≡ true
 single_letters last [] h = refl
 single_letters last (c ∷ text) h =
@@ -71,7 +71,7 @@ single_letters last (c ∷ text) h =
       of true b x = x
       of false b x = refl
 
--- a text with letters after it
+-- a text without two hyphens in a row stays so if letters that are no hyphens are appended
 single_append : (last : ℕ) (text letters : List ℕ) → is_single last text ≡ true → list_all is_no_hyphen letters ≡ true
     → is_single last (text ++ letters) ≡ true
 single_append last [] letters h l = single_letters last letters l
@@ -85,7 +85,7 @@ pub record IsClean (text : List ℕ) : Type 0 where
   pub characters : list_all is_in_keys text ≡ true
   pub single : is_single 32 text ≡ true
 
--- the text that a pattern gives for an entry
+-- the text that a pattern gives for an entry is such a text
 pub clean_pattern_text : (pattern : List Part) (entry : Entry) → IsClean (pattern_text pattern entry)
 clean_pattern_text pattern entry = of (list_any is_ascii_alphanumeric text) refl where
   text : List ℕ
@@ -105,7 +105,7 @@ clean_pattern_text pattern entry = of (list_any is_ascii_alphanumeric text) refl
   }
   of false h = record { some = lit< tt; characters = refl; single = refl }
 
--- the letters of a suffix
+-- the letters of a suffix are allowed in keys, and none is a hyphen
 suffix_letters : (n : ℕ) (letters : List ℕ) → IsSuffix n letters
     → (list_all is_in_keys letters ≡ true) × (list_all is_no_hyphen letters ≡ true)
 suffix_letters _ _ IsSuffix.none = (refl, refl)

@@ -7,7 +7,7 @@ use Rattle.bib_keys.specs.Bases.{cleaned_after, is_kept}
 use Rattle.bib_keys.specs.Characters.{is_in_keys}
 use Rattle.bib_keys.proofs.PatternFacts.{in_keys_ascii}
 
--- the rest of a list from an index on
+-- the rest of a list from an index on is the element at the index and those after it
 rest_from : (l : List ℕ) (i d : ℕ) → i < length l → drop i l ≡ get_or l i d ∷ drop (i + 1) l
 rest_from l i d within = rw (add-one) (of l i within) where
   of : (l : List ℕ) (k : ℕ) → k < length l → drop k l ≡ get_or l k d ∷ drop (suc k) l
@@ -15,7 +15,7 @@ rest_from l i d within = rw (add-one) (of l i within) where
   of (c ∷ l) zero h = refl
   of (c ∷ l) (suc k) h = of l k (omega arith)
 
--- a character that stays
+-- a character that stays is appended, and becomes the last one before the rest of the text
 pub kept : (last i : ℕ) (bytes text out longer : List ℕ) → bytes ≡ text → i < length bytes → is_kept last (get_or bytes i 0) ≡ true
     → longer ≡ out ++ encode_utf8 (get_or bytes i 0)
     → out ++ cleaned_after last (drop i text) ≡ longer ++ cleaned_after (get_or bytes i 0) (drop (i + 1) text)

@@ -1,4 +1,4 @@
--- A map has as many names as suffixes of a text whose keys it has.
+-- If the suffixes of a text below a number are taken, the map of the taken keys has at least that many names.
 use Rattle.std.proofs.Common.{◌≡◌, ℕ, zero, suc, ◌+◌, ◌-◌, ◌*◌, ◌/◌, ◌%◌, ◌<◌, ◌≤◌, Bool, true, false, List, [], ◌∷◌, ◌++◌, length, map, drop, eqb, refl, sym, ◌∙◌, ap, subst, arith}
 use Rattle.std.specs.Prelude.{String, ◌||◌, string_bytes}
 use Rattle.std.specs.BTreeMap.{BTreeMap, btree_map_len, get_by_text}
@@ -21,12 +21,12 @@ use Rattle.bib_text.proofs.ListFacts.{any_mapped}
 use Rattle.bib_keys.specs.Keys.{IsSuffix}
 use Rattle.bib_keys.specs.Taken.{AreTakenBelow}
 
--- the number of a suffix, whose letters follow those with the number `n`
+-- the number of a suffix whose last letters are these, after letters with the number `n`
 spelled : ℕ → List ℕ → ℕ
 spelled n [] = n
 spelled n (c ∷ letters) = spelled (26 * n + (c - 96)) letters
 
--- one more letter
+-- the number with one more letter at the end
 spelled_more : (n c : ℕ) (letters : List ℕ) → spelled n (letters ++ (c ∷ [])) ≡ 26 * spelled n letters + (c - 96)
 unfolding spelled
 spelled_more n c [] = refl
@@ -67,7 +67,7 @@ suffix_of n = within n n (omega arith) where
         whole : (x : ℕ) → 26 * (x / 26) + x % 26 + 1 ≡ suc x
         whole x = omega arith
 
--- a weaker test finds what a test finds
+-- if some element passes a test, some element passes each weaker test
 any_weaker : {A : Type 0} (p q : A → Bool) → ((x : A) → p x ≡ true → q x ≡ true) → (xs : List A) → list_any p xs ≡ true
     → list_any q xs ≡ true
 any_weaker p q weaker [] h = h
@@ -80,11 +80,11 @@ any_weaker p q weaker (x ∷ xs) h = of (p x) refl (weaker x) (any_weaker p q we
     or_true true b t = refl
     or_true false b t = t
 
--- a name is that of a text, in lower case
+-- two texts that compare as equal are equal
 same_name : (a b : List ℕ) → is_eq (slice_cmp nat_cmp a b) ≡ true → a ≡ b
 same_name a b h = (bytes_eq-Decides a b).0 (sym (is_eq-slice_cmp a b) ∙ h)
 
--- a map has no fewer names than numbers below which all suffixes are taken
+-- if the suffixes of a text below a number are taken, the map has at least that many names
 pub number_bound : (taken : BTreeMap (String Global) ℕ) (text : List ℕ) (number : ℕ) → AreTakenBelow (get_by_text taken) text number
     → number ≤ btree_map_len taken
 number_bound taken text number all =

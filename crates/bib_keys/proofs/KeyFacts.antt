@@ -35,7 +35,7 @@ pub one_with_suffix : (n : ℕ) (text a b : List ℕ) → HasSuffix n text a →
 one_with_suffix n text a b one other =
     one.is ∙ ap (λ s. text ++ s) (one_suffix n n one.suffix other.suffix one.numbered other.numbered refl) ∙ sym other.is
 
--- one more number whose suffix gives a key that is taken
+-- if the suffixes below a number are taken, and so is the one with the number, those below the next number are taken
 pub more_taken : (taken : Numbers) (text key : List ℕ) (number : ℕ) → AreTakenBelow taken text number → HasSuffix number text key
     → is_key_taken taken key ≡ true → AreTakenBelow taken text (number + 1)
 more_taken taken text key number before has this n other below has_other = of (cases_lt n number) where
@@ -46,12 +46,12 @@ more_taken taken text key number before has this n other below has_other = of (c
       let one : other ≡ key = one_with_suffix number text other key (subst (λ m. HasSuffix m text other) same has_other) has in
       subst (λ k. is_key_taken taken k ≡ true) (sym one) this
 
--- a key is taken in any case, or not at all
+-- if a key is taken, so is each key that is the same in any ASCII case
 same_taken : (taken : Numbers) (a b : List ℕ) → str_to_ascii_lowercase a ≡ str_to_ascii_lowercase b → is_key_taken taken a ≡ true
     → is_key_taken taken b ≡ true
 same_taken taken a b same h = sym (ap (λ l. is_some (taken l)) same) ∙ h
 
--- texts that are the same in any case, with the same suffix
+-- texts that are the same in any ASCII case stay so with the same suffix
 same_suffixed : (a b s : List ℕ) → str_to_ascii_lowercase a ≡ str_to_ascii_lowercase b
     → str_to_ascii_lowercase (a ++ s) ≡ str_to_ascii_lowercase (b ++ s)
 same_suffixed a b s same =
@@ -72,7 +72,7 @@ text_taken : (taken : Numbers) (text key : List ℕ) (number : ℕ) → IsFirstF
 text_taken taken text key zero new = inl (one_with_suffix 0 text text key (no_suffix 0 text refl) new.suffixed)
 text_taken taken text key (suc n) new = inr (new.first 0 text (omega arith) (no_suffix 0 text refl))
 
--- the keys that are taken after the numbers of the text and of its key are set
+-- after the numbers of the text and of its key are set, the key is taken in addition to the earlier ones
 pub now_taken : (m0 m1 m2 : Numbers) (text key : List ℕ) (number : ℕ) → IsFirstFree m0 text number key
     → SetsNumber m0 m1 (str_to_ascii_lowercase text) (number + 1) → SetsNumber m1 m2 (str_to_ascii_lowercase key) 1
     → (other : List ℕ) → is_key_taken m2 other ≡ (str_eq_ignore_ascii_case key other || is_key_taken m0 other)
@@ -171,7 +171,7 @@ now_closed m0 m1 m2 text key number closed new one two = record {
       below
       suffixed)
 
--- a text gets its key
+-- after the numbers of a text and of its first free key are set, the text has got this key
 pub gets_key : (m0 m1 m2 : Numbers) (text key text_name key_name : List ℕ) (number : ℕ) → AreBelowTaken m0
     → text_name ≡ str_to_ascii_lowercase text → key_name ≡ str_to_ascii_lowercase key → IsFirstFree m0 text number key
     → SetsNumber m0 m1 text_name (number + 1) → SetsNumber m1 m2 key_name 1 → TakesKey m0 m2 text key
@@ -195,7 +195,7 @@ none_at p xs i d within none = of (cases_Bool (p (get_or xs i d))) where
   of (inl passes) = absurd (clash (list_any p xs) (list_any_at p xs i d within passes) none)
   of (inr fails) = fails
 
--- a test of a longer list
+-- a key is among keys and one more exactly if it is that one, in any ASCII case, or among the others
 has_more : (keys : List (List ℕ)) (key other : List ℕ) (b : Bool) → b ≡ has_same_key keys other
     → (str_eq_ignore_ascii_case key other || b) ≡ has_same_key (keys ++ (key ∷ [])) other
 has_more keys key other b is =
@@ -212,7 +212,7 @@ pub record AreTaken (taken : Numbers) (keys : List (List ℕ)) : Type 0 where
   pub closed : AreBelowTaken taken
   pub same : (key : List ℕ) → is_key_taken taken key ≡ has_same_key keys key
 
--- a map without keys
+-- a map without names has no keys
 pub none_taken : (taken : Numbers) → ((q : List ℕ) → taken q ≡ None) → AreTaken taken []
 none_taken taken none = record {
   closed = record {
@@ -241,7 +241,7 @@ more_keys old new keys text key are is = record {
   same = λ other. is.others other ∙ has_more keys key other (is_key_taken old other) (are.same other);
 }
 
--- the keys of one more entry
+-- the keys of the entries up to an index are those of the entries before it, and the first new key for the one at it
 pub keys_more : (pattern : List Part) (entries : List Entry) (i : ℕ) (entry : Entry) (keys : List (List ℕ)) (text key : List ℕ)
     → AreKeys pattern (take i entries) keys → i < length entries → entry ≡ get_or entries i entry → text ≡ pattern_text pattern entry
     → IsFirstNew keys text key → AreKeys pattern (take (i + 1) entries) (keys ++ (key ∷ []))

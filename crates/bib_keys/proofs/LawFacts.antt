@@ -36,7 +36,7 @@ some_part : (p : Part) (here : List ℕ) → IsPart p here → 0 < length here
 some_part _ _ (IsPart.literal x) = omega arith
 some_part p _ (IsPart.placeholder lacks x) = omega arith
 
--- how the parts of a text begin
+-- the first part of a text with its text, and the other parts with theirs
 record Begins (all : List Part) (text : List ℕ) : Type 0 where
   part : Part
   parts : List Part
@@ -61,7 +61,7 @@ begins _ _ (IsPattern.next {part = p} {parts = ps} {text = t} {rest = r} first o
   text_is = refl;
 }
 
--- the parts of an empty text
+-- an empty text has no parts
 no_parts : (ps : List Part) (text : List ℕ) → IsPattern ps text → length text ≡ 0 → [] ≡ ps
 no_parts _ _ IsPattern.end empty = refl
 no_parts _ _ (IsPattern.next {part = p} {parts = ps} {text = t} {rest = r} first others) empty =
@@ -91,7 +91,7 @@ one_first keys text a b one other = of (cases_lt one.number other.number) (cases
       let same : other.number ≡ one.number = omega arith in
       one_with_suffix one.number text a b one.suffixed (subst (λ n. HasSuffix n text b) same other.suffixed)
 
--- the last elements of equal lists, and those before
+-- equal lists have equal last elements, and the elements before these are equal too
 last_same : {A : Type 0} (xs ys : List A) (x y : A) → xs ++ (x ∷ []) ≡ ys ++ (y ∷ []) → (xs ≡ ys) × (x ≡ y)
 last_same [] [] x y e = (refl, cc)
 last_same [] (b ∷ []) x y e = absurd (omega (arith, ap length e))

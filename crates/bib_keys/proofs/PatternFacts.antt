@@ -64,7 +64,7 @@ one_named text a b c d one other = of one.digits other.digits c d one.number oth
       let same : n ≡ m = omega arith in
       (both.0, ap Some same)
 
--- nothing isn't a part
+-- if there is no part, there isn't this part
 no_part : (o : Option Part) (part : Part) → o ≡ None → o ≡ Some part → ⊥
 no_part o part is other = cc
 
@@ -82,16 +82,16 @@ placeholder_is text name count (Some part) named is = record { name = name; coun
 pub no_literal : is_in_keys 123 ≡ true → ⊥
 no_literal h = cc
 
--- the first numbers of equal lists
+-- the first numbers of equal lists are equal
 pub first_same : (c d : ℕ) (s t : List ℕ) → (c ∷ []) ++ s ≡ d ∷ t → c ≡ d
 first_same c d s t e = cc
 
--- the texts inside equal braces
+-- if a text begins with these braces, the text after its opening brace begins with their inside and the closing brace
 pub inside_same : (after a rest : List ℕ) → 123 ∷ after ≡ (123 ∷ a ++ (125 ∷ [])) ++ rest → after ≡ a ++ (125 ∷ rest)
 inside_same after a rest e =
     let whole : 123 ∷ after ≡ 123 ∷ (a ++ (125 ∷ rest)) = e ∙ ap (λ l. 123 ∷ l) (append_assoc a (125 ∷ []) rest) in cc
 
--- what the test of equal numbers means
+-- `==` decides whether two numbers are equal
 same_number : (a b : ℕ) → a == b ≡ true → a ≡ b
 same_number a b h = grind (arith, nat_tests)
 
@@ -112,7 +112,7 @@ part_end p q _ _ s t (IsPart.placeholder {inside = a} la x) (IsPart.placeholder 
       tails : 123 ∷ (a ++ (125 ∷ s)) ≡ 123 ∷ (b ++ (125 ∷ t)) → a ++ (125 ∷ s) ≡ b ++ (125 ∷ t)
       tails h = cc
 
--- a part with the text of another pattern after it
+-- a pattern with one more part at its end is a pattern
 pub pattern_more : (ps : List Part) (p : Part) (text here : List ℕ) → IsPattern ps text → IsPart p here
     → IsPattern (ps ++ (p ∷ [])) (text ++ here)
 pattern_more _ p _ here IsPattern.end part = subst (IsPattern (p ∷ [])) (append-nil here) (IsPattern.next part IsPattern.end)
@@ -126,7 +126,7 @@ pub record IsReadTo (text : List ℕ) (parts : List Part) (rest : List ℕ) : Ty
   pub read : IsPattern parts before
   pub only : (all : List Part) → IsPattern all text → (others : List Part) × IsPattern others rest
 
--- nothing was read
+-- at the start of the text, no part was read
 pub read_none : (text : List ℕ) → IsReadTo text [] text
 read_none text = record { before = []; is = refl; read = IsPattern.end; only = λ all pattern. (all, pattern) }
 
@@ -137,7 +137,7 @@ pub first_of : (all : List Part) (text : List ℕ) → IsPattern all text → 0 
 first_of _ _ IsPattern.end some = absurd (omega arith)
 first_of _ _ (IsPattern.next {part = p} {parts = ps} {text = t} {rest = r} first rest) some = (p, ps, t, r, first, rest, refl)
 
--- one more part was read
+-- if a part begins the remaining text, it is the last of the parts that were read, and the text after it remains
 pub read_more : (text : List ℕ) (parts : List Part) (part : Part) (here rest after : List ℕ) → IsReadTo text parts rest → IsPart part here
     → rest ≡ here ++ after → 0 < length rest → IsReadTo text (parts ++ (part ∷ [])) after
 read_more text parts part here rest after so_far is_part is some = record {
@@ -150,12 +150,12 @@ read_more text parts part here rest after so_far is_part is some = record {
       (qs, subst (IsPattern qs) (part_end q part t here r after first is_part (sym split ∙ is)) others);
 }
 
--- all was read
+-- if no text is left, the text has the parts that were read
 pub read_all : (text : List ℕ) (parts : List Part) (rest : List ℕ) → IsReadTo text parts rest → length rest ≡ 0 → IsPattern parts text
 read_all text parts [] so_far none = subst (IsPattern parts) (sym (so_far.is ∙ append-nil so_far.before)) so_far.read
 read_all text parts (x ∷ rest) so_far none = absurd (omega arith)
 
--- no part begins where the text goes on
+-- if text is left and no part begins there, the error of the text is at this offset
 pub read_no_more : (text : List ℕ) (parts : List Part) (rest : List ℕ) → IsReadTo text parts rest → 0 < length rest
     → ((part : Part) (here after : List ℕ) → IsPart part here → rest ≡ here ++ after → ⊥)
     → IsPatternError text (stop_error (length text - length rest) rest)
@@ -220,7 +220,7 @@ not_placeholder text after inside left is split lacks none part _ rest (IsPart.p
     let same : inside ≡ a = (cut_once 125 inside a left rest lacks la (sym split ∙ inside_same after a rest (sym is ∙ e))).0 in
     none part (subst (IsPlaceholder part) (sym same) x)
 
--- a placeholder in braces begins a text
+-- a placeholder in braces at the start of a text is a part
 pub is_placeholder : (text after inside left : List ℕ) (part : Part) → text ≡ 123 ∷ after → after ≡ inside ++ (125 ∷ left)
     → LacksByte 125 inside → IsPlaceholder part inside → (here : List ℕ) × IsPart part here × (text ≡ here ++ left)
 is_placeholder text after inside left part is split lacks placeholder = (
@@ -233,13 +233,13 @@ is_placeholder text after inside left part is split lacks placeholder = (
 pub in_keys_ascii : (c : ℕ) → is_in_keys c ≡ true → c < 128
 in_keys_ascii c h = grind (arith, nat_tests)
 
--- a character that is allowed in keys begins a text
+-- a character at the start of a text is a part if it is allowed in keys
 pub is_literal : (text rest : List ℕ) (c : ℕ) → text ≡ encode_utf8 c ++ rest → is_in_keys c ≡ true
     → (here : List ℕ) × IsPart (Literal c) here × (text ≡ here ++ rest)
 is_literal text rest c is allowed =
     (c ∷ [], IsPart.literal allowed, is ∙ ap (λ l. l ++ rest) (encode_ascii c (in_keys_ascii c allowed)))
 
--- another character begins no part
+-- any other character, except an opening brace, begins no part
 pub not_literal : (text after : List ℕ) (c : ℕ) → ((rest : List ℕ) → text ≢ 123 ∷ rest) → text ≡ encode_utf8 c ++ after
     → is_in_keys c ≡ false → (part : Part) (here rest : List ℕ) → IsPart part here → text ≡ here ++ rest → ⊥
 not_literal text after c no_brace is refused part _ rest (IsPart.literal {c = d} x) e =
@@ -251,6 +251,6 @@ not_literal text after c no_brace is refused part _ rest (IsPart.literal {c = d}
 not_literal text after c no_brace is refused part _ rest (IsPart.placeholder {inside = a} la x) e =
     no_brace (a ++ (125 ∷ rest)) (e ∙ ap (λ l. 123 ∷ l) (append_assoc a (125 ∷ []) rest))
 
--- a length that isn't 0
+-- a length that isn't 0 is greater than 0
 pub not_empty : (n : ℕ) → n == 0 ≡ false → 0 < n
 not_empty n h = grind (arith, nat_tests)

@@ -10,7 +10,7 @@ no_suffix n text zero = record {
   is = sym (append-nil text);
 }
 
--- one more letter
+-- the suffix of a number other than 0 is that of a smaller number, with one more letter
 pub more_suffix : (n : ℕ) (text key longer : List ℕ) → n ≢ 0 → HasSuffix ((n - 1) / 26) text key
     → longer ≡ key ++ ((97 + (n - 1) % 26) ∷ []) → HasSuffix n text longer
 more_suffix n text key longer some has is =

@@ -23,7 +23,7 @@ no_upper c h = grind (arith, nat_tests)
 upper_small : (c : ℕ) → c < 128 → to_ascii_uppercase c < 128
 upper_small c h = grind (arith, nat_tests)
 
--- a word whose first character is written in upper case
+-- a word with its first character in upper case is the word in the case `Capital`
 pub capital_is : (word rest : List ℕ) (c : ℕ) → word ≡ encode_utf8 c ++ rest
     → encode_utf8 (to_ascii_uppercase c) ++ rest ≡ in_case Capital word
 capital_is word rest c is = of (cases_lt c 128) where
@@ -45,7 +45,7 @@ capital_is word rest c is = of (cases_lt c 128) where
         let upper : to_ascii_uppercase b ≡ b = no_upper b (not_below b 128 not_small) in
         subst (λ l. l ≡ map to_ascii_uppercase (take 1 l) ++ drop 1 l) first (ap (λ x. x ∷ w) (sym upper))
 
--- a character that is neither a letter, a digit nor a gap
+-- the text for a character that is no ASCII letter, ASCII digit or gap is that of `letters_for`
 pub plain_letters : (c : ℕ) → is_ascii_alphanumeric c ≡ false → is_word_gap c ≡ false → letters_for c ≡ key_letter c
 plain_letters c plain gap =
     sym

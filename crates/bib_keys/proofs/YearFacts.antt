@@ -27,7 +27,7 @@ digits_ascii (c ∷ text) all =
       small : (d : ℕ) → is_ascii_digit d ≡ true → d < 128
       small d h = grind (arith, nat_tests)
 
--- the digits at the start of a text
+-- the four digits at the start of a text are ASCII
 pub year_ascii : (text : List ℕ) → begins_with_year text ≡ true → IsAscii (take 4 text)
 year_ascii text begins =
     digits_ascii (take 4 text) (and_parts (nat_le 4 (length text)) (list_all is_ascii_digit (take 4 text)) begins).1
@@ -46,7 +46,7 @@ year_skipped text i within begins = rw (add-one) (of text i within begins) where
   of (c ∷ l) zero h b = ap (λ t. cond t (take 4 (c ∷ l)) (four_digits l)) b
   of (c ∷ l) (suc k) h b = of l k (omega arith) b
 
--- a year may be cut out of a text
+-- the offset after a year is a character boundary
 pub year_ends : (text : List ℕ) (i : ℕ) → IsUtf8 text → begins_with_year (drop i text) ≡ true → IsCharBoundary text (i + 4)
 year_ends text i utf8 begins =
     let long : 4 ≤ length (drop i text) = long_enough (drop i text) begins in
@@ -58,7 +58,7 @@ year_ends text i utf8 begins =
       next : (n : ℕ) → n + 3 + 1 ≡ n + 4
       next n = omega arith
 
--- the length of four digits
+-- the four digits at the start of a text are four bytes
 pub year_length : (text : List ℕ) → begins_with_year text ≡ true → length (take 4 text) ≡ 4
 year_length text begins = length-take-le 4 text (long_enough text begins)
 
@@ -66,7 +66,7 @@ year_length text begins = length-take-le 4 text (long_enough text begins)
 pub four_more : (n : ℕ) → n + 4 - n ≡ 4
 four_more n = omega arith
 
--- the test of the rest of a text from an index on
+-- the test of the slice from an index on is the test of the text from there on
 pub begins_there : (bytes text : List ℕ) (i : ℕ) (answer value : Bool) → bytes ≡ text
     → answer ≡ begins_with_year (take (length bytes - i) (drop i bytes)) → answer ≡ value → begins_with_year (drop i text) ≡ value
 begins_there bytes text i answer value same test is =

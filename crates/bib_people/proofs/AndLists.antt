@@ -1,4 +1,4 @@
--- Chunks that are written as an `and` list are its parts again, with empty chunks around them.
+-- Chunks that are written as an `and` list are parsed as its parts, with empty chunks around them.
 use Rattle.std.proofs.Common.{◌≡◌, ℕ, Bool, true, false, List, [], ◌∷◌, ◌++◌, refl, sym, ap, ◌∙◌}
 use Rattle.std.proofs.lemmas.Bool.{eq-eqb}
 use Rattle.std.specs.Prelude.{codes, encode_utf8_all, length}
@@ -43,7 +43,7 @@ whole_piece text true false start end = whole_part text _ _ start
 whole_piece text false true start end = whole_part text _ _ end
 whole_piece text false false start end = untouched text
 
--- a normal chunk is one part if trimming doesn't change it and it contains no word `and`
+-- a normal chunk of valid text is one part if trimming doesn't change it and it contains no word `and`
 pub normal_part : (text : List ℕ) → between_ands false (chars text) ≡ chars text ∷ []
     → encode_utf8_all (chars text) ≡ text → trim_start text ≡ text → trim_end text ≡ text → IsPart (Normal text)
 normal_part text one spelt start end = record {

@@ -29,7 +29,7 @@ ascii_fact test all b below =
     (ap test here ∙ fails)) all))
     (cases_Bool (test b))
 
--- a test that holds if another does, given that this holds
+-- if `a` implies `b` and `a` is true, `b` is true
 pub implied : (a b : Bool) → (not a || b) ≡ true → a ≡ true → b ≡ true
 implied true b both is = both
 implied false b both is = absurd (both_ways false refl is)
@@ -115,7 +115,7 @@ ascii_of test small [] all k = omega arith
 ascii_of test small (b ∷ bs) all zero = small b (and_parts (test b) (list_all test bs) all).0
 ascii_of test small (b ∷ bs) all (suc k) = ascii_of test small bs (and_parts (test b) (list_all test bs) all).1 k
 
--- if a test implies another one, so does passing it throughout
+-- if a test implies another one, elements that all pass the first all pass the second
 pub all_follow : {A : Type 0} (one two : A → Bool) → ((b : A) → one b ≡ true → two b ≡ true) → (bs : List A)
     → list_all one bs ≡ true → list_all two bs ≡ true
 all_follow one two follows [] all = refl
@@ -154,21 +154,21 @@ drop_none (b ∷ c ∷ bs) last =
     cond_second (is_whitespace b) (length (drop_trailing_whitespace (c ∷ bs)) == 0) []
     (b ∷ drop_trailing_whitespace (c ∷ bs)) some ∙ ap (λ l. b ∷ l) more
 
--- a text without white space at its start is the same when that is trimmed
+-- an ASCII text without white space at its start is unchanged by `trim_start`
 pub start_none : (bs : List ℕ) → IsAscii bs → skip_leading_whitespace bs ≡ bs → trim_start bs ≡ bs
 unfolding trim_start
 start_none bs ascii none =
     ap (λ cs. encode_utf8_all (skip_leading_whitespace cs)) (chars-IsAscii bs ascii) ∙ ap encode_utf8_all none
     ∙ encodes-IsAscii bs ascii
 
--- a space before a text without white space at its start is trimmed
+-- a space before an ASCII text without white space at its start is trimmed
 pub start_one : (bs : List ℕ) → IsAscii (32 ∷ bs) → IsAscii bs → skip_leading_whitespace bs ≡ bs → trim_start (32 ∷ bs) ≡ bs
 unfolding trim_start
 start_one bs ascii more none =
     ap (λ cs. encode_utf8_all (skip_leading_whitespace cs)) (chars-IsAscii (32 ∷ bs) ascii) ∙ ap encode_utf8_all none
     ∙ encodes-IsAscii bs more
 
--- a text that doesn't end with a space is the same when its end is trimmed
+-- an ASCII text that doesn't end in white space is unchanged by `trim_end`
 pub end_none : (bs : List ℕ) → IsAscii bs → ends_in_space false bs ≡ false → trim_end bs ≡ bs
 unfolding trim_end
 end_none bs ascii last =

@@ -22,7 +22,7 @@ is_comma b = b == 44
 abbrev pub stands : Range ℕ → List ℕ → Spanned Chunk
 stands span text = with_span (Normal text) span.start span.end
 
--- the cut at the first comma
+-- a text is cut at its first comma
 cut_prefix : (leading_run rest : List ℕ) → list_any is_comma leading_run ≡ false
     → cut_characters 44 (leading_run ++ (44 ∷ rest)) ≡ Some (leading_run, rest)
 cut_prefix [] rest none = refl

@@ -20,7 +20,7 @@ pub record Through (test : Word → Bool) (words : List Word) (i end : ℕ) : Ty
   pub is : through_last test words ≡ cond (list_any test (drop i words)) (i + through_last test (drop i words)) end
   pub within : end ≤ i
 
--- if no word passes a test, no word is up to the last that does
+-- if no word passes a test, `through_last` is 0
 pub through_none : (test : Word → Bool) (words : List Word) → list_any test words ≡ false → through_last test words ≡ 0
 through_none test [] none = refl
 through_none test (word ∷ words) none = rw none refl
@@ -79,7 +79,7 @@ through_no test words i end word within is fails so_far =
       within = omega arith;
     }
 
--- a text without spaces
+-- if no byte of a text is 32, none is a space
 pub no_space : (text : List ℕ) → ((i : ℕ) → i < length text → get_or text i 0 ≢ 32) → list_any is_space_byte text ≡ false
 no_space [] none = refl
 no_space (b ∷ bs) none = rw (ne_eqb b 32 (none 0 (omega arith)), no_space bs (λ i within. none (suc i) (omega arith))) refl

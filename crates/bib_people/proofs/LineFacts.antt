@@ -43,7 +43,7 @@ all_any test words all = all_follow (is_kept_word test) (is_kept_word is_name_by
 pub name_no_space : (b : ℕ) → is_name_byte b ≡ true → not (is_whitespace b) ≡ true
 name_no_space b name = (and_parts (not (is_whitespace b)) _ (name_plain b name)).0
 
--- a word with or without a comma after it
+-- an item of a line: a non-empty word of bytes of a written name, other than `and`
 abbrev pub is_line_item : List ℕ → Bool
 is_line_item word = is_item word && list_all is_line_byte word
 
@@ -172,7 +172,7 @@ first_some : (word : List ℕ) (words : List (List ℕ)) → AllWords is_name_by
 first_some [] words all = absurd (false≢true all)
 first_some (b ∷ bs) words all = ne_eqb (suc (length (bs ++ after_words words))) 0 (λ none. omega arith)
 
--- the text of a suffix and a given name, as words
+-- a suffix, if any, with a comma after it, and a given name are the line of their words
 pub suffix_line : (suffix given : List (List ℕ)) → AllWords is_name_byte suffix → 0 < length given
     → suffix_text (spaced suffix) ++ spaced given ≡ spaced (comma suffix ++ given)
 suffix_line [] given all some = refl
@@ -189,7 +189,7 @@ pub more_some : (xs ys : List (List ℕ)) → 0 < length ys → 0 < length (xs +
 more_some [] ys some = some
 more_some (x ∷ xs) ys some = omega arith
 
--- the text of the words of a person
+-- the line of a person: the words before the first comma, the comma and a space, the suffix if any, and the given name
 pub line_spelt : (leading_run suffix given : List (List ℕ)) → 0 < length leading_run → AllWords is_name_byte suffix → 0 < length given
     → spaced (line_items leading_run suffix given) ≡ spaced leading_run ++ (44 ∷ 32 ∷ (suffix_text (spaced suffix) ++ spaced given))
 line_spelt [] suffix given none all some = absurd (omega arith)
@@ -199,7 +199,7 @@ line_spelt (f ∷ fs) suffix given first all some =
     ∙ append_assoc (spaced (f ∷ fs)) (44 ∷ []) (32 ∷ spaced (comma suffix ++ given))
     ∙ ap (λ l. spaced (f ∷ fs) ++ (44 ∷ 32 ∷ l)) (sym (suffix_line suffix given all some))
 
--- a person is written as one normal chunk
+-- a person with a family name and a given name, and a prefix in lower case if any, is written as one normal chunk
 pub plain_line : (prefix name suffix given : List (List ℕ)) → AllWords is_small_letter prefix → 0 < length name
     → AllWords is_name_byte suffix → 0 < length given
     → plain_chunks (person (spaced name) (spaced given) (spaced prefix) (spaced suffix))

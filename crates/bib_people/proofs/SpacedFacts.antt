@@ -42,7 +42,7 @@ after_ends (word ∷ words) all =
     ends-append true word (after_words words)
     ∙ ap (λ e. ends_in_space e (after_words words)) (word_ends true word both.0) ∙ after_ends words both.1
 
--- words do not end in white space
+-- a line of words doesn't end in white space
 pub spaced_ends : (words : List (List ℕ)) → list_all is_solid words ≡ true → ends_in_space false (spaced words) ≡ false
 spaced_ends [] all = refl
 spaced_ends (word ∷ words) all =
@@ -50,7 +50,7 @@ spaced_ends (word ∷ words) all =
     ends-append false word (after_words words)
     ∙ ap (λ e. ends_in_space e (after_words words)) (word_ends false word both.0) ∙ after_ends words both.1
 
--- words do not begin with white space
+-- a line of words doesn't begin with white space
 pub spaced_begins : (words : List (List ℕ)) → list_all is_solid words ≡ true
     → list_all (λ b. not (is_whitespace b)) (take 1 (spaced words)) ≡ true
 spaced_begins [] all = refl
@@ -61,7 +61,7 @@ spaced_begins ((b ∷ bs) ∷ words) all =
 
 -- two lists of words
 
--- words with a space before each, one list after the other
+-- the texts of two lists of words, with a space before each word, are that of their concatenation
 pub after_append : (xs ys : List (List ℕ)) → after_words (xs ++ ys) ≡ after_words xs ++ after_words ys
 after_append [] ys = refl
 after_append (x ∷ xs) ys =
@@ -99,7 +99,7 @@ either : (space : Bool) (cs : List ℕ) → word_here true cs ≡ false → word
 either true cs none = none
 either false cs none = never cs
 
--- there is no cut at a character where no such word is
+-- there is no cut at a character at which the word `and` doesn't begin
 step : (space : Bool) (c : ℕ) (cs : List ℕ) → word_here space (c ∷ cs) ≡ false
     → between_ands (is_whitespace c) cs ≡ cs ∷ [] → between_ands space (c ∷ cs) ≡ (c ∷ cs) ∷ []
 step space c cs here more = between_other space c cs here ∙ ap (prepend (c ∷ [])) more
@@ -112,7 +112,7 @@ run (b ∷ bs) rest all more =
     step false b (bs ++ rest) (never (b ∷ (bs ++ rest)))
     (ap (λ s. between_ands s (bs ++ rest)) (not-true (is_whitespace b) both.0) ∙ run bs rest both.1 more)
 
--- the word isn't where another word begins that a space or nothing follows
+-- the word `and` doesn't begin at the start of another word that a space or nothing follows
 no_space : (a d s : Bool) → (((a && false) && d) && s) ≡ false
 no_space true d s = refl
 no_space false d s = refl
@@ -208,7 +208,7 @@ after_words_of ((b ∷ bs) ∷ words) all =
     words_gap (letter false 32 ∷ []) (letters_of (b ∷ (bs ++ after_words words))) (letters_of (b ∷ bs))
     (words_at false words) refl (one_word b bs words both.0 (after_words_of words both.1))
 
--- the words of a text of words
+-- the words of a line are the words that it was made of
 pub spaced_words_of : (words : List (List ℕ)) → list_all is_solid words ≡ true → words_of (letters_of (spaced words)) ≡ words_at true words
 spaced_words_of [] all = refl
 spaced_words_of ([] ∷ words) all = absurd (false≢true all)
@@ -216,7 +216,7 @@ spaced_words_of ((b ∷ bs) ∷ words) all =
     let both = and_parts (is_solid (b ∷ bs)) (list_all is_solid words) all in
     one_word b bs words both.0 (after_words_of words both.1)
 
--- the letters of such words
+-- the letters of words with a gap before each are those of their text
 pub letters_after : (words : List (List ℕ)) → word_letters false (words_at false words) ≡ letters_of (after_words words)
 letters_after [] = refl
 letters_after (word ∷ words) =

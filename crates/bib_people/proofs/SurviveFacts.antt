@@ -57,7 +57,7 @@ no_equals items all before following =
     (items_bytes items all)) in
     padded_no_equals before following (spaced items) none
 
--- a name that is cut at its comma
+-- a name that is cut before its given name is parsed as the person
 with_comma_read : (before following : Bool) (prefix name given : List (List ℕ)) (suffix : List ℕ) (a c : Range ℕ)
     → AllWords is_small_letter prefix → AllWords is_capital_letter name → AllWords is_name_byte given → 0 < length name
     → 0 < length (spaced given)
@@ -103,7 +103,7 @@ pub some_words : (words : List (List ℕ)) → 0 < length (spaced words) → 0 <
 some_words [] some = some
 some_words (w ∷ ws) some = omega arith
 
--- the chunks after the first comma
+-- a name that is cut at its first comma is parsed as the person
 after_read : (before following : Bool) (prefix name suffix given : List (List ℕ)) (a c : Range ℕ)
     → AllWords is_small_letter prefix → AllWords is_capital_letter name → AllWords is_name_byte suffix
     → AllWords is_name_byte given → 0 < length name → 0 < length (spaced given)
@@ -327,6 +327,6 @@ people_survive (p ∷ people) are =
     (all_parts people are.all.1))
     ∙ parts_read false p people are.all.0 are.all.1
 
--- kept people parse from their written form
+-- the same law, with an optional value as for other types
 pub people_survive_read : (people : List Person) → ArePeople people → Some (people_of (people_chunks people)) ≡ Some people
 people_survive_read people are = ap (λ x. Some x) (people_survive people are)

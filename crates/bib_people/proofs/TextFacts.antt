@@ -1,4 +1,4 @@
--- Texts of kept words, as parts of a written name: each is read as itself, and low words before others as the prefix.
+-- Texts of kept words, as parts of a written name: each is parsed as itself, and low words before others as the prefix.
 use Rattle.std.proofs.Common.{◌≡◌, ℕ, ◌+◌, ◌-◌, ◌<◌, Bool, true, false, List, [], ◌∷◌, ◌++◌, length, map, refl, sym, ap, ◌∙◌, arith, suc, cond, length-append, zero, ◌⊎◌, inl, inr}
 use Rattle.std.specs.Prelude.{not, ◌&&◌, ◌||◌, ◌==◌, encode_utf8_all}
 use Rattle.std.specs.List.{list_all, list_any, prefix_len}

@@ -46,7 +46,7 @@ abbrev pub stand_apart : List Word → Bool
 stand_apart [] = true
 stand_apart (word ∷ words) = not (length word.gap == 0)
 
--- the words after a gap
+-- a gap before the first word belongs to this word
 pub words_gap : (gap rest inside : List Letter) (words : List Word) → list_all is_gap gap ≡ true
     → words_of rest ≡ a_word [] inside ∷ words → words_of (gap ++ rest) ≡ a_word gap inside ∷ words
 words_gap [] rest inside words all is = is
@@ -80,7 +80,7 @@ words_word l (m ∷ inside) after no_gap all apart =
     let more = words_word m inside after (not-true (is_gap m) both.0) both.1 apart in
     rw (more, no_gap) refl
 
--- after a word comes a gap or nothing
+-- no words at all stand apart from a word before them
 pub apart_end : stand_apart (words_of []) ≡ true
 apart_end = refl
 
@@ -120,7 +120,7 @@ next rest before (b ∷ bs) inside after gap whole first some in_word out =
     let sizes : length rest ≡ length before + length (b ∷ bs) = ap length whole ∙ length-append before (b ∷ bs) in
     (ap words_of whole ∙ words_gap before (b ∷ bs) inside (words_of after) gap after_words, omega arith)
 
--- the first word of letters, its gap, and fewer letters left
+-- the first word is found with the gap before it, and fewer letters are left after it
 pub next_word : (rest before following inside after : List Letter) → before ≡ take (gap_len rest) rest
     → following ≡ drop (gap_len rest) rest → 0 < length following → inside ≡ take (word_len following) following
     → after ≡ drop (word_len following) following

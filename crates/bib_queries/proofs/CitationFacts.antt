@@ -37,7 +37,7 @@ known_keys keys c known =
       of true = refl
       of false = refl
 
--- a citation of a new key is appended
+-- a citation of a new key other than `*` is appended
 pub new_keys : (keys : List Citation) (c : Citation) → bytes_eq c.key (codes "*") ≡ false
     → list_any (λ k. bytes_eq k.key c.key) keys ≡ false → fold add_citation keys (c ∷ []) ≡ keys ++ c ∷ []
 new_keys keys c other new = ap₂ (λ a b. cond (a || b) keys (keys ++ c ∷ [])) other new
@@ -85,7 +85,7 @@ or_then true false = refl
 or_then false true = refl
 or_then false false = refl
 
--- a name is a set's among elements and one more exactly if it is that of the last element, or a set's among the other elements
+-- some of these elements or one more defines a set with a name exactly if the last one does, or one of the others
 pub listed_more : (pieces : List (Bor (List ℕ))) (piece : Bor (List ℕ)) (key : List ℕ) (some more : Bool)
     → more ≡ (is_listed (set_name piece.now) key || some)
     → some ≡ is_listed (flat_map set_name (map (λ p. p.now) pieces)) key

@@ -32,7 +32,7 @@ part_stands part (b ∷ text) (suc at) (suc n) ends before split =
     (begins_not part (b ∷ text) (before 0 (omega arith)))
     ∙ part_stands part text at n (omega (arith, ends)) (λ k below. before (suc k) (omega (arith, below))) split
 
--- `split_once` of std at a text returns the text after it
+-- `split_once` of std at a part returns the text after the first occurrence of the part
 pub part_after : (part text : List ℕ) (r : Option (Bor (List ℕ) × Bor (List ℕ)))
     → MatchOption r (FindsText part text None)
     (λ x. (i : ℕ) × (j : ℕ) × FindsText part text (Some (i, j)) × (x.0.now ≡ take i text) × (x.1.now ≡ drop j text)

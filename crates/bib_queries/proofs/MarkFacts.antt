@@ -76,8 +76,7 @@ any_push test (y ∷ xs) x = ap (λ b. test y || b) (any_push test xs x) ∙ of 
   of false true c = refl
   of false false c = refl
 
--- the images of the first elements and the next one have one that passes a test exactly if the next one's passes or an earlier one's
--- does
+-- some image of the elements up to an index passes a test exactly if that of the element at the index passes, or an earlier one does
 pub any_more : {X Y : Type 0} (v : X → Y) (test : Y → Bool) (xs : List X) (i : ℕ) (d : X) → i < length xs
     → list_any test (map v (take (i + 1) xs)) ≡ cond (test (v (get_or xs i d))) true (list_any test (map v (take i xs)))
 any_more v test xs i d within =

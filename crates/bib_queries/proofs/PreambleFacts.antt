@@ -52,13 +52,13 @@ spans_between {u} {v} {bytes} s =
 
 -- ---- quotes that are hidden
 
--- a byte that is neither a quote nor a backslash changes nothing
+-- a byte that is neither a quote nor a backslash doesn't change whether all quotes are hidden
 other_sign : (b : ℕ) (bs : List ℕ) → (b ≡ 92 → ⊥) → (b ≡ 34 → ⊥) → are_quotes_hidden false (b ∷ bs) ≡ are_quotes_hidden false bs
 other_sign b bs no_slash no_quote =
     ap (λ x. cond x (are_quotes_hidden true bs) (not (b == 34) && are_quotes_hidden false bs)) (ne_eqb b 92 no_slash)
     ∙ ap (λ x. not x && are_quotes_hidden false bs) (ne_eqb b 34 no_quote)
 
--- bytes that are neither a quote nor a backslash change nothing
+-- bytes that are neither a quote nor a backslash don't change whether all quotes are hidden
 other_signs : (bs rest : List ℕ) → ((k : ℕ) → k < length bs → get_or bs k 0 ≡ 92 → ⊥)
     → ((k : ℕ) → k < length bs → get_or bs k 0 ≡ 34 → ⊥)
     → are_quotes_hidden false (bs ++ rest) ≡ are_quotes_hidden false rest

@@ -25,7 +25,7 @@ Map = BTreeMap (Bor (List ℕ)) (Vec ℕ)
 
 -- ---- one more name, one more node
 
--- a name is among names and one more if it is this one or among the others
+-- a name is among names and one more exactly if it is this one or among the others
 pub among_push : (names : List (List ℕ)) (one name : List ℕ)
     → is_listed (names ++ one ∷ []) name ≡ cond (bytes_eq one name) true (is_listed names name)
 among_push names one name = any_push (λ n. bytes_eq n name) names one
@@ -49,7 +49,7 @@ holder_more false old now after index one among among' is is' so = (
   λ h. subst (λ l. Contains l one) (sym is) (so.1 (⊎_elim (λ o. inl o) (λ x. inr (x.0, sym is' ∙ x.1)) h)),
 )
 
--- a name is among the first `i + 1` names if it is the last of them or among the others
+-- a name is among the first `i + 1` names exactly if it is the last of them or among the others
 pub among_more : (names : List (Bor (List ℕ))) (i : ℕ) (d : Bor (List ℕ)) (name : List ℕ) → i < length names
     → is_listed (map (λ n. n.now) (take (i + 1) names)) name
     ≡ cond (bytes_eq (get_or names i d).now name) true (is_listed (map (λ n. n.now) (take i names)) name)
@@ -104,7 +104,7 @@ holder_added m mid new name index v items left other is = of (bytes_eq name othe
 abbrev nobody : Node
 nobody = record { names = []; references = [] }
 
--- the node at an index has a name exactly if it has it in the list before, or if it is the last one and has it
+-- the node at an index has a name exactly if it had it before, or if it is the added one and has it
 pub node_push : (nodes : List Node) (node : Node) (index : ℕ) (name : List ℕ)
     → HasName (nodes ++ node ∷ []) index name ↔
     (HasName nodes index name ⊎ ((index ≡ length nodes) × (is_listed node.names name ≡ true)))

@@ -53,7 +53,7 @@ left_false false b c h = refl
 no_pair : (u v : ℕ) → is_surrogate u ≡ false → is_surrogate_pair u v ≡ false
 no_pair u v h = left_false (is_high_surrogate u) (is_low_surrogate u) (is_low_surrogate v) h
 
--- after units that spell characters, only the units after them count
+-- units without an unpaired surrogate don't change whether the units after them have one
 complete : (xs ys : List ℕ) → has_unpaired_surrogate xs ≡ false → has_unpaired_surrogate (xs ++ ys) ≡ has_unpaired_surrogate ys
 complete [] ys h = refl
 complete (u ∷ []) [] h = h ∙ sym has_none
@@ -75,7 +75,7 @@ and_true : (a b : Bool) → b ≡ false → (a && not b) ≡ false → a ≡ fal
 and_true true b is h = absurd (true≢false (sym (ap not is) ∙ h))
 and_true false b is h = refl
 
--- the first character, unless its unit is a surrogate without a partner
+-- the units of the first character have no unpaired surrogate, unless the first unit is one
 step : (xs : List ℕ) → begins_unpaired xs ≡ false → has_unpaired_surrogate (take (character_len xs) xs) ≡ false
 step [] h = has_none
 step (u ∷ []) h = has_one u ∙ h
@@ -97,7 +97,7 @@ len_within (u ∷ v ∷ us) p = both (is_surrogate_pair u v)
     both true = omega arith
     both false = omega arith
 
--- a character has a unit
+-- a character has at least one unit
 pub len_some : (xs : List ℕ) → 1 ≤ character_len xs
 len_some [] = omega arith
 len_some (u ∷ []) = omega arith

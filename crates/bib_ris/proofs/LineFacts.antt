@@ -9,7 +9,7 @@ use Rattle.bib_csl.specs.Markup.{no_break_space}
 use Rattle.bib_text.specs.Characters as char
 use Rattle.bib_ris.specs.Lines.{on_line}
 
--- a text with one more character
+-- writing one more character appends its encoding
 pub one_more : (f : ℕ → ℕ) (cs : List ℕ) (c : ℕ) → encode_utf8_all (map f (cs ++ c ∷ [])) ≡ encode_utf8_all (map f cs) ++ encode_utf8 (f c)
 one_more f cs c =
     ap encode_utf8_all (map-append f cs (c ∷ [])) ∙ encodes-append (map f cs) (f c ∷ [])
@@ -20,7 +20,7 @@ kept_or_space true other c is = refl
 kept_or_space false true c is = refl
 kept_or_space false false c is = is
 
--- no character on one line breaks it
+-- a text that is put on one line contains no line break
 pub none_breaks : (cs : List ℕ) → list_any is_break (map on_line cs) ≡ false
 none_breaks [] = refl
 none_breaks (c ∷ cs) =

@@ -7,7 +7,7 @@ use Rattle.bib_select.specs.declared.errors.SelectionError.{SelectionError}
 use Rattle.bib_select.specs.declared.errors.SelectionError.TheVariants.{Malformed, OutOfMemory}
 use Rattle.bib_select.specs.declared.errors.SelectionErrorKind.TheVariants as kind
 
--- the error of an expression that one condition has is one of another condition that has it, too
+-- an error of compiling a condition is also one of a condition that has all of its regular expressions
 pub error_of_more : {Has More : List ℕ → ℕ → Type 0} (e : SelectionError) → ((source : List ℕ) (at : ℕ) → Has source at → More source at)
     → IsCompileError Has e → IsCompileError More e
 error_of_more OutOfMemory more is = tt
@@ -28,7 +28,7 @@ error_of_more (Malformed kind.MissingText at) more is = is
 error_of_more (Malformed kind.MissingYear at) more is = is
 error_of_more (Malformed kind.MissingJoint at) more is = is
 
--- one more pair of elements
+-- two lists that are related element by element stay so with one more related pair
 pub all_zip_push : {A B : Type 0} (R : A → B → Type 0) (xs : List A) (ys : List B) (x : A) (y : B) → AllZip R xs ys → R x y
     → AllZip R (xs ++ x ∷ []) (ys ++ y ∷ [])
 all_zip_push R [] [] x y all one = (one, tt)
@@ -36,7 +36,7 @@ all_zip_push R [] (b ∷ ys) x y all one = absurd all
 all_zip_push R (a ∷ xs) [] x y all one = absurd all
 all_zip_push R (a ∷ xs) (b ∷ ys) x y all one = (all.0, all_zip_push R xs ys x y all.1 one)
 
--- the elements before an index and one more
+-- the same if the first list is that of the images of the elements before an index
 pub all_zip_more : {A B C : Type 0} (R : B → C → Type 0) (f : A → B) (xs : List A) (ys : List C) (index : ℕ) (d : A) (y : C)
     → index < length xs → AllZip R (map f (take index xs)) ys → R (f (get_or xs index d)) y
     → AllZip R (map f (take (index + 1) xs)) (ys ++ y ∷ [])
@@ -45,7 +45,7 @@ all_zip_more R f xs ys index d y within all one =
     (sym (map_more f xs index d within))
     (all_zip_push R (map f (take index xs)) ys (f (get_or xs index d)) y all one)
 
--- a property of an element is one of some element
+-- if the image of the element at an index has a property, some image has it
 pub some_at : {A B : Type 0} (P : B → Type 0) (f : A → B) (xs : List A) (index : ℕ) (d : A) → index < length xs
     → P (f (get_or xs index d)) → Any P (map f xs)
 some_at P f xs index d within holds = (

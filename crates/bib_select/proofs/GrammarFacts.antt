@@ -1,4 +1,4 @@
--- The readings of terms are those of the grammar.
+-- The results of parsing terms are those of the grammar.
 use Rattle.std.proofs.Common.{◌≡◌, ℕ, Bool, true, false, List, [], ◌∷◌, refl, ap, subst, ◌∙◌, Option, Some, None}
 use Rattle.std.specs.Prelude.{codes, Result, Ok, Err, if◌then◌else◌, ◌↔◌}
 use Rattle.std.specs.Option.{ok_or}
@@ -17,7 +17,7 @@ use Rattle.bib_select.specs.declared.errors.SelectionErrorKind.TheVariants.{Miss
 abbrev pub up_to : ℕ → List Placed → Segment
 up_to end tokens = record { tokens = tokens; end = end }
 
--- ---- a test of the grammar is read
+-- ---- a test or a term of the grammar is parsed as itself
 
 test_of_grammar : (end : ℕ) {tokens : List Placed} {test : TestReading} → IsTest tokens test → test_reading (up_to end tokens) ≡ Ok test
 test_of_grammar end (field_test {first = first} {name = name} is text) =
@@ -44,7 +44,7 @@ term_of_grammar end (plain_test {first = first} is grammar) =
 term_of_grammar end (negated_test {first = first} is grammar) =
     cond-true (is_keyword (codes "not") first.token) _ _ is ∙ ap (term_with true) (test_of_grammar end grammar)
 
--- ---- a test that is read is one of the grammar
+-- ---- a test or a term that is parsed is one of the grammar
 
 err_is_no_ok : {A E : Type 0} {a : A} {e : E} → Err e ≡ Ok a → ⊥
 err_is_no_ok is = cc
@@ -52,7 +52,7 @@ err_is_no_ok is = cc
 pub ok_same : {A E : Type 0} {a b : A} (r : Result A E) → r ≡ Ok a → r ≡ Ok b → a ≡ b
 ok_same r is other = cc
 
--- both steps succeed
+-- if two steps in turn succeed, the first succeeds, and so does the second with its value
 pub steps : {A B : Type 0} (r : Result A SelectionError) (next : A → Result B SelectionError) (b : B) → and_then r next ≡ Ok b
     → (a : A) × (r ≡ Ok a) × (next a ≡ Ok b)
 steps (Ok a) next b is = (a, refl, is)

@@ -35,7 +35,7 @@ segment_before joint end (first ∷ tokens) placed more lacks is =
     let (other, rest) = or_parts (is_keyword joint first.token) (list_any (λ p. is_keyword joint p.token) tokens) lacks in
     cond-false (is_keyword joint first.token) _ _ other ∙ ap (with_token first) (segment_before joint end tokens placed more rest is)
 
--- the readings of two steps
+-- the reading of a segment, followed by the readings of others, are the readings of all
 first_then : {A : Type 0} (f : Segment → Result A SelectionError) (s : Segment) (rest : List Segment) (a : A) (others : List A)
     → f s ≡ Ok a → try_map f rest ≡ Ok others → try_map f (s ∷ rest) ≡ Ok (a ∷ others)
 first_then f s rest a others is more =

@@ -104,7 +104,7 @@ quote_no_end end (unclosed char is inside at_end) = no_char_at_end end char
 
 -- ---- one list of tokens
 
--- the place after the white space is one
+-- the place after the longest run of white space is unique
 after_white : {u v w : Place} (P : Place → Type 0) → Longest is_whitespace u v → Longest is_whitespace u w → P w → P v
 after_white P first second holds = subst P (longest_same second first) holds
 

@@ -25,13 +25,13 @@ abbrev pub with_tokens : List Placed → List Segment → List Segment
 with_tokens [] segments = segments
 with_tokens (placed ∷ rest) segments = with_token placed (with_tokens rest segments)
 
--- one more token
+-- adding a token before segments, and then tokens before it, adds these tokens followed by that one
 pub with_one_more : (before : List Placed) (placed : Placed) (segments : List Segment)
     → with_tokens before (with_token placed segments) ≡ with_tokens (before ++ placed ∷ []) segments
 with_one_more [] placed segments = refl
 with_one_more (first ∷ before) placed segments = ap (with_token first) (with_one_more before placed segments)
 
--- tokens before a segment without tokens
+-- tokens that are added before a segment without tokens are its tokens
 pub before_none : (before : List Placed) (end : ℕ) (segments : List Segment)
     → with_tokens before (record { tokens = []; end = end } ∷ segments) ≡ record { tokens = before; end = end } ∷ segments
 before_none [] end segments = refl
@@ -45,7 +45,7 @@ pub record UncutSoFar (joint : List ℕ) (end : ℕ) (tokens : List declared.Pla
 pub uncut_begin : (joint : List ℕ) (end : ℕ) (tokens : List declared.Placed) → UncutSoFar joint end tokens 0
 uncut_begin joint end tokens = record { same = refl }
 
--- what is left of the tokens at an index
+-- the tokens from an index on are the one at the index and those after it
 left_at : (tokens : List declared.Placed) (index : ℕ) (d : declared.Placed) → index < length tokens
     → drop index tokens ≡ get_or tokens index d ∷ drop (index + 1) tokens
 left_at tokens index d within = rw (add-one, drop-cons tokens index d)
@@ -100,7 +100,7 @@ cut_nowhere joint end tokens index so past =
 
 -- ---- parsing one segment after another
 
--- the results of two lists are the results of both
+-- the results for a concatenation are those for the first list, and then those for the second
 try_map-append : {A B : Type 0} (f : A → Result B SelectionError) (xs ys : List A)
     → try_map f (xs ++ ys) ≡ (try_map f xs >>= λ front. try_map f ys >>= λ bs. Ok (front ++ bs))
 try_map-append f [] ys = empty (try_map f ys)
@@ -128,7 +128,7 @@ pub record ReadSoFar {A B : Type 0} (f : A → Result B SelectionError) (whole :
 pub read_begin : {A B : Type 0} (f : A → Result B SelectionError) (whole : List A) → ReadSoFar f whole [] whole
 read_begin f whole = record { done = []; split = refl; read = refl }
 
--- one more segment
+-- after the next segment is parsed, its value is the last of the values so far
 pub read_more : {A B : Type 0} {f : A → Result B SelectionError} {whole : List A} {values : List B} {x : A} {rest : List A} (b : B)
     → ReadSoFar f whole values (x ∷ rest) → f x ≡ Ok b → ReadSoFar f whole (values ++ b ∷ []) rest
 read_more {f = f} {values = values} {x = x} {rest = rest} b so is = record {
@@ -140,7 +140,7 @@ read_more {f = f} {values = values} {x = x} {rest = rest} b so is = record {
       ∙ ap (λ r. (r >>= λ one. Ok (one ∷ [])) >>= λ bs. Ok (values ++ bs)) is;
 }
 
--- all segments
+-- if no segment is left, the values so far are the result
 pub read_end : {A B : Type 0} {f : A → Result B SelectionError} {whole : List A} {values : List B} → ReadSoFar f whole values []
     → try_map f whole ≡ Ok values
 read_end {f = f} so = ap (try_map f) (so.split ∙ append-nil so.done) ∙ so.read
@@ -155,7 +155,7 @@ read_failed {f = f} {values = values} {x = x} {rest = rest} e so is =
     ∙ ap (λ r. r >>= λ front. (f x >>= λ one. try_map f rest >>= λ others. Ok (one ∷ others)) >>= λ bs. Ok (front ++ bs)) so.read
     ∙ ap (λ r. (r >>= λ one. try_map f rest >>= λ others. Ok (one ∷ others)) >>= λ bs. Ok (values ++ bs)) is
 
--- an error of a result, or out of memory
+-- the error of a result is an error in the sense of `IsReadError`
 pub refused_with : {A : Type 0} {outcome : Result A SelectionError} (e : SelectionError) → outcome ≡ Err e → IsReadError outcome e
 refused_with OutOfMemory is = tt
 refused_with (Malformed kind at) is = is

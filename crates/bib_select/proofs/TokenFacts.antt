@@ -1,4 +1,4 @@
--- Tokens of a text: each one comes from the characters at its place, and all of them are read from left to right.
+-- Tokens of a text: each one is determined by the characters at its place, and they are scanned from left to right.
 use Rattle.std.proofs.Common.{◌≡◌, ◌<◌, ◌-◌, ℕ, Bool, true, false, List, [], ◌∷◌, ◌++◌, length, refl, sym, ap, subst, inl, inr, append_assoc, Option, Some, None, MatchOption}
 use Rattle.std.specs.Prelude.{◌==◌, not, ◌&&◌, Result, Ok, Err}
 use Rattle.std.specs.Char.{is_whitespace}
@@ -36,12 +36,12 @@ no_closing {w} q (inr (c, v, char, holds)) stops absent =
     not_false true is = refl
     not_false false is = absurd (cc)
 
--- a word
+-- a longest run of word characters, if it isn't empty, is a token
 pub word_here : {u v w : Place} {c : ℕ} (text : List ℕ) → CharAt u c w → is_word_character c ≡ true → Longest is_word_character u v
     → text ≡ between u v → IsToken u (word text) v
 word_here {u} {v} text char passes longest is = subst (λ t. IsToken u (word t) v) (sym is) (a_word char passes longest)
 
--- a run of signs
+-- a longest run of characters of signs, if it isn't empty, is a token
 pub sign_here : {u v w : Place} {c : ℕ} (text : List ℕ) → CharAt u c w → is_sign_character c ≡ true → Longest is_sign_character u v
     → text ≡ between u v → IsToken u (sign text) v
 sign_here {u} {v} text char passes longest is = subst (λ t. IsToken u (sign t) v) (sym is) (a_sign char passes longest)

@@ -1,4 +1,4 @@
--- Which entry type a name in a file means, in its own case or in lowercase.
+-- The entry type that a name in a file means, in its own case or in lowercase.
 use Rattle.std.proofs.Common.{◌≡◌, ℕ, Bool, true, false, inl, inr, subst, List, [], ◌∷◌, Option, None, Some, refl, sym, ap, ◌∙◌, map, cond}
 use Rattle.std.specs.Prelude.{bytes_eq, unwrap_or}
 use Rattle.std.specs.Char.{to_ascii_lowercase}
@@ -33,7 +33,7 @@ named_is_lowered (row ∷ rows) text value lowered found =
     later true rest this here found = cc
     later false rest this here found = found
 
--- a name that is a name or alias of a type in ASCII lowercase means this type
+-- a name whose form in ASCII lowercase is a name or an alias of a type means this type
 pub type_as_lowered : (name lowered : List ℕ) (type : EntryType) → lowered ≡ map to_ascii_lowercase name
     → entry_type_by_name_or_alias lowered ≡ Some type → entry_type_of name ≡ type
 unfolding entry_type_of

@@ -19,7 +19,7 @@ use Rattle.bib_chunks.specs.Values.{Value, text, alone}
 use Rattle.bib_values.specs.Lists.{strings_read, strings_written, is_plain_in_list, IsPlain, StringsKept}
 use Rattle.bib_chunks.specs.Separated.{after_separator}
 
--- a test that all elements of two lists pass, all of the appended lists pass
+-- if all elements of two lists pass a test, so do all elements of their concatenation
 all-append : {A : Type 0} (test : A → Bool) (xs ys : List A) → list_all test xs ≡ true → list_all test ys ≡ true
     → list_all test (xs ++ ys) ≡ true
 all-append test [] ys one two = two
@@ -34,13 +34,13 @@ all-parts test (x ∷ xs) ys all =
     let rest = all-parts test xs ys parts.1 in
     (and_from _ _ parts.0 rest.0, rest.1)
 
--- normal atoms whose character is valid
+-- whether an atom is normal and its character is valid
 abbrev pub is_normal_scalar : Atom → Bool
 is_normal_scalar (Atom.normal c) = scalar c
 is_normal_scalar (Atom.verbatim c) = false
 is_normal_scalar (Atom.math text) = false
 
--- a normal atom whose character is valid and no comma
+-- whether an atom is normal and its character is valid and no comma
 abbrev pub is_letter : Atom → Bool
 is_letter (Atom.normal c) = scalar c && not (c == 44)
 is_letter (Atom.verbatim c) = false
@@ -60,7 +60,7 @@ letters (atom ∷ atoms) all none =
     let others = or_parts (is_normal_comma atom) (list_any is_normal_comma atoms) none in
     and_from _ _ (letter atom parts.0 others.0) (letters atoms parts.1 others.1)
 
--- a test that all atoms of a list pass, all atoms of its parts pass
+-- if all atoms of a list pass a test, so do all atoms of each of its parts
 parts_all : (test : Atom → Bool) {separator : List Atom} {parts : List (List Atom)} {atoms : List Atom}
     → IsList separator parts atoms → list_all test atoms ≡ true
     → AllByRecursion (λ part. list_all test part ≡ true) parts

@@ -42,7 +42,7 @@ small_no ds fails = false_from_ne_true (is_small ds) (λ holds.
     let fits : digits_value 10 ds < 2 ^ 32 = grind (arith, nat_tests) in
     fails (some, fits))
 
--- the result of `parse` for the digits
+-- the result of `parse` for the digits at the start of a text is the leading number of the text
 pub number_parsed : {E : Type 0} (cs ds rest : List ℕ) (r : Result ℕ E) → ds ≡ leading_run is_ascii_digit cs
     → rest ≡ rest_after is_ascii_digit cs → ParsesUnsigned 32 10 ds r
     → MatchResult r (λ n. leading_number cs ≡ Some (n, rest)) (λ e. leading_number cs ≡ None)
@@ -56,7 +56,7 @@ number_parsed {E} cs ds rest (Err e) is left parses =
     let reported = parse_digits digits_model {E = E} 32 ds (Err e) parses (ap all_ascii_digits is ∙ prefix_digits cs) in
     cond-false (is_small (leading_run is_ascii_digit cs)) _ _ (ap is_small (sym is) ∙ small_no ds reported)
 
--- the text after a dash
+-- if the first character is a dash, the text after the dash and any `-` after that is found
 pub dashed : (cs rest : List ℕ) (c : ℕ) (left : List ℕ) → cs ≡ c ∷ rest → left ≡ rest_after (λ d. d == 45) rest
     → is_dash c ≡ true → after_dash cs ≡ Some left
 unfolding after_dash
@@ -92,18 +92,18 @@ unended a b rest found is utf8 some =
     let more = chars_some rest utf8 some in
     sym (ap (ends_at a) is ∙ ap (λ cs. ends_at a (Some (b, cs))) more.2)
 
--- a range of one number
+-- without text after its start, a range is one number
 pub lone : (a : ℕ) (text : List ℕ) → length text ≡ 0 → Some (record { start = a; end = a }) ≡ goes_on_with a (chars text)
 lone a text none = sym (ap (goes_on_with a) (chars_empty text none))
 
--- a range that goes on after its first number
+-- with text after its start, a range is determined by the text after the dash, if there is a dash
 pub parted : (a : ℕ) (text : List ℕ) (dash : Option (List ℕ)) → IsUtf8 text → 0 < length text
     → after_dash (chars text) ≡ dash → up_to a dash ≡ goes_on_with a (chars text)
 parted a text dash utf8 some is =
     let more = chars_some text utf8 some in
     ap (up_to a) (sym is ∙ ap after_dash more.2) ∙ sym (ap (goes_on_with a) more.2)
 
--- one more value
+-- appending a value and putting one before the others commute
 joined_first : {A : Type 0} (a r : A) (found : Option (List A))
     → with_first (Some a) (option_map (λ rs. rs ++ r ∷ []) found)
     ≡ option_map (λ rs. rs ++ r ∷ []) (with_first (Some a) found)
@@ -122,7 +122,7 @@ all_without [] ys = refl
 all_without (Some a ∷ xs) ys = ap (with_first (Some a)) (all_without xs ys)
 all_without (None ∷ xs) ys = refl
 
--- one more value exists
+-- if all values so far and the next one exist, they are all values up to the next one
 pub all_step : {X A : Type 0} (f : X → Option A) (xs : List X) (i : ℕ) (x : X) (rs : List A) (r : A) → i < length xs
     → x ≡ get_or xs i x → all_of (map f (take i xs)) ≡ Some rs → f x ≡ Some r
     → all_of (map f (take (i + 1) xs)) ≡ Some (rs ++ r ∷ [])
@@ -142,11 +142,11 @@ all_stop f xs i x within is none =
     ∙ ap (λ y. all_of (map f (take i xs) ++ y ∷ map f (drop (i + 1) xs))) none
     ∙ all_without (map f (take i xs)) (map f (drop (i + 1) xs))
 
--- all values exist
+-- at the end of the list, the values so far are all values
 pub all_done : {X A : Type 0} (f : X → Option A) (xs : List X) (i : ℕ) (rs : List A) → length xs ≤ i
     → all_of (map f (take i xs)) ≡ Some rs → Some rs ≡ all_of (map f xs)
 all_done f xs i rs end before = sym before ∙ ap (λ ys. all_of (map f ys)) (take_all i xs end)
 
--- the characters of a part's formatted text
+-- the bytes of a part's formatted text have its characters
 pub part_chars : (part : Value) (bs : List ℕ) → IsUtf8 bs → bs ≡ encode_utf8_all (formatted_chars part) → chars bs ≡ formatted_chars part
 part_chars part bs utf8 is = sym (chars_from_encodes (formatted_chars part) bs utf8 (sym is))

@@ -23,19 +23,19 @@ halts_none : (test : ℕ → Bool) → Halts test []
 unfolding Halts
 halts_none test = (refl, refl)
 
--- a text whose first character fails the test
+-- a text whose first character fails the test begins with no character that passes it
 halts_at : (test : ℕ → Bool) (c : ℕ) (cs : List ℕ) → test c ≡ false → Halts test (c ∷ cs)
 unfolding Halts
 halts_at test c cs fails = (cond-false (test c) _ _ fails, cond-false (test c) _ _ fails)
 
--- the first character of a run of others doesn't pass the test
+-- a run, possibly empty, of characters that fail the test, and then such a text, begin with no character that passes it
 halts_run : (test other : ℕ → Bool) → ((c : ℕ) → other c ≡ true → test c ≡ false) → (run rest : List ℕ)
     → list_all other run ≡ true → Halts test rest → Halts test (run ++ rest)
 halts_run test other apart [] rest all halts = halts
 halts_run test other apart (c ∷ run) rest all halts =
     halts_at test c (run ++ rest) (apart c (and_parts (other c) (list_all other run) all).0)
 
--- a non-empty run of characters that fail the test
+-- the same for a non-empty run, and then any text
 halts_some : (test other : ℕ → Bool) → ((c : ℕ) → other c ≡ true → test c ≡ false) → (run rest : List ℕ)
     → list_all other run ≡ true → 0 < length run → Halts test (run ++ rest)
 halts_some test other apart [] rest all some = absurd (omega (arith, some))
@@ -74,7 +74,7 @@ number_is digits rest n is halts =
     ∙ ap (λ v. Some (v, rest_after is_ascii_digit (digits ++ rest))) value
     ∙ ap (λ xs. Some (n, xs)) (passed is_ascii_digit digits rest is.each halts)
 
--- the end of a range doesn't begin with a digit
+-- the text that ends a range doesn't begin with a digit
 end_digit : (a b : ℕ) (rest : List ℕ) → EndsRange a rest b → Halts is_ascii_digit rest
 end_digit a b rest EndsRange.lone = halts_none is_ascii_digit
 end_digit a b rest (EndsRange.dashed dash hyphens white digits is_dashed all_hyphens all_white is) =
@@ -141,7 +141,7 @@ prefix_passes test (c ∷ cs) = here (test c) refl (prefix_passes test cs)
     here true is more = and_from _ _ is more
     here false is more = refl
 
--- the digits of a parsed leading number
+-- a parsed leading number is that of the digits at the start, and the text after these is left
 number_spelt : (cs : List ℕ) (found : ℕ × List ℕ) → leading_number cs ≡ Some found
     → IsNumber (leading_run is_ascii_digit cs) found.0 × (rest_after is_ascii_digit cs ≡ found.1)
 unfolding leading_number
@@ -199,7 +199,7 @@ dashed_spelt a b cs left range dashed read same =
     (EndsRange.dashed dashed.dash dashed.hyphens (leading_run is_whitespace left) digits dashed.is dashed.all
     (prefix_passes is_whitespace left) reported.0))
 
--- what is parsed after the start of a range is a text that ends it
+-- if a range is parsed after its start, the text there ends the range
 end_spelt : (a : ℕ) (rest : List ℕ) (range : Range ℕ) → goes_on_with a rest ≡ Some range → (range.start ≡ a) × EndsRange a rest range.end
 end_spelt a [] range is = let same = same_end a a range is in (same.0, subst (λ n. EndsRange a [] n) same.1 EndsRange.lone)
 end_spelt a (c ∷ cs) range is = by_dash (after_dash (c ∷ cs)) refl is
@@ -218,7 +218,7 @@ end_spelt a (c ∷ cs) range is = by_dash (after_dash (c ∷ cs)) refl is
     by_dash (Some left) dash ends =
         by_number left (leading_number (rest_after is_whitespace left)) (dash_spelt (c ∷ cs) left dash) refl ends
 
--- what is parsed as a range is one by the grammar
+-- a text is the range that is parsed from it, given the result of parsing its first number
 range_from : (text : List ℕ) (range : Range ℕ) (found : Option (ℕ × List ℕ))
     → leading_number (rest_after is_whitespace text) ≡ found → starts_with found ≡ Some range → IsRange text range
 range_from text range None read is = cc

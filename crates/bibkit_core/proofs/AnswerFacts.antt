@@ -108,7 +108,7 @@ pub memory_same : {K : Type 0} {taken : K → Option (List ℕ)} {refusals : K �
     → HasStopped taken refusals hands_over P Unread old new OutOfMemory → refusals new ≡ refusals old
 memory_same (HasStopped.no_memory same) = same
 
--- if the status at the end of a task is at most 2, so is the status of its run, also if a file can't be read
+-- if the status at the end of a task is at most 2, so is that of its run, which is 2 if a file can't be read
 bounded_if : (b : Bool) (status : ℕ) → status ≤ 2 → (if b then status else 2) ≤ 2
 bounded_if true status bound = bound
 bounded_if false status bound = omega arith

@@ -48,7 +48,7 @@ or_none true b = refl
 or_none false true = refl
 or_none false false = refl
 
--- a key is in the files with one more file exactly if it is in the earlier files, or if an entry of the new file has it as a name
+-- a key is in the files and one more exactly if it is in the earlier ones, or is a name of an entry of the new file
 known_more : (readings : List FileReading) (says : FileReading) (key : List ℕ)
     → (is_in_files readings key || is_listed (all_names says.entries) key) ≡ is_in_files (readings ++ says ∷ []) key
 known_more readings says key =
@@ -113,7 +113,7 @@ unmarked_more (d ∷ cs) (k ∷ marks) (suc n) c m within short here there =
     (cond m [] (missing_finding c ∷ []))
     (unmarked_more cs marks n c m (omega (arith, within)) (omega (arith, short)) here there)
 
--- the first `m` citations, with `m` equal to `n + 1`, have the findings of the first `n`, and that of the next one unless its mark is true
+-- the first `m = n + 1` citations have the findings of the first `n`, and that of the next one unless its mark is true
 pub unmarked_step : (cs : List Citation) (marks : List Bool) (n m : ℕ) (c : Citation) (k : Bool) → m ≡ n + 1
     → n < length cs → n < length marks → get_or cs n c ≡ c → get_or marks n k ≡ k
     → unmarked_findings (take m cs) (take m marks) ≡ unmarked_findings (take n cs) (take n marks) ++ cond k [] (missing_finding c ∷ [])

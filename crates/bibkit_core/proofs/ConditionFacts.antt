@@ -45,7 +45,7 @@ pub filter_push : {X Y : Type 0} (v : X → Y) (test : Y → Bool) (xs : List X)
     → filter test (map v (xs ++ x ∷ [])) ≡ filter test (map v xs) ++ filter test (v x ∷ [])
 filter_push v test xs x = ap (filter test) (map-append v xs (x ∷ [])) ∙ filter-append test (map v xs) (v x ∷ [])
 
--- if an element passes a test, it is the list of those that pass in the list of it alone
+-- if an element passes a test, appending it appends the elements of its one-element list that pass
 pub one_passes : {Y : Type 0} (test : Y → Bool) (old : List Y) (y : Y) → test y ≡ true → old ++ y ∷ [] ≡ old ++ filter test (y ∷ [])
 one_passes test old y is = sym (ap (λ b. old ++ cond b (y ∷ []) []) is)
 

@@ -35,7 +35,7 @@ kept_exchanged name target old mid new touches exchange other ne not_target = re
 
 module _ (target name : List ℕ) (old made new : Disk) (beside : IsMadeBeside target name old made)
     (kept : KeepsBut name target old new) where
-  -- a name that was in use isn't that of the new file, so it is kept
+  -- a name other than the target that was in use isn't that of the new file, so it is kept
   pub taken_kept : (other : List ℕ) → other ≢ target → IsSome (old.holds other) → IsKept other old new
   taken_kept other not_target some =
       let differs : other ≢ name =
@@ -44,7 +44,7 @@ module _ (target name : List ℕ) (old made new : Disk) (beside : IsMadeBeside t
       let none : is_some (old.holds other) ≡ false = ap is_some free in cc) in
       kept other differs not_target
 
-  -- a name that isn't the name of a new file is kept
+  -- a name other than the target that isn't the name of a new file is kept
   pub others_kept : (other : List ℕ) → other ≢ target → ((k : ℕ) → k < 100 → other ≢ new_name target k) → IsKept other old new
   others_kept other not_target none = kept other (λ same. none beside.number beside.below (same ∙ beside.is_new)) not_target
 

@@ -25,7 +25,7 @@ later_line first line column some =
     let isnt : ((line + 1) == 1) ≡ false = grind (arith, nat_tests, some) in
     ap (λ b. cond b (first + (column - 1)) column) isnt
 
--- if the second text has more characters in its last line, so have both texts
+-- if the last line of the second text is wider by `width` columns, so is that of both texts
 wider : (b : Bool) (first column width : ℕ) → 1 ≤ column
     → cond b (first + (column + width - 1)) (column + width) ≡ cond b (first + (column - 1)) column + width
 wider true first column width some = omega (arith, some)
@@ -43,7 +43,7 @@ both_byte : (p q : Position) (width : ℕ) → 1 ≤ q.column
 both_byte p q width some =
     ap (λ c. record { line = p.line + (q.line - 1); column = c }) (wider (q.line == 1) p.column q.column width some)
 
--- one more byte of the second text
+-- if `both` gives the position after two texts, so it does with one more byte of the second text
 both_more : (xs zs : List ℕ) (byte : ℕ) (b : Bool) → is_line_feed byte ≡ b
     → both (position_after xs) (position_after zs) ≡ position_after (xs ++ zs)
     → both (position_after xs) (position_after (zs ++ byte ∷ [])) ≡ position_after ((xs ++ zs) ++ byte ∷ [])
@@ -63,7 +63,7 @@ both_none : (xs : List ℕ) → both (position_after xs) (position_after []) ≡
 both_none xs =
     ap₂ (λ l c. record { line = l; column = c }) (omega arith) (omega arith) ∙ ap position_after (sym (append-nil xs))
 
--- the position after the first text and `n` bytes of the second one
+-- `both` gives the position after the first text and the first `n` bytes of the second one
 both_taken : (xs ys : List ℕ) (n : ℕ) → n ≤ length ys
     → both (position_after xs) (position_after (take n ys)) ≡ position_after (xs ++ take n ys)
 both_taken xs ys zero within = both_none xs
@@ -76,7 +76,7 @@ both_taken xs ys (suc n) within =
     ∙ ap position_after (append_assoc xs (take n ys) (byte ∷ []))
     ∙ ap (λ zs. position_after (xs ++ zs)) (sym (take-suc ys n 0 below))
 
--- the position after two texts
+-- `both` gives the position after two texts
 both_texts : (xs ys : List ℕ) → both (position_after xs) (position_after ys) ≡ position_after (xs ++ ys)
 both_texts xs ys =
     ap (λ zs. both (position_after xs) (position_after zs)) (sym (take_all (length ys) ys (omega arith)))

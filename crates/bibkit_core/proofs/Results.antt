@@ -27,7 +27,7 @@ pub removed_or_two : {T E : Type 0} (result : Result T E) (gone : Type 0) (first
 removed_or_two (Ok v) gone first mid last once done counted = inl done
 removed_or_two (Err e) gone first mid last once done counted = inr (omega (arith, once, counted))
 
--- after an error of the exchange (the rename or the sync of the folder), the target has the contents that `IsAfterError` states
+-- after an error of the rename or the sync of the folder, the target has the contents that `IsAfterError` states
 pub after_exchange : {T : Type 0} (result : Result T ReplaceError) (name target text : List ℕ)
     (failures_mid failures_new : ℕ) (old mid new : Disk)
     →
@@ -42,7 +42,7 @@ after_exchange (Err (NotReplaced e)) name target text failures_mid failures_new 
 after_exchange (Err (Unsure e)) name target text failures_mid failures_new old mid new either full failed = either failed.either
 after_exchange (Err (Unsettled e)) name target text failures_mid failures_new old mid new either full failed = failed.moved ∙ full
 
--- after an error of the exchange (the rename or the sync of the folder), the name of the new file has no file, or two calls have failed
+-- after an error of the rename or the sync of the folder, the name of the new file has no file, or two calls have failed
 pub gone_or_two : {T : Type 0} (result : Result T ReplaceError) (name target : List ℕ) (failures_mid failures_new : ℕ) (mid new : Disk)
     → IfErr result (IsExchangeError name target failures_mid failures_new mid new)
     → OnErr result ((new.holds name ≡ None) ⊎ AreTwoFailed failures_mid failures_new)

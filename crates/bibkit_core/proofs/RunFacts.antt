@@ -215,8 +215,8 @@ run_seen R one s same (next f1 t1 text texts b d step more) =
     let rest = run_seen R one first.0 first.2 more in
     (rest.0, next f1 first.0 text texts b d first.1 rest.1, rest.2)
 
--- Let `R` be kept by each file. If a task and a related state have equal first texts, and each end of the task is one of the state, then
--- an output of a task is an output of each related state.
+-- Let `R` be kept by each file. Let related tasks and states have equal first texts, and let each end of a task be one of the state.
+-- Then an output of a task is an output of each related state.
 pub printed_seen : {F S T : Type 0} {reads : F → List ℕ → Option (List ℕ) → F → Type 0} {begins : T → List ℕ}
     {opens : S → List ℕ} {prints : T → List ℕ → List ℕ → List ℕ → T → Type 0}
     {shows : S → List ℕ → List ℕ → List ℕ → S → Type 0}

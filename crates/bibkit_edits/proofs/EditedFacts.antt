@@ -117,7 +117,7 @@ fields_made keys edit set d new has name value made = record {
   read = made.read.read;
 }
 
--- what a call that edits a field of some entries returns
+-- a text that a call returns is an outcome of `Fields`, if it has an edit of a field of some entries
 pub all_fields_made : {S E : Type 0} (bytes : S → List ℕ) (r : Result S E) (keys : List (List ℕ)) (edit : FieldEdit)
     (set : BTreeSet (Bor (List ℕ))) (d : Document)
     → ((key : List ℕ) → is_in_set set key ≡ is_listed keys key) → OnOk r (CanBeNewName (edit_name edit))
@@ -195,7 +195,7 @@ first_none text = record { made = none; read = inl refl }
 made_read : {edit : Edit} {text new : List ℕ} → IsMade edit text new → (d : Document) × IsDocumentOf new d
 made_read made = (made.edited.document, record { same = sym made.edited.is; read = made.edited.read })
 
--- if the first `i` edits are made, and the edit at the index `i` is made of their text, then the first `i + 1` edits are made
+-- if the first `i` edits are made, and the edit at the index `i` is made of their text, the first `i + 1` are made
 pub first_more : (edits : List Edit) (i : ℕ) (d : Edit) {text new between newer : List ℕ} → i < length edits
     → AreFirstMade (take i edits) text new → between ≡ new
     → IsMade (get_or edits i d) between newer → AreFirstMade (take (i + 1) edits) text newer

@@ -14,7 +14,7 @@ use Rattle.edit_strings.specs.Tables.{left_of, lent_left}
 use Rattle.edit_strings.specs.declared.left_references.LeftReference.{LeftReference}
 use Rattle.bibkit_edits.specs.LeftNotes.{left_lines, left_note}
 
--- the notes on one more reference
+-- the notes on the references up to an index are those on the references before it, and the note on the one at it
 pub notes_more : (name text : List ℕ) (xs : List LeftReference) (i : ℕ) (x : LeftReference) → i < length xs → x ≡ get_or xs i x
     → (notes old : List ℕ) → old ≡ left_lines name text (lent_left (take i xs))
     → notes ≡ old ++ left_note name (position_at text (left_of x).field.name.start) (left_of x)
@@ -27,7 +27,7 @@ notes_more name text xs i x within is notes old before more =
     ∙ ap (λ l. flat_map each (lent_left (take i xs)) ++ l) (sym (append-nil (each (left_of x))))
     ∙ sym (flat_map-append each (lent_left (take i xs)) (left_of x ∷ [])) ∙ ap (flat_map each) (sym last)
 
--- a text with an error other than out of memory isn't accepted
+-- a text that is refused with an error other than out of memory isn't a file of the grammar
 pub no_file : (text : List ℕ) (e : ParseError) → e.kind ≢ OutOfMemory → Refuses text e (IsFile text → ⊥) → IsFile text → ⊥
 no_file text e kept (inl is) file = kept (ap (λ (x : ParseError). x.kind) is)
 no_file text e kept (inr (report, refused)) file = refused file

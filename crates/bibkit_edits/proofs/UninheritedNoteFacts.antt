@@ -9,7 +9,7 @@ use Rattle.edit_resolve.specs.Working.{uninherited_list, uninherited_row}
 use Rattle.edit_resolve.specs.declared.uninherited.UninheritedFields.{UninheritedFields}
 use Rattle.bibkit_edits.specs.UninheritedNotes.{uninherited_lines, uninherited_note}
 
--- one more note
+-- the notes up to an index are those before it, and the note at it
 pub notes_more : (name text : List ℕ) (xs : List UninheritedFields) (i : ℕ) (x : UninheritedFields) → i < length xs → x ≡ get_or xs i x
     → (notes old : List ℕ) → old ≡ uninherited_lines name text (uninherited_list (take i xs))
     → notes ≡ old ++ uninherited_note name (position_at text (uninherited_row x).reference.name.start) (uninherited_row x)

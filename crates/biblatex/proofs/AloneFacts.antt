@@ -26,7 +26,7 @@ pub record RefersToNothing (e : Entry) : Type 0 where
 no_references : (names : ByText ℕ) (e : Entry) → RefersToNothing e → references names (fields_of e.fields) ≡ []
 no_references names e none = rw (none.crossref, none.xdata) refl
 
--- no index of the graph has references, if no entry has
+-- if no entry has references, no index of the graph has any
 no_row : (names : ByText ℕ) (own : List Entry) (index : ℕ) → AllByRecursion RefersToNothing own → refs_of (graph_by names own) index ≡ []
 no_row names [] index all = refl
 no_row names (e ∷ own) zero all = no_references names e all.0
@@ -43,7 +43,7 @@ no_cycle own all index within leads = none leads
     none {a} (Leads.one holds) = nothing_in (no_row (names_of own) own a all) holds
     none {a} (Leads.more holds rest) = nothing_in (no_row (names_of own) own a all) holds
 
--- no entry that lacks a required date refers to a bad date, if no entry has references
+-- if no entry has references, none that lacks a required date refers to an entry with an unreadable date
 pub no_dates : (own : List Entry) (values : List EntryTexts) → AllByRecursion RefersToNothing own
     → AreDatesRead (texts_of_entries own) (graph_of own) values
 no_dates own values all index =
@@ -54,7 +54,7 @@ pub rows_length : (names : ByText ℕ) (own : List Entry) → length (graph_by n
 rows_length names [] = refl
 rows_length names (e ∷ own) = ap suc (rows_length names own)
 
--- the value at an index is the own entry after inheriting from nothing
+-- if no entry has references, the solution at an index in range is the own entry after inheriting from nothing
 own_value : (own : List Entry) (values : List EntryTexts) (index : ℕ) → AllByRecursion RefersToNothing own
     → Inherits (texts_of_entries own) (graph_of own) values → index < length own
     → at_index values index ≡ with_inherited_fields (at_index (texts_of_entries own) index) []
@@ -86,7 +86,7 @@ pub record IsAsWritten (own entry : Entry) : Type 0 where
   pub entry_type : entry.entry_type ≡ own.entry_type
   pub fields : (name : List ℕ) → option_map styled (by_name.get entry.fields name) ≡ option_map styled (by_name.get own.fields name)
 
--- an entry with the value of an own entry that refers to nothing has its type and styled texts
+-- if an own entry refers to nothing, the entry with its texts after inheriting from nothing has its type and styled texts
 as_written : (own entry : Entry) → RefersToNothing own
     → texts_of_entry entry ≡ with_inherited_fields (texts_of_entry own) [] → IsAsWritten own entry
 as_written own entry none same = record {
@@ -94,7 +94,7 @@ as_written own entry none same = record {
   fields = λ name. ap (λ s. s.fields name) same ∙ rule_alone (texts_of_entry own) name (rw none.xdata refl);
 }
 
--- entries whose values are the own entries after inheriting from nothing have the types and styled texts of these
+-- if no own entry refers to another, entries with their texts after inheriting from nothing have their types and styled texts
 all_as_written : (own entries : List Entry) → AllByRecursion RefersToNothing own → length entries ≡ length own
     →
     ((index : ℕ) → index < length own

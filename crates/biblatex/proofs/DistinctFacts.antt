@@ -172,13 +172,13 @@ pub points : (names : ByText ℕ) (es : List Entry) (i : ℕ) (e : Entry) → i 
     → by_name.get names e.key ≡ Some i → IsAlone names (keys_of es) i
 points names es i e within is here = inl (ap (by_name.get names) (key_at es i e within is) ∙ here)
 
--- if all indices were checked, the keys are distinct
+-- if each index of the entries is alone, the keys are distinct
 pub all_alone : (names : ByText ℕ) (es : List Entry) (n : ℕ) → ((i : ℕ) → i < n → IsAlone names (keys_of es) i)
     → length es ≤ n → IsTrue true ↔ IsDistinct bytes_eq (keys_of es)
 all_alone names es n all whole =
     let size : length (keys_of es) ≡ length es = length-map es (λ x. x.key) in
     ((λ yes. distinct names (keys_of es) (λ i within. all i (omega (arith, within, size, whole)))), (λ d. refl))
 
--- the slice from an index to the end
+-- the slice from an index to the end is the rest of the list from there on
 pub to_end : (es : List Entry) (n : ℕ) → take (length es - n) (drop n es) ≡ drop n es
 to_end es n = ap (λ k. take k (drop n es)) (sym (length-drop n es)) ∙ take-length (drop n es)

@@ -70,7 +70,7 @@ identifier_plainly {name} {u} {v} i stands =
       plain = other_than is_id_start i.1.first 37 i.1.starts refl;
     }
 
--- neither white space nor a percent sign occurs where lines begin that a closing brace follows
+-- neither white space nor a percent sign occurs at the start of lines, possibly none, that a closing brace follows
 lines_plainly : (ls : List Line) {u w x : Place} → AllByRecursion IsLine ls → Stands u (flat_map line_text ls) w
     → CharAt w 125 x → Plainly u
 lines_plainly [] {u} {w} {x} all stands closes = record {
@@ -145,7 +145,7 @@ pub record SaysEntry (e : WrittenEntry) (said : EntryReading) : Type 0 where
   pub key : said.key.text ≡ e.key
   pub lines : SayLines e.lines said.fields
 
--- neither the first character of a key nor the comma after it is white space
+-- no white space occurs at the start of a key, possibly empty, that a comma follows
 key_first : {u v w : Place} → Run is_key u v → CharAt v 44 w → Stops is_whitespace u
 key_first stop comma = stops_at is_whitespace comma refl
 key_first (step {c = c} char passes rest) comma = stops_at is_whitespace char (key_dark c passes)
@@ -220,7 +220,7 @@ block_read e {u} {w} right utf8 stands =
       utf8 = utf8_char closes fields.3;
     }
 
--- the bytes of entries with an empty line between two
+-- the bytes of entries: a line feed ends each, and an empty line is between two
 abbrev pub file_bytes : List WrittenEntry → List ℕ
 file_bytes [] = []
 file_bytes (e ∷ []) = entry_bytes e ++ 10 ∷ []

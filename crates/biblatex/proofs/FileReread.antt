@@ -16,7 +16,7 @@ use Rattle.bib_syntax.specs.Grammar.Mode.{any, longest}
 use Rattle.biblatex.proofs.StandsFacts.{Stands, stands_none, stands_split, stands_char, stands_chars, moved, char_moved, run_moved, stands_between, utf8_char, utf8_run, utf8_spells}
 use Rattle.biblatex.proofs.WrittenParts.{Spells, spells_split}
 
--- an identifier that occurs at a place is parsed there as the longest one
+-- an identifier that occurs at a place is parsed there as the longest one, if no character that continues it follows
 pub identifier_stands : {name : List ℕ} {u v : Place} {p : Part} → Stands u name v
     → Identifier any (place name 0) p (place name (length name)) → Stops is_id_continue v
     → Identifier longest u (part u v) v
@@ -55,7 +55,7 @@ pub record FieldRead (name value : List ℕ) (u w : Place) : Type 0 where
   pub spells : Spells inside value following
   pub utf8 : IsUtf8 (drop u.at u.text) → IsUtf8 (encode_utf8_all value) × IsUtf8 (drop w.at w.text)
 
--- the bytes of a line are parsed as a raw field
+-- the bytes of a line are parsed as a raw field, if its name is an identifier and the braces in its value are balanced
 pub field_read : (name value : List ℕ) {p : Part} {u w : Place}
     → Identifier any (place name 0) p (place name (length name)) → ((x y : Place) → Spells x value y → Parts x y)
     → Stands u (name ++ (codes " = " ++ (encode_utf8_all (123 ∷ (value ++ 125 ∷ [])) ++ codes ",\n"))) w → FieldRead name value u w

@@ -16,7 +16,7 @@ use Rattle.biblatex.proofs.WritingFacts.{first_taken, is_empty}
 abbrev pub text_of : (Entry → List ℕ) → Bool → Entry → List ℕ
 text_of written is_first e = empty_line_unless is_first ++ (written e ++ codes "\n")
 
--- the texts of entries, split at one entry
+-- the texts of entries are those of the entries before one, its own text, and those of the entries after it
 texts_around : (written : Entry → List ℕ) (before : List Entry) (e : Entry) (after : List Entry)
     → entry_texts written (before ++ e ∷ after)
     ≡ entry_texts written before ++ text_of written (is_empty before) e ∷ map (text_of written false) after
@@ -24,7 +24,7 @@ texts_around written [] e after = refl
 texts_around written (x ∷ before) e after =
     ap (λ texts. text_of written true x ∷ texts) (map-append (text_of written false) before (e ∷ after))
 
--- the texts of entries, split at an index
+-- the same for the entry at an index
 pub texts_at : (written : Entry → List ℕ) (es : List Entry) (i : ℕ) (e : Entry) (first : Bool) → i < length es
     → e ≡ get_or es i e → first ≡ (i == 0)
     → entry_texts written es ≡ entry_texts written (take i es) ++ text_of written first e ∷ map (text_of written false) (drop (i + 1) es)
@@ -36,7 +36,7 @@ texts_at written es i e first within is flag =
     ∙ ap (λ b. entry_texts written (take i es) ++ text_of written b e ∷ map (text_of written false) (drop (i + 1) es))
     (first_taken es i within ∙ sym flag)
 
--- the texts of the entries up to and including an index
+-- the texts of the entries up to and including an index are those before the index, and the text of the entry at it
 next_text : (written : Entry → List ℕ) (es : List Entry) (i : ℕ) (e : Entry) (first : Bool) → i < length es
     → e ≡ get_or es i e → first ≡ (i == 0)
     → entry_texts written (take (i + 1) es) ≡ entry_texts written (take i es) ++ text_of written first e ∷ []

@@ -87,7 +87,7 @@ claims_cases {entries} {index} {name} entry at = elim (get_cases entries entry a
 claims_below : {entries : List Entry} {index : ℕ} {name : List ℕ} → ClaimsAt entries index name → index < length entries
 claims_below {entries} {index} at = slice_get_within entries index at.entry at.there
 
--- the last claim of a name after adding an entry, which may claim it
+-- after adding an entry, the last claim of a name is that of the entry if it claims the name, and otherwise the old one
 points_next : (entries : List Entry) (entry : Entry) (name : List ℕ) (before : Option ℕ)
     → MatchOption before ((index : ℕ) → ClaimsAt entries index name → ⊥) (IsLastClaim entries name)
     → MatchOption (cond (is_claimed (claims entry) name) (Some (length entries)) before)

@@ -54,7 +54,7 @@ part_lies : {text : List ℕ} {p : Part} → StandsIn text p → (e : ParseError
     → e.span.end ≡ p.end → LiesBetween 0 (length text) e
 part_lies stands e starts ends = (omega arith, omega (arith, stands.size, starts, ends), omega (arith, stands.within, ends))
 
--- the first error of pieces lies in the text
+-- the first error of pieces lies in the text, if these and the pieces of all definitions occur in it
 first_error_lies : {definitions : Definitions} {is_verbatim : Bool} {path : List (List ℕ)} {pieces : List Piece}
     {e : ParseError} (text : List ℕ) → length text < 2 ^ 64
     → DefinitionsStandIn text definitions → AllByRecursion (PieceStandsIn text) pieces
@@ -71,7 +71,7 @@ first_error_lies text small definitions all (first_error.inside {definition = de
     first_error_lies text small definitions (definitions _ definition d) error
 first_error_lies text small definitions all (first_error.following says error) = first_error_lies text small definitions all.1 error
 
--- the first error of fields lies in the text
+-- the first error of raw fields lies in the text, if these and the pieces of all definitions occur in it
 fields_error_lies : {definitions : Definitions} {fields : List FieldReading} {e : ParseError} (text : List ℕ)
     → length text < 2 ^ 64 → DefinitionsStandIn text definitions
     → AllByRecursion (FieldStandsIn text) fields → IsFirstErrorOfFields definitions fields e → LiesBetween 0 (length text) e
@@ -80,7 +80,7 @@ fields_error_lies text small definitions all (IsFirstErrorOfFields.here error un
 fields_error_lies text small definitions all (IsFirstErrorOfFields.following read error) =
     fields_error_lies text small definitions all.1 error
 
--- the first error of entries lies in the text
+-- the first error of raw entries lies in the text, if these and the pieces of all definitions occur in it
 entries_error_lies : {definitions : Definitions} {claimed : List (List ℕ)} {said : List EntryReading} {e : ParseError}
     (text : List ℕ) → length text < 2 ^ 64
     → DefinitionsStandIn text definitions → AllByRecursion (EntryStandsIn text) said
@@ -95,7 +95,7 @@ entries_error_lies text small definitions all (IsFirstErrorOfEntries.unreadable 
 entries_error_lies text small definitions all (IsFirstErrorOfEntries.following fresh read error) =
     entries_error_lies text small definitions all.1 error
 
--- the raw entry at an index occurs in the text
+-- if all raw entries occur in the text, so does the one at an index
 entry_stands : {text : List ℕ} (said : List EntryReading) (index : ℕ) (one : EntryReading)
     → AllByRecursion (EntryStandsIn text) said → slice_get said index ≡ Some one → EntryStandsIn text one
 entry_stands [] index one all there = cc
@@ -104,7 +104,7 @@ entry_stands {text} (first ∷ rest) zero one all there = subst (EntryStandsIn t
   same e = cc
 entry_stands (first ∷ rest) (suc index) one all there = entry_stands rest index one all.1 there
 
--- the first error of a raw bibliography lies in its text, or is an error of a date
+-- the first error of a raw bibliography whose parts occur in a text lies in the text, or is an error of a date
 pub error_lies : {says : FileReading} {e : ParseError} (text : List ℕ) → length text < 2 ^ 64
     → ReadingStandsIn text says → IsFirstErrorOf says e → IsOfDate e ⊎ LiesBetween 0 (length text) e
 error_lies {says} text small stands (IsFirstErrorOf.entry error) =

@@ -26,7 +26,7 @@ data Run' : Type 0 where
   verbatim : List ℕ → Run'
   math : List ℕ → Run'
 
--- an atom before runs: it is added to the first run if that is of the same kind
+-- an atom before runs: a character is added to the first run if that is of its kind; math is a run of its own
 abbrev put : Atom → List Run' → List Run'
 put (Atom.normal c) [] = Run'.normal (c ∷ []) ∷ []
 put (Atom.normal c) (Run'.normal cs ∷ rest) = Run'.normal (c ∷ cs) ∷ rest
@@ -38,7 +38,7 @@ put (Atom.verbatim c) (Run'.verbatim cs ∷ rest) = Run'.verbatim (c ∷ cs) ∷
 put (Atom.verbatim c) (Run'.math cs ∷ rest) = Run'.verbatim (c ∷ []) ∷ Run'.math cs ∷ rest
 put (Atom.math text) rest = Run'.math text ∷ rest
 
--- the runs of atoms: neighbours of the same kind are grouped
+-- the runs of atoms: neighbouring characters of the same kind are grouped
 abbrev grouped : List Atom → List Run'
 grouped [] = []
 grouped (a ∷ atoms) = put a (grouped atoms)

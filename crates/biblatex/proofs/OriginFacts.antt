@@ -27,7 +27,7 @@ rise_weaker : (m n : ℕ) (es : List EntryReading) → m ≤ n → Rise n es →
 rise_weaker m n [] less rise = rise
 rise_weaker m n (e ∷ es) less rise = (omega (arith, less, rise.0), rise.1)
 
--- a block contains at most one entry, which begins at the start of the block
+-- the starts of a block's entries and of the entries after it increase: a block has at most one entry, at its start
 block_rises : {start u v : Place} {kind : Part} {k : BlockKind} {says : FileReading} (end : ℕ)
     (rest : List EntryReading) → Body longest start kind k u says v → start.at < end → Rise end rest
     → Rise start.at (says.entries ++ rest)
@@ -38,7 +38,7 @@ block_rises {start} end rest (body.strings fields closes) less rise = rise_weake
 block_rises {start} end rest (body.entry key_end key white comma gap fields closes) less rise =
     (omega arith, rise_weaker (start.at + 1) end rest (omega (arith, less)) rise)
 
--- an entry without fields is kept if its key isn't empty
+-- the same for an entry without fields, which is kept if its key isn't empty
 key_rises : (start place : Place) (kind key : Part) (is_empty : Bool) (end : ℕ) (rest : List EntryReading) → start.at < end
     → Rise end rest
     → Rise start.at
@@ -47,7 +47,7 @@ key_rises : (start place : Place) (kind key : Part) (is_empty : Bool) (end : ℕ
 key_rises start place kind key true end rest less rise = rise_weaker start.at end rest (omega (arith, less)) rise
 key_rises start place kind key false end rest less rise = (omega arith, rise_weaker (start.at + 1) end rest (omega (arith, less)) rise)
 
--- the kept parts of a block contain at most one entry, which begins at the start of the block
+-- the same for the kept parts of a block: at most one entry, at the start of the block
 body_rises : {start u : Place} {kind : Part} {k : BlockKind} {says : FileReading} (end : ℕ) (rest : List EntryReading)
     → KeptBody start kind k u says → start.at < end → Rise end rest → Rise start.at (says.entries ++ rest)
 body_rises {start} end rest kept_body.comment less rise = rise_weaker start.at end rest (omega (arith, less)) rise

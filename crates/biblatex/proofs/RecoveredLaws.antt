@@ -40,7 +40,7 @@ nothing_past [] index past = refl
 nothing_past (row ∷ graph) zero past = absurd (omega arith)
 nothing_past (row ∷ graph) (suc index) past = nothing_past graph index (omega arith)
 
--- if no index of an entry has a bad date, no index at all has one
+-- if `has_bad_date` fails for each index in range, it fails for each index
 dates_everywhere : (own : List EntryTexts) (graph : Graph) (values : List EntryTexts)
     → ((index : ℕ) → index < length graph → has_bad_date own graph values index ≡ true → ⊥)
     → AreDatesRead own graph values
@@ -89,7 +89,7 @@ module _ {places : List (Range ℕ)} {own entries : List Entry} {errors : List P
       (IsDateError c (graph_by (names_of own) c) (texts_of_entries entries)) (length own) found.dates)
       stays found.each_date
 
-  -- without errors, the dates that entries require can be parsed
+  -- without errors, no entry that lacks a required date refers to an entry with an unreadable date
   pub read_all : errors ≡ [] → AreDatesRead (texts_of_entries own) (graph_of own) (texts_of_entries entries)
   read_all none =
       let told = dates_told (all_stay (no_cycle_told none)) in
@@ -233,7 +233,7 @@ module _ {places : List (Range ℕ)} {own others entries found : List Entry} {er
   long : length own ≡ length others
   long = sym (length-map own _) ∙ ap length all_texts ∙ length-map others _
 
-  -- the entries without the references on cycles have the same texts
+  -- after the entries on cycles have lost their references, the entries have the same texts
   cuts : texts_of_entries one.cut ≡ texts_of_entries other.cut
   cuts =
       cut_alike (graph_of own) own others one.cut other.cut all_texts (decided one.each_cycle) one.are_cut
@@ -281,7 +281,7 @@ module _ {places : List (Range ℕ)} {own others entries found : List Entry} {er
       (subst (λ fs. AllZip AreOneErrorOf (one.cycles ++ one.dates) fs) (sym other.are)
       (AllZip-append AreOneErrorOf one.cycles one.dates other.cycles other.dates cycles dates))
 
--- two recoveries of one raw bibliography agree
+-- two recoveries of one raw bibliography agree, if they have the same skipped blocks
 once_of : (says : FileReading) {kept left : List EntryReading} {own others : List Entry} (one other : Bibliography)
     {skipped passed : List SkippedBlock} {of_entries of_others of_references of_fields : List ParseError}
     → skipped ≡ passed

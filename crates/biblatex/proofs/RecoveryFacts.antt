@@ -61,7 +61,7 @@ fine_is_silent EachReported.none fine = refl
 fine_is_silent (EachReported.passed rest never) fine = fine_is_silent rest (λ index less. fine index (omega arith))
 fine_is_silent (EachReported.reported {index = last} rest fault report) fine = absurd (fine last (omega arith) fault)
 
--- reports for the same indices agree
+-- two lists of reports are related by `R`, if the same indices fail and the two reports of an index are related
 pub reported_once : {fails others : ℕ → Type 0} {reports tells : ℕ → ParseError → Type 0} {n m : ℕ}
     {errors faults : List ParseError} (R : ParseError → ParseError → Type 0)
     → EachReported fails reports n errors → EachReported others tells m faults → n ≡ m

@@ -327,7 +327,7 @@ module _ (definitions : Definitions) where
     alone : AllByRecursion RefersToNothing read
     mapped : AllZip IsMapped es read
 
-  -- settled entries with distinct keys are parsed from the raw entries with their parts
+  -- settled entries with distinct keys that were not claimed before are parsed from the raw entries with their parts
   entries_again_of : (claimed : List (List ℕ)) (es : List Entry) (said : List EntryReading)
       → AllByRecursion IsSettledEntry es → IsDistinct bytes_eq (map (λ e. e.key) es) → AreFresh claimed es
       → SayEntries (map written_of es) said
@@ -352,7 +352,7 @@ module _ (definitions : Definitions) where
 
 -- The bibliography of the output
 
--- if the own entries of a file are mapped from some entries, so are the loaded ones
+-- if own entries are mapped from some entries, so are entries with the same keys, types and styled texts
 loaded_mapped : (es own entries : List Entry) → AllZip IsMapped es own → AllZip IsAsWritten own entries
     → map (λ e. e.key) entries ≡ map (λ e. e.key) own → AllZip IsMapped es entries
 loaded_mapped [] [] [] all plain keys = tt
@@ -369,7 +369,7 @@ loaded_mapped (e ∷ es) (o ∷ os) (x ∷ xs) all plain keys = (
   loaded_mapped es os xs all.1 plain.1 (ap (drop 1) keys),
 )
 
--- if the own entries of a file are mapped from some entries, so are those of each bibliography of the file
+-- if the own entries of a file refer to nothing and are mapped from some entries, so are those of each bibliography of the file
 loaded_reread : (says : FileReading) (es own : List Entry) → AreOwn says own → AllByRecursion RefersToNothing own
     → AllZip IsMapped es own → (read : Bibliography) → IsLoaded says read → AllZip IsMapped es read.entries
 loaded_reread says es own are alone mapped read loaded =
@@ -386,7 +386,7 @@ nothing_claimed : (es : List Entry) → AllByRecursion (λ e. is_claimed [] e.ke
 nothing_claimed [] = tt
 nothing_claimed (e ∷ es) = (refl, nothing_claimed es)
 
--- the output for settled entries parses back to these entries in BibLaTeX's types and fields
+-- if the output for settled entries is valid UTF-8, it parses back to these entries in BibLaTeX's types and fields
 pub entries_reread : (es : List Entry) → AreSettled es → IsUtf8 (entries_text biblatex_entry es)
     → IsReadAgain es (entries_text biblatex_entry es)
 entries_reread es settled utf8 =

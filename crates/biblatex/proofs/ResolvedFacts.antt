@@ -109,7 +109,7 @@ names_go l m (x ∷ a) (y ∷ b) n e c =
     ∙ ap (λ k. with_claims m.names (claims_for (claims y) k)) n)
     (ap (drop 1) c)
 
--- the graph of entries, from the names and the texts of the entries
+-- the graph of entries, in terms of their names and texts
 by_all_texts : (names : ByText ℕ) (own : List Entry)
     → graph_by names own ≡ map (λ (s : EntryTexts). references names s.fields) (texts_of_entries own)
 by_all_texts names [] = refl
@@ -177,7 +177,7 @@ pub solutions_same : (own : List Entry) (a b : List EntryTexts) → HasNoCycle (
     → Inherits (texts_of_entries own) (graph_of own) a → Inherits (texts_of_entries own) (graph_of own) b → a ≡ b
 solutions_same own a b none first second = solutions_by (names_of own) own a b (names_below own) none first second
 
--- if one solution has no bad dates, no solution has any
+-- without cycles, `AreDatesRead` holds for each solution if it holds for one
 pub dates_of_each : (own : List Entry) (one : List EntryTexts) → HasNoCycle (graph_of own)
     → Inherits (texts_of_entries own) (graph_of own) one
     → AreDatesRead (texts_of_entries own) (graph_of own) one → (values : List EntryTexts)
@@ -211,7 +211,7 @@ bibliography_of accepted =
 
 -- ---- an accepted file has no error
 
--- if the dates that entries require can be parsed, no entry that lacks a required date refers to a bad date
+-- `AreDatesRead` contradicts an entry that lacks a required date and refers to an entry with an unreadable date
 pub bad_apart : (own : List EntryTexts) (graph : Graph) (values : List EntryTexts) (index : ℕ)
     → looks_for_date (at_index own index) ≡ true → list_any (is_bad_date values) (refs_of graph index) ≡ true
     → AreDatesRead own graph values → ⊥

@@ -17,7 +17,7 @@ pub run_text : {test : ℕ → Bool} {u v : Place} → Run test u v → v.text �
 run_text Run.stop = refl
 run_text (Run.step char passes rest) = run_text rest ∙ char.same
 
--- the longest run ends at the end of the text exactly if the whole text is a run
+-- the longest run from a place ends at the end of the text exactly if the text from the place on is a run
 pub whole_run : {test : ℕ → Bool} {u v : Place} (text : List ℕ) (b : Bool) → u.text ≡ text → Longest test u v
     → IsTrue b ↔ AtEnd v → IsTrue b ↔ Run test u (place text (length text))
 whole_run {test} {u} {v} text b is longest done = (
@@ -87,7 +87,7 @@ settled_name name linked identifier small is = (
   (λ settled. ap not (is ∙ settled.apart)),
 )
 
--- after a settled field, the property is equivalent to the settledness of the remaining fields
+-- after a settled field, `P` is equivalent to `Q` and the settledness of the remaining fields
 pub fields_after : {P Q : Type 0} {f : List ℕ × List (Spanned Chunk)} {fs rest : List (List ℕ × List (Spanned Chunk))}
     → P ↔ (Q × AllByRecursion IsSettledField fs) → fs ≡ f ∷ rest → IsSettledField f
     → P ↔ (Q × AllByRecursion IsSettledField rest)
@@ -97,7 +97,7 @@ fields_after {P} {Q} {f} {fs} {rest} before is settled =
       (λ both. whole.1 (both.0, (settled, both.1))),
     )
 
--- if a field isn't settled, the property doesn't hold
+-- if the next field isn't settled, `P` doesn't hold
 pub field_not : {P Q : Type 0} {f : List ℕ × List (Spanned Chunk)} {fs rest : List (List ℕ × List (Spanned Chunk))}
     → P ↔ (Q × AllByRecursion IsSettledField fs) → fs ≡ f ∷ rest → (IsSettledField f → ⊥) → P → ⊥
 field_not {P} {Q} {f} {fs} {rest} before is unsettled p =

@@ -136,7 +136,7 @@ dollar_reserved : (c : ℕ) → is_reserved c ≡ false → (c == 36) ≡ false
 unfolding is_reserved
 dollar_reserved c free = grind arith
 
--- each settled character is written as a unit, if no equal space or hyphen follows it
+-- each settled character is written as a unit, if no hyphen follows a hyphen and no white space a space
 spelt : (v : Bool) (c : ℕ) (rest : List ℕ) → (is_space c ≡ true → c ≡ 32)
     → (c ≡ 45 → begins (λ d. d == 45) rest ≡ false) → (is_space c ≡ true → begins is_space rest ≡ false)
     → IsSpelt v c rest
@@ -166,7 +166,7 @@ spelt false c rest settled hyphen space =
           ]
     ]
 
--- a character before parsed text
+-- the output for a character, before text that parses, parses as the character
 put : {v : Bool} {c : ℕ} {rest : List ℕ} {atoms : List Atom} (depth : ℕ) → IsSpelt v c rest → Reads v depth rest atoms
     → Reads v depth (char_spelling v c ++ rest) (character depth c ∷ atoms)
 put {v} {c} {rest} {atoms} depth one read =
@@ -178,7 +178,7 @@ put {v} {c} {rest} {atoms} depth one read =
     subst (λ xs. Reads v depth (char_spelling v c ++ rest) (xs ++ atoms)) (one.means depth)
     (next first (one.closable depth) inside following)
 
--- the next atom is no character of this kind, or fails the test
+-- if the next atom is a character of this kind (verbatim if `is_open`), it fails the test
 abbrev pub NextFails : (ℕ → Bool) → Bool → List Atom → Type 0
 NextFails test is_open [] = Unit {0}
 NextFails test true (Atom.verbatim c ∷ rest) = test c ≡ false
@@ -208,7 +208,7 @@ begins_by test false false false true circumflex c rest slash fails = slash
 begins_by test false false false false true c rest slash fails = slash
 begins_by test false false false false false c rest slash fails = fails
 
--- the output for a character that fails the test doesn't begin with one that passes it
+-- for a test that a backslash fails: the output for a character that fails it doesn't begin with one that passes it
 begins_spelled : (test : ℕ → Bool) (v : Bool) (c : ℕ) (rest : List ℕ) → test 92 ≡ false → test c ≡ false
     → begins test (char_spelling v c ++ rest) ≡ false
 unfolding char_spelling
@@ -258,7 +258,7 @@ spaces_of : IsOfCharacters is_space
 unfolding is_space
 spaces_of = record { slash = refl; opens = refl; closes = refl; dollar = refl }
 
--- no hyphen follows a hyphen of its kind
+-- two characters that are no pair are not both hyphens
 hyphen_apart : (c d : ℕ) → c ≡ 45 → is_pair c d ≡ false → (d == 45) ≡ false
 hyphen_apart c d is apart =
     let shown : is_pair 45 d ≡ false = subst (λ x. is_pair x d ≡ false) is apart in
@@ -307,7 +307,7 @@ apart_rest : (a : Atom) (atoms : List Atom) → AreApart (a ∷ atoms) → AreAp
 apart_rest a [] apart = tt
 apart_rest a (b ∷ rest) apart = apart.1
 
--- the text of a chunk before parsed text
+-- the output for the text of a chunk, before that for other chunks, parses as the characters of the text
 read_text : (v o : Bool) (cs : List ℕ) (chunks : List (Spanned Chunk))
     → AllByRecursion (IsSettledAtom v) (map (character (depth_of o)) cs ++ styled chunks)
     → AreApart (map (character (depth_of o)) cs ++ styled chunks)
@@ -330,19 +330,19 @@ read_text v o (c ∷ cs) chunks each apart read =
     in
     rw (append_assoc (char_spelling v c) (spelling v cs) (written_chunks v o chunks)) (put (depth_of o) one following)
 
--- a closing brace before parsed text
+-- a closing brace at depth 1, before text that parses at depth 0, parses
 read_closing : {v : Bool} {rest : List ℕ} {atoms : List Atom} → Reads v 0 rest atoms → Reads v 1 (125 ∷ rest) atoms
 read_closing {v} {rest} read =
     next {u = ContentUnit.closing} {inner = []} (record { fits = refl; spells = refl }) refl
     (λ text holds. no_text holds) read
 
--- an opening brace before parsed text
+-- an opening brace at depth 0, before text that parses at depth 1, parses
 read_opening : {v : Bool} {rest : List ℕ} {atoms : List Atom} → Reads v 1 rest atoms → Reads v 0 (123 ∷ rest) atoms
 read_opening {v} {rest} read =
     next {u = ContentUnit.opening} {inner = []} (record { fits = refl; spells = refl }) refl
     (λ text holds. no_text holds) read
 
--- math before parsed text
+-- math without a dollar sign, before text that parses, parses as math
 read_math : (depth : ℕ) (text rest : List ℕ) (atoms : List Atom) → list_any (λ c. c == 36) text ≡ false
     → Reads false depth rest atoms → Reads false depth (36 ∷ (text ++ 36 ∷ rest)) (Atom.math text ∷ atoms)
 read_math depth text rest atoms none read =
@@ -361,7 +361,7 @@ apart_after o [] atoms apart = apart
 apart_after o (c ∷ cs) atoms apart =
     apart_after o cs atoms (apart_rest (character (depth_of o) c) (map (character (depth_of o)) cs ++ atoms) apart)
 
--- a chunk before parsed text
+-- the output for a chunk, before that for other chunks, parses as the atoms of the chunk
 read_chunk : (v o : Bool) (chunk : Chunk) (rest : List (Spanned Chunk))
     → AllByRecursion (IsSettledAtom v) (atoms_of chunk ++ styled rest) → AreApart (atoms_of chunk ++ styled rest)
     →

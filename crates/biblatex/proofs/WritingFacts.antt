@@ -13,7 +13,7 @@ abbrev pub is_empty : List Entry → Bool
 is_empty [] = true
 is_empty (e ∷ es) = false
 
--- the text of entries with one more entry at the end
+-- one more entry at the end adds its text, after an empty line unless it is the first entry
 one_more : (written : Entry → List ℕ) (es : List Entry) (e : Entry)
     → entries_text written (es ++ e ∷ [])
     ≡ entries_text written es ++ (empty_line_unless (is_empty es) ++ (written e ++ codes "\n"))
@@ -34,7 +34,7 @@ first_taken es zero within = refl
 first_taken [] (suc i) within = absurd (omega arith)
 first_taken (e ∷ es) (suc i) within = not_suc i
 
--- the text of the entries up to and including an index
+-- the text of the entries up to and including an index is that of the entries before it, and then that of the entry at it
 pub next_written : (written : Entry → List ℕ) (es : List Entry) (i : ℕ) (e : Entry) (first : Bool) → i < length es
     → e ≡ get_or es i e → first ≡ (i == 0)
     → entries_text written (take (i + 1) es)

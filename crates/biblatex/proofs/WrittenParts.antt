@@ -75,7 +75,7 @@ parts_spelling v (c ∷ cs) spells =
     let cut = spells_split (char_spelling v c) (spelling v cs) spells in
     parts_append (parts_spelled v c cut.1) (parts_spelling v cs cut.2)
 
--- the text of a chunk before the rest, without the empty text between them
+-- an empty text between a text and the rest can be left out
 text_before : {u w : Place} (text rest : List ℕ) → Spells u (text ++ [] ++ rest) w → Spells u (text ++ rest) w
 text_before {u} {w} text rest spells = subst (λ t. Spells u (t ++ rest) w) (append-nil text) spells
 

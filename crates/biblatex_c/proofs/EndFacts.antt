@@ -19,7 +19,7 @@ pub written_answer : {answer bytes out : List ℕ} {size : ℕ} → bytes ≡ an
     → IsEnd (λ bytes. bytes ≡ answer) (λ _. ⊥) out size (bytes ++ drop (length answer) out) (length answer) Done
 written_answer is fits = rw is (done refl fits)
 
--- if each result of `made` meets `A` and each error meets `F`, then the end of a call with `made` is an end with `A` and `F`
+-- if the result of `made` meets `A`, or its error meets `F`, the end of a call with `made` is an end with `A` and `F`
 pub end_of : {A : List ℕ → Type 0} {F : Status → Type 0} {out out' : List ℕ} {size size' : ℕ} {status : Status}
     (made : Result (String Global) Status)
     → IfOk made (λ answer. A (string_bytes answer)) → IfErr made F

@@ -29,7 +29,7 @@ kind_fails F (kind.AbbreviationCycle n) memory text = text
 kind_fails F (kind.ReferenceCycle k) memory text = text
 kind_fails F kind.OutOfMemory memory text = memory
 
--- if an error is out of memory or an error of the text, and `F` holds for the status in both cases, it holds for the status of the error
+-- if `F` holds for `OutOfMemory`, and for `Refused` if the text has an error, it holds for the status of each of these errors
 error_fails : {Q R : Type 0} (F : Status → Type 0) (e : ParseError) → (e ≡ out_of_memory) ⊎ (Q × R) → F OutOfMemory
     → (R → F Refused) → F (status_of_error e)
 error_fails F e (inl is) memory text = subst (λ e. F (status_of_error e)) (sym is) memory
@@ -47,11 +47,11 @@ pub bibliography_fails : (bytes text : List ℕ) (e : ParseError) → text ≡ b
 bibliography_fails bytes text e same refuses =
     error_fails (TextFails (IsNoBibliography bytes) bytes) e refuses tt (λ unread. subst IsNoBibliography same unread)
 
--- if a text isn't a file of the grammar, it isn't read, with the status of its error
+-- if a text isn't a file of the grammar, reading it as a document may fail with the status of its error
 pub reading_fails : (text : List ℕ) (e : ParseError) → Refuses text e (IsFile text → ⊥) → ReadingFails text (status_of_error e)
 reading_fails text e refuses = error_fails (ReadingFails text) e refuses tt (λ unread. unread)
 
--- if a text isn't read, no edit of it is made, with the same status
+-- if reading a text as a document may fail with a status, so may reading its bytes
 pub document_fails : (text : List ℕ) (why : Status) → ReadingFails text why → DocumentFails text why
 document_fails text Done fails = fails
 document_fails text TooShort fails = fails
@@ -68,13 +68,13 @@ document_fails text NoFieldLeft fails = fails
 document_fails text NotBare fails = fails
 document_fails text UnbalancedQuotes fails = fails
 
--- the same of an answer
+-- the same for the error of a result
 pub document_answer : {A : Type 0} (answer : Result A Status) (bytes text : List ℕ) → text ≡ bytes → IfErr answer (ReadingFails text)
     → IfErr answer (DocumentFails bytes)
 document_answer (Ok document) bytes text same fails = fails
 document_answer (Err why) bytes text same fails = document_fails bytes why (subst (λ t. ReadingFails t why) same fails)
 
--- if no edit is made of a text, the call may fail with the same status
+-- if reading bytes as a document may fail with a status, so may an edit of them
 pub no_edit_fails : (Refuses' : Document → EditError → Type 0) (bytes : List ℕ) (others : List (List ℕ)) (why : Status)
     → DocumentFails bytes why → EditFails Refuses' bytes others why
 no_edit_fails Refuses' bytes others Done fails = fails
@@ -146,7 +146,7 @@ edit_fails Refuses' bytes others d edit_error.NotBare same read because = record
 }
 edit_fails Refuses' bytes others d edit_error.OutOfMemory same read because = tt
 
--- if no edit is made of the first text, adding may fail with the same status
+-- if reading the first text as a document may fail with a status, so may adding to it
 pub no_adding_fails : (bytes added : List ℕ) (why : Status) → DocumentFails bytes why → AddFails bytes added why
 no_adding_fails bytes added Done fails = fails
 no_adding_fails bytes added TooShort fails = fails
@@ -163,7 +163,7 @@ no_adding_fails bytes added NoFieldLeft fails = fails
 no_adding_fails bytes added NotBare fails = fails
 no_adding_fails bytes added UnbalancedQuotes fails = inl fails
 
--- if the added text isn't read, adding may fail with the same status
+-- if reading the added text with the line ends of the first may fail with a status, so may adding it
 pub added_fails : (bytes added text : List ℕ) (why : Status) → text ≡ with_line_ends_of bytes added → ReadingFails text why
     → AddFails bytes added why
 added_fails bytes added text Done same fails = fails

@@ -9,7 +9,7 @@ use Rattle.bib_findings.specs.declared.foreign.Counted.{Counted}
 use Rattle.bib_findings.proofs.CountedIndexFacts.{counted_again, counted_new, index_within, indices_more, names_kept, names_more}
 use Rattle.bib_findings.proofs.foreign.count_field.Goals as goal
 
--- what is found under a key is the index of the name that equals it
+-- the value that is found under a key is the index of the name that equals the key
 found : (index_of : List ℕ → Option ℕ) (key name : List ℕ) (got index : Option ℕ) → key ≡ name → got ≡ index_of key → got ≡ index
     → index_of name ≡ index
 found index_of key name got index is looked says = sym (ap index_of is) ∙ sym looked ∙ says

@@ -9,7 +9,7 @@ use Rattle.bib_findings.specs.FirstKeys.{lowercase_key}
 use Rattle.bib_findings.proofs.KeyFacts.{case_found, case_none, keys_more, keys_same}
 use Rattle.bib_findings.proofs.key_cases.add_case.Goals as goal
 
--- what is found under a key is the value of the text that equals it
+-- the value that is found under a key is the value of the text that equals the key
 found : (value_of : List ℕ → Option (Bor (List ℕ))) (key name : List ℕ) (got is : Option (Bor (List ℕ))) → key ≡ name
     → got ≡ value_of key → got ≡ is → value_of name ≡ is
 found value_of key name got is same looked says = sym (ap value_of same) ∙ sym looked ∙ says

@@ -4,7 +4,7 @@ use Rattle.bib_syntax.specs.Views.{entry_reading_of}
 use Rattle.bib_findings.specs.MalformedDates.{dates_among}
 use Rattle.bib_findings.proofs.malformed_dates.add_dates_among.Given as goal
 
--- a finding was appended for each of the first fields that isn't a date
+-- a finding was appended for each of the first fields that is neither blank nor a date
 abbrev pub invariant-names : goal.invariant-names
 invariant-names l =
     l.found.items

@@ -7,7 +7,7 @@ use Rattle.bib_json.specs.Fields.{field_member}
 use Rattle.bib_json.specs.Objects.{with_members}
 use Rattle.bib_json.proofs.fields.fields_object.Given as goal
 
--- the members that were put with those of the fields that are still to come are those of all fields
+-- the members so far, extended by those of the remaining fields, are the members of all fields
 abbrev pub invariant-fields : goal.invariant-fields
 invariant-fields l =
     with_members (members_view l.members.entries) (map field_member (iter_rest l.name-iterator))

@@ -2,7 +2,7 @@ use Rattle.std.proofs.Common.{◌≡◌, ℕ, List, Bool, true, false, bytes_eq,
 use Rattle.std.proofs.lemmas.Slice.Eq.{bytes_eq-Decides}
 use Rattle.bibkit_settings.proofs.settings.OutputFormat.from_name.Goals as goal
 
--- a text that isn't `word` isn't equal to it
+-- if a text isn't `word`, comparing their bytes returns `false`
 not_word : (word text : List ℕ) → (text ≡ word → ⊥) → bytes_eq word text ≡ false
 not_word word text isnt = go (bytes_eq word text) refl where
   go : (b : Bool) → bytes_eq word text ≡ b → bytes_eq word text ≡ false
