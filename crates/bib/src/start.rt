@@ -31,7 +31,8 @@ fn words(alloc: Global, arguments: io::Result<Args>) -> Result<Vec<String>, Allo
 /// Runs the program with its arguments, and returns its exit status. The first argument is the program's name.
 ///
 /// If memory runs out while the arguments are read, this is reported, and the status is 3. If they can't be read for another
-/// reason, for instance because an argument isn't UTF-8, the program runs without arguments.
+/// reason, for instance because an argument isn't UTF-8, the program runs without arguments. If `output` refuses the text, the
+/// status is 1.
 pub fn start<S: InputSource, K: Sink>(
     alloc: Global,
     arguments: io::Result<Args>,

@@ -178,7 +178,7 @@ module _ {definitions : Definitions} {is_verbatim : Bool} where
             ∙ ap styled (all_after base x.more)) x.says);
       }
 
-  -- the first name was expanded
+  -- the expansion of the first name ends: chunks with the styled text of its definition were appended
   pub expanding_done : {base : List (Spanned Chunk)} {first : List ℕ} {memo : Memo} {frame : Frame} {whole : List Piece} (new : Memo)
       → IsExpanding definitions is_verbatim base first memo frame [] → frame.rest.now ≡ [] → new.values ≡ memo.values
       → definitions first ≡ Some whole
@@ -210,7 +210,7 @@ module _ {definitions : Definitions} {is_verbatim : Bool} where
       (error_after says (first_error.inside (λ on. fresh (subst (λ n. IsOnPath path n) same on)) (ap definitions same ∙ defined)
       (subst (λ n. IsFirstError definitions is_verbatim (n ∷ path) definition e) (sym same) error)))
 
-  -- the error of a piece is the first error of all
+  -- the first error of the pieces that are left is the first error of the first name's definition
   pub expanding_error : {base : List (Spanned Chunk)} {first : List ℕ} {memo : Memo} {frame : Frame}
       {frames : List Frame} {whole : List Piece} {e : ParseError}
       (piece : Spanned RawChunk) (rest : List (Spanned RawChunk)) → IsExpanding definitions is_verbatim base first memo frame frames

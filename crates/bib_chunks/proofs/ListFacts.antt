@@ -145,7 +145,7 @@ with_chunk-last [] last n = refl
 with_chunk-last (x ∷ []) last n = refl
 with_chunk-last (x ∷ y ∷ leading_run) last n = ap (λ l. x ∷ l) (with_chunk-last (y ∷ leading_run) last n)
 
--- a chunk is unchanged if the other one isn't of its kind
+-- a chunk is unchanged if it and the other one are neither both normal nor both verbatim
 not_lengthened : (c d : Chunk) → is_same_kind c d ≡ false → lengthened_chunk c d ≡ c
 not_lengthened (Normal a) (Normal b) h = absurd (false≢true (sym h))
 not_lengthened (Verbatim a) (Verbatim b) h = absurd (false≢true (sym h))
@@ -157,7 +157,7 @@ not_lengthened (Math a) d h = refl
 
 module _ (old leading_run now : List (Spanned Chunk)) (last : Spanned Chunk) (v chunk : Chunk)
     (was : old ≡ leading_run ++ last ∷ []) (text : v ≡ lengthened_chunk last.v chunk) where
-  -- the last chunk was lengthened if the new one is of its kind
+  -- the last chunk was lengthened if it and the new one are both normal or both verbatim
   pub added_joined : is_same_kind last.v chunk ≡ true → now ≡ leading_run ++ with_span v last.span.start last.span.end ∷ []
       → now ≡ with_chunk old (at_start chunk)
   unfolding both

@@ -37,7 +37,7 @@ cut_rejoined text more = refl
 same_letters : (a n d : ℕ) (rest : List ℕ) → word_here true (a ∷ n ∷ d ∷ rest) ≡ true → 97 ∷ 110 ∷ 100 ∷ rest ≡ a ∷ n ∷ d ∷ rest
 same_letters a n d rest here = let (others, is, spaced) = word_letters true (a ∷ n ∷ d ∷ rest) here in cc
 
--- if the word is here by either flag, it is here with white space before it
+-- if `word_here` holds for a flag, it holds for the flag `true`
 at_true : (space : Bool) (cs : List ℕ) → word_here space cs ≡ true → word_here true cs ≡ true
 at_true true cs here = here
 at_true false cs here = let (others, is, spaced) = word_letters false cs here in rw is (ap (λ b. b) spaced)

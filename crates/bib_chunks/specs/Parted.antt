@@ -27,7 +27,7 @@ pub record StandsInChunk (c here : Spanned Chunk) : Type 0 where
   pub start : here.span.start ≡ c.span.start + length before
   pub end : here.span.end ≡ here.span.start + length (text_of here.v)
 
--- a piece is in one of these chunks in this way
+-- the piece `here` is in one of `chunks`, as `StandsInChunk` states
 abbrev pub StandsInOne : List (Spanned Chunk) → Spanned Chunk → Type 0
 StandsInOne chunks here = (c : Spanned Chunk) × Contains chunks c × StandsInChunk c here
 

@@ -143,7 +143,8 @@ fn search(
     Ok(Searches { suspects, roots })
 }
 
-// Returns for each index the entries that refer to it and have the same root, or no root if it has none.
+// Returns for each index the indices that refer to it and have the same root. For an index without a root, these are the
+// indices without a root that refer to it.
 fn waiting_lists_inside(
     alloc: Global,
     refs: &[Vec<usize>],
@@ -167,7 +168,8 @@ fn waiting_lists_inside(
     Ok(inside)
 }
 
-// Marks the indices that lead to their root. Since the root leads to them, they lead to themselves.
+// Marks the indices that lead to their root through indices with the same root. Since the root leads to them, they lead to
+// themselves.
 fn marks_leading_to_roots(
     alloc: Global,
     refs: &[Vec<usize>],

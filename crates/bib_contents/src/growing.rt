@@ -42,7 +42,7 @@ fn shrink(mut text: String) -> String
     text
 }
 
-// Finishes the chunk at a brace or math that is from `end` to `following`, and begins one with `depth` braces open.
+// Finishes the chunk at `end`, and begins one at `following` with `depth` braces open.
 pub(crate) fn finish_chunk(
     out: &mut Chunks,
     growing: &mut OpenChunk,

@@ -198,7 +198,7 @@ between_reads d e text other is too = rw (
 abbrev pub is_value_byte : ℕ → Bool
 is_value_byte b = is_date_byte b || lies 46 47 b
 
--- the text of a date or a range, without a mark, which parses as it
+-- a text without a mark that parses as the date or the range `v`
 pub record IsValue (v : DateValue) (text : List ℕ) : Type 0 where
   pub bytes : list_all is_value_byte text ≡ true
   pub read : date_value text ≡ says v

@@ -125,7 +125,7 @@ year_digits n xs rest is ends =
       is.value,
     ) refl
 
--- four digits after a minus are parsed as a negative year
+-- four digits after a minus are parsed as the negated year
 year_minus : (n : ℕ) (xs rest : List ℕ) → IsNumber 4 n xs → Ends rest → year (45 ∷ (xs ++ rest)) ≡ says (neg_ℤ (pos n), rest)
 unfolding year sign
 year_minus n xs rest is ends =
@@ -139,11 +139,11 @@ year_minus n xs rest is ends =
       is.value,
     ) refl
 
--- a number up to 9,999 has four digits with zeros before it
+-- a number up to 9,999, padded with zeros, has four digits
 pub four_digits : (n : ℕ) → n ≤ 9999 → IsNumber 4 n (with_zeros 4 n)
 four_digits n h = padded_number 4 n (lit< tt) (omega arith) (omega arith)
 
--- a number below 100 has two digits with zeros before it
+-- a number below 100, padded with zeros, has two digits
 pub two_digits : (n : ℕ) → n < 100 → IsNumber 2 n (with_zeros 2 n)
 two_digits n h = padded_number 2 n (lit< tt) (omega arith) (omega arith)
 
@@ -175,7 +175,7 @@ hyphens_read width n xs rest some is ends =
 pub nothing : Ends []
 nothing = record { plain = refl; no_digit = refl }
 
--- a number ends at a hyphen
+-- a number ends at a hyphen before another number and plain text
 pub after_hyphen : (width n : ℕ) (xs rest : List ℕ) → IsNumber width n xs → plain rest ≡ true → Ends (45 ∷ (xs ++ rest))
 after_hyphen width n xs rest is h = record { plain = plain-append xs rest (digits_plain xs is.digits) h; no_digit = refl }
 

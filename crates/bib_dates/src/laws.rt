@@ -23,9 +23,9 @@ pub fn dates_survive()
     ensures written { (d : ADate) → IsKeptDate d → rewritten_date (date_text d) ≡ Some (date_text d) }
 {}
 
-/// States which kinds of errors dates have. Each error except out of memory has one of the kinds of `IsDateKind`, and
-/// so has each specified one. The kind is the specified one or, if none is specified, one of the four of
-/// `IsUnreadKind`.
+/// States which kinds of errors dates have. Each error except out of memory has one of the kinds of `IsDateKind`. If the
+/// definitions specify the kind of an error, it has this kind, otherwise one of the four of `IsUnreadKind`. Each specified
+/// kind is one of `IsDateKind`, too.
 pub fn dates_have_few_kinds()
     ensures error { (reading : Reading ADate) (kind : AKind) → MayRefuse reading kind → IsDateKind kind }
     ensures promised { (reading : Reading ADate) (kind : AKind) → MayRefuse reading kind →

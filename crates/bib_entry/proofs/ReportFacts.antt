@@ -128,7 +128,7 @@ adds_date not_read place (Err e) name old new h at reported =
     ⊎_elim (λ no_room. absurd (reported.0 (ap (λ error. error.kind) no_room)))
     (λ refusal. ((name, e) ∷ [], reported.1, ((refl, (refusal.2, lies_there Date place e reported.0 at)), _))) h
 
--- the errors of six fields are appended one after another
+-- appending the errors of six fields one after another appends those of all six in order
 pub adds_fields : (v₁ v₂ v₃ v₄ v₅ v₆ : List ℕ × Verdict) (old t₁ t₂ t₃ t₄ t₅ new : FieldErrors)
     → AppendsErrors (v₁ ∷ []) old t₁ → AppendsErrors (v₂ ∷ []) t₁ t₂ → AppendsErrors (v₃ ∷ []) t₂ t₃
     → AppendsErrors (v₄ ∷ []) t₃ t₄ → AppendsErrors (v₅ ∷ []) t₄ t₅ → AppendsErrors (v₆ ∷ []) t₅ new
@@ -139,7 +139,7 @@ adds_fields v₁ v₂ v₃ v₄ v₅ v₆ old t₁ t₂ t₃ t₄ t₅ new a₁ 
     (adds_then (v₃ ∷ []) (v₄ ∷ v₅ ∷ v₆ ∷ []) t₂ t₃ new a₃
     (adds_then (v₄ ∷ []) (v₅ ∷ v₆ ∷ []) t₃ t₄ new a₄ (adds_then (v₅ ∷ []) (v₆ ∷ []) t₄ t₅ new a₅ a₆))))
 
--- the errors of four dates are appended one after another
+-- appending the errors of four dates one after another appends those of all four in order
 pub adds_dates : (v₁ v₂ v₃ v₄ : List ℕ × Verdict) (old t₁ t₂ t₃ new : FieldErrors) → AppendsErrors (v₁ ∷ []) old t₁
     → AppendsErrors (v₂ ∷ []) t₁ t₂ → AppendsErrors (v₃ ∷ []) t₂ t₃ → AppendsErrors (v₄ ∷ []) t₃ new
     → AppendsErrors (v₁ ∷ v₂ ∷ v₃ ∷ v₄ ∷ []) old new

@@ -105,7 +105,7 @@ left_out_next {definitions} {said} {rest} {f} {old} {errors} {new} {pairs} so_fa
 pub rest_at : {A : Type 0} (all : List A) (i : ℕ) (x : A) → i < length all → x ≡ get_or all i x → drop i all ≡ x ∷ drop (i + 1) all
 rest_at all i x within is = drop_more all i x within ∙ ap (λ y. y ∷ drop (i + 1) all) (sym is)
 
--- all fields were kept or left out
+-- once each field is kept or left out, the kept fields are those kept so far
 pub kept_all : {definitions : Definitions} {said : List Pair} {old errors : List ParseError}
     {pairs : List (List ℕ × List (Spanned Chunk))} → KeptSoFar definitions said [] old errors pairs
     → AreKeptFields definitions said old errors pairs

@@ -42,7 +42,7 @@ is_empty_value f = list_all is_blank_piece f.value.pieces
 abbrev pub has_own_field : EntryReading → List ℕ → Bool
 has_own_field said name = is_some (last_named said.fields name)
 
--- the message about a field of the entry with this key: the key, the problem, and the field's name
+-- the message about a field of the entry with this key: the entry's name in messages, the problem, and the field's name
 abbrev pub field_message : List ℕ → List ℕ → List ℕ → List ℕ
 field_message key wrong name = entry_name key ++ (codes ": " ++ (wrong ++ (codes " " ++ name)))
 

@@ -99,7 +99,7 @@ is_no_date chunks = is_none (date_read chunks) && not (length (trim (text chunks
 abbrev pub has_no_date : EntryReading → Entry → List ℕ → Bool
 has_no_date said entry name = is_some (last_named said.fields name) && option_map_or is_no_date (by_name.get entry.fields name) false
 
--- the findings of those of these fields of an entry whose value is neither blank nor a date
+-- the findings of the fields of an entry that have one of these names, and whose value is neither blank nor a date
 abbrev pub dates_among : EntryReading → Entry → Names → List Finding
 dates_among said entry names = map (field_finding said MalformedDate (codes "malformed")) (filter (has_no_date said entry) names)
 

@@ -25,7 +25,7 @@ person_fields =
     fields "afterword annotator author bookauthor commentator editor editora editorb editorc foreword holder introduction"
     ++ fields "shortauthor shorteditor translator"
 
--- a word and a space, or a line feed for the word `and`
+-- a word and a space, or a line feed for the word `and`; nothing for an empty word
 abbrev pub word_in_lines : List ℕ → List ℕ
 word_in_lines word =
     if length word == 0 then [] else if is_between_people word then codes "\n" else word ++ codes " "

@@ -24,7 +24,7 @@ use bib_text::spanned::Spanned;
 use bib_text::text::Text;
 use std::alloc::{AllocError, Global};
 
-// Returns the message about a field of the entry with this key: the key, the problem, and the field's name.
+// Returns the message about a field of the entry with this key: the entry's name in messages, the problem, and the field's name.
 fn field_message(alloc: Global, key: &str, wrong: &str, name: &str) -> Result<String, AllocError>
     ensures { IfOk result (λ text. string_bytes text ≡ field_message key.now wrong.now name.now) }
 {

@@ -40,7 +40,8 @@ string_under name j = option_and_then as_str (get name j)
 abbrev pub text_under : List ℕ → Json → Option (List ℕ)
 text_under name j = option_and_then text_in (get name j)
 
--- the integer in a value, which is a number or a text. It must be an `i64`, and have only decimal digits, maybe with a sign before them.
+-- the integer that a number or a text has in decimal digits, maybe with a sign before them; `None` if there is no such integer, or if it is
+-- no `i64`
 abbrev pub whole_number : Json → Option ℤ
 whole_number j = option_and_then decimal_of (text_in j)
 

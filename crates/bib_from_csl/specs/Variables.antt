@@ -159,7 +159,7 @@ people_field name =
     else if bytes_eq name (codes "container-author") then codes "bookauthor"
     else []
 
--- the field for a date, or nothing for another variable
+-- the field for a date variable, or nothing if there is none
 unfoldable pub field_of_date : List ℕ → List ℕ
 field_of_date name =
     if bytes_eq name (codes "issued") then codes "date"

@@ -63,13 +63,13 @@ abbrev pub particle : Bool → NameParts → List ℕ
 particle true p = p.non_dropping_particle
 particle false p = p.dropping_particle
 
--- whether a name is written in BibTeX's format
+-- whether a name has a given name and can be written in BibTeX's format
 unfoldable pub is_bibtex_name : Bool → NameParts → Bool
 is_bibtex_name uses_prefix p =
     are_plain_words p.family && (has_no_small_word p.family && (are_plain_words p.given && (is_nothing_or_words p.suffix
     && (is_plain_particle (particle uses_prefix p) && (length (particle (not uses_prefix) p) == 0)))))
 
--- whether a name is only a family name of one word
+-- whether a name is only a family name that is one plain word
 unfoldable pub is_one_word : NameParts → Bool
 is_one_word p =
     is_plain_word p.family && ((length p.given == 0) && ((length p.suffix == 0)

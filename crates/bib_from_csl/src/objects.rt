@@ -71,8 +71,8 @@ fn decimal(text: &str) -> Option<i64>
     text.parse::<i64>().ok()
 }
 
-// Returns the integer in a value, which is a number or a text. It must be an `i64`, and have only decimal digits, maybe with a sign before
-// them.
+// Returns the integer that a number or a text has in decimal digits, maybe with a sign before them. Returns `None` if there is no such
+// integer, or if it is no `i64`.
 pub(crate) fn whole_number(value: &Value<'_>) -> Option<i64>
     ensures { result ≡ spec.whole_number (value_view value.now) }
 {

@@ -30,7 +30,8 @@ fn cut(entry: &mut Entry)
     entry.fields.remove("xdata");
 }
 
-// Removes the references of each entry that refers to itself, directly or through others, and returns an error for each.
+// Removes `crossref` and `xdata` of each entry that refers to itself by them, directly or through others, and returns an error
+// for each.
 fn cut_cycles(
     alloc: Global,
     spans: &[Span],

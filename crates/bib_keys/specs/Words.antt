@@ -27,7 +27,7 @@ function_words =
 abbrev pub is_function_word : List ℕ → Bool
 is_function_word word = list_any (λ known. str_eq_ignore_ascii_case known word) function_words
 
--- whether a word is significant: it isn't empty and no function word
+-- whether a word is significant: it is neither empty nor a function word
 abbrev pub is_significant : List ℕ → Bool
 is_significant word = not (length word == 0) && not (is_function_word word)
 

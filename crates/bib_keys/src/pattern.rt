@@ -31,10 +31,10 @@ pub enum Case {
 pub enum Part {
     /// A character, which is copied to the key, except for a hyphen after a hyphen.
     Literal(char),
-    /// The family name of the first author, or with a number up to this many names, and `EtAl` if there are more. The field is
-    /// `editor` if there is no `author`.
+    /// The family name of the first author. With a number, the family names of up to this many authors, and `EtAl` if there are
+    /// more. The field is `editor` if there is no `author`.
     Author(Case, Option<u8>),
-    /// The first significant word of the title, or with a number up to this many words.
+    /// The first significant word of the title. With a number, up to this many significant words.
     Title(Case, Option<u8>),
     /// The four digits of the year.
     Year,

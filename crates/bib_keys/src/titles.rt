@@ -34,7 +34,7 @@ fn is_function_word(word: &str) -> bool
     is_among(&FUNCTION_WORDS, word)
 }
 
-// Returns whether a word is significant: it isn't empty and no function word.
+// Returns whether a word is significant: it is neither empty nor a function word.
 fn is_significant(word: &str) -> bool
     ensures { result ≡ spec.is_significant word.now }
 {

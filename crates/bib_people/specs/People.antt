@@ -13,7 +13,7 @@ use Rattle.bib_people.specs.Names.{person_of}
 abbrev pub people_of : Value → List Person
 people_of chunks = map person_of (and_list chunks)
 
--- a person with only the four parts of BibTeX
+-- ---- a person with only the four parts of BibTeX
 
 -- a suffix and a comma after it; nothing if the suffix is empty
 abbrev pub suffix_text : List ℕ → List ℕ
@@ -36,7 +36,7 @@ plain_chunks p =
     else if begins_capital (chars p.prefix) then nowhere (Verbatim p.prefix) ∷ nowhere (Normal (codes " " ++ after_prefix p)) ∷ []
     else nowhere (Normal (p.prefix ++ (codes " " ++ after_prefix p))) ∷ []
 
--- a person in the extended format
+-- ---- a person in the extended format
 
 -- a key and its value: a normal chunk and a verbatim one. `key` contains the equals sign, and the comma before any key
 -- except the first.

@@ -10,7 +10,7 @@ use Rattle.std.specs.Cmp.Lexicographic.{slice_cmp}
 use Rattle.std.specs.Ordering.{nat_cmp}
 use Rattle.bib_queries.specs.Needed.{Node, HasName, is_listed}
 
--- the indices of the nodes with this name, in the map
+-- the indices that a map has for a name; none if it lacks the name
 abbrev pub holders_in : BTreeMap (Bor (List ℕ)) (Vec ℕ) → List ℕ → List ℕ
 holders_in m name = option_map_or (λ indices. indices.items) (get_by (λ k. slice_cmp nat_cmp name k.now) m) []
 

@@ -6,7 +6,7 @@ use Rattle.bib_text.specs.Characters as char
 use Rattle.bib_recode.specs.LineEnds.{ended_after, ended_bytes}
 use Rattle.bib_recode.specs.declared.line_ends.LineEnds.{LineEnds}
 
--- whether the last of some characters is a carriage return; the flag says the same of the character before them
+-- whether the last of some characters is a carriage return; if there are none, the flag, which says the same of the character before them
 abbrev pub ends_in_return : Bool → List ℕ → Bool
 ends_in_return before [] = before
 ends_in_return before (c ∷ cs) = ends_in_return (c == char.carriage_return) cs

@@ -37,7 +37,7 @@ pub before_none : (before : List Placed) (end : ℕ) (segments : List Segment)
 before_none [] end segments = refl
 before_none (first ∷ before) end segments = ap (with_token first) (before_none before end segments)
 
--- the tokens before an index have no such word, so they are those of the first segment
+-- cutting all tokens gives the segments of the tokens from an index on, with the tokens before it added to the first one
 pub record UncutSoFar (joint : List ℕ) (end : ℕ) (tokens : List declared.Placed) (index : ℕ) : Type 0 where
   pub same : segments_between joint end (map placed_of tokens)
       ≡ with_tokens (map placed_of (take index tokens)) (segments_between joint end (map placed_of (drop index tokens)))

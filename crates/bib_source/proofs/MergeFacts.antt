@@ -8,7 +8,7 @@ use Rattle.bib_source.specs.declared.comparison.Line.{Line}
 use Rattle.bib_source.specs.declared.comparison.Line.TheVariants.{Context, Removed, Added}
 use Rattle.bib_source.proofs.ComparisonFacts.{new_append, old_append, texts_up_to}
 
--- both sides of lines of one variant
+-- the old and the new side of lines that are all in both texts, all removed or all added
 pub old_context : (lines : List (Bor (List ℕ))) → old_side (map Context lines) ≡ line_texts lines
 old_context [] = refl
 old_context (line ∷ lines) = ap (λ ls. line.now ∷ ls) (old_context lines)

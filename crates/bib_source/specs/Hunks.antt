@@ -7,7 +7,7 @@ use Rattle.bib_source.specs.Comparison.{HaveCommonEnds, is_changed, old_side, ne
 use Rattle.bib_source.specs.declared.comparison.Line.{Line}
 use Rattle.bib_source.specs.declared.comparison.Line.TheVariants.{Removed, Added}
 
--- lines, and the line numbers of the first of them in the old and in the new text
+-- lines, and the line numbers at which they begin in the old and in the new text
 pub record Hunk : Type 0 where
   pub old : ℕ
   pub new : ℕ

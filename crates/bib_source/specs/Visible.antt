@@ -31,7 +31,8 @@ EndsInContext lines = (before : List Line) (line : Line) → lines ≡ before ++
 abbrev pub BeginsWithContext : List Line → Type 0
 BeginsWithContext lines = (line : Line) (rest : List Line) → lines ≡ line ∷ rest → is_changed line ≡ false
 
--- the lines of a hunk are cut from `lines` between lines of both texts, and its numbers are those of its first line
+-- The lines of a hunk are consecutive lines of `lines`. The line before them and the line after them, if any, are in both texts. The
+-- numbers of the hunk are one more than the numbers of old and of new lines before it.
 pub record IsCutOut (lines : List Line) (hunk : Hunk) : Type 0 where
   pub before : List Line
   pub after : List Line

@@ -51,8 +51,8 @@ fn push_added<'t>(compared: &mut Vec<Line<'t>>, lines: &[&'t str]) -> Result<(),
     Ok(())
 }
 
-// Appends lines of the old text as removed and lines of the new text as added. Appends their common start and their common
-// end as lines of both texts.
+// Appends the common start of `old` and `new` as lines of both texts. Then appends the rest of `old` as removed, the rest of
+// `new` as added, and their common end as lines of both texts.
 fn push_run<'t>(
     compared: &mut Vec<Line<'t>>,
     old: &[&'t str],
@@ -69,7 +69,7 @@ fn push_run<'t>(
     Ok(())
 }
 
-// Appends a run, and a line of both texts.
+// Appends `old` and `new` as `push_run` does, and then `line` as a line of both texts.
 fn push_run_before<'t>(
     compared: &mut Vec<Line<'t>>,
     old: &[&'t str],

@@ -52,9 +52,9 @@ pub struct RawBibliography<'s> {
 impl<'s> RawBibliography<'s> {
     /// Parses a bibliography file.
     ///
-    /// Returns an error if the file grammar rejects `src`, or `OutOfMemory`. The first error has the kind `UnexpectedEof`,
-    /// `Unexpected` or `Expected`, and an empty span in bytes of `src`. It is the one error that the rules in
-    /// `specs/SyntaxErrors.antt` give for the text.
+    /// Returns an error if the file grammar rejects `src`, or `OutOfMemory`. An error of the grammar has the kind
+    /// `UnexpectedEof`, `Unexpected` or `Expected`, and an empty span in bytes of `src`. It is the one error that `IsReported`
+    /// allows for the text.
     pub fn parse(alloc: Global, src: &'s str) -> Result<Self, ParseError>
         ensures read { IfOk result (λ raw. IsRawReading src.now (file_of raw)) }
         ensures accepted { OnOk result (IsFile src.now) }

@@ -25,7 +25,7 @@ pub record Disk : Type 1 where
   pub may_leave : List ℕ → Option (List ℕ) → Type 0
   -- the bytes that a crash at this moment may leave in the current file of a name, whatever names that file then has
   pub may_leave_in : List ℕ → List ℕ → Type 0
-  -- the number of this moment, which never decreases
+  -- the number of this moment; no call decreases it
   pub moment : ℕ
   -- the contents that a crash could have left for a name, at some moment since the one with this number, during a call or
   -- between two calls

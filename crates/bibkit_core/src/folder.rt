@@ -17,7 +17,7 @@ pub trait Folder {
     // The known state of the files at this moment.
     ghost disk: { Self → Disk };
 
-    // The number of calls that have failed.
+    // The number of calls that have failed, counted up to 2^64 - 1.
     ghost failures: { Self → ℕ };
 
     /// Creates an empty file, opens it, and returns true. Returns false if the name is in use. An error creates no file.

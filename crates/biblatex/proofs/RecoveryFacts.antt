@@ -1,4 +1,4 @@
--- The recovery of a file's references is unique.
+-- Facts about the recovery of a file: the reported errors, and the entries that lose their references.
 use Rattle.std.proofs.Common.{◌≡◌, ℕ, zero, suc, ◌+◌, ◌<◌, List, [], ◌∷◌, ◌++◌, length, map, refl, sym, ap, ◌∙◌, subst, arith, inl, inr, ◌⊎◌, Option, Some, None, option_map, cond, Bool, true, false}
 use Rattle.std.specs.Prelude.{codes, slice_get}
 use Rattle.std.specs.FinMap as by_name

@@ -65,7 +65,7 @@ differ one two other =
     go (inl same) = absurd (both_ways _ other ((bytes_eq-Decides one two).1 (sym ((bytes_eq-Decides two one).0 same))))
     go (inr apart) = apart
 
--- The fields and entries of the output
+-- ---- the fields and entries of the output
 
 module _ (definitions : Definitions) where
   -- a value that is one literal reaches no abbreviation
@@ -350,7 +350,7 @@ module _ (definitions : Definitions) where
         mapped = (one.mapped, more.mapped);
       }
 
--- The bibliography of the output
+-- ---- the bibliography of the output
 
 -- if own entries are mapped from some entries, so are entries with the same keys, types and styled texts
 loaded_mapped : (es own entries : List Entry) → AllZip IsMapped es own → AllZip IsAsWritten own entries

@@ -87,7 +87,7 @@ settled_name name linked identifier small is = (
   (λ settled. ap not (is ∙ settled.apart)),
 )
 
--- after a settled field, `P` is equivalent to `Q` and the settledness of the remaining fields
+-- if `P` is equivalent to `Q` and all fields being settled, the first field can be left out if it is settled
 pub fields_after : {P Q : Type 0} {f : List ℕ × List (Spanned Chunk)} {fs rest : List (List ℕ × List (Spanned Chunk))}
     → P ↔ (Q × AllByRecursion IsSettledField fs) → fs ≡ f ∷ rest → IsSettledField f
     → P ↔ (Q × AllByRecursion IsSettledField rest)

@@ -20,9 +20,9 @@ use Rattle.biblatex.specs.Resolved.{AreOneErrorOf, names_of}
 -- `bibliography` is the recovery of `text`. Its entries come from the raw entries with the indices `origins`. `skipped`
 -- contains the blocks with syntax errors, each with its error; their complete parts are kept. Each of the following adds an
 -- error to `errors`. An entry is left out if an earlier kept entry claimed its key. An undefined abbreviation is replaced by
--- its name as text, and a field that still can't be parsed is left out. An entry that refers to itself, directly or through
--- others, loses its references. An entry that lacks a required date doesn't inherit an unreadable date (`is_bad_date`) of an
--- entry that it refers to
+-- its name as text, and a field that still can't be parsed is left out. An entry that refers to itself by `crossref` or
+-- `xdata`, directly or through others, loses these two fields. An entry that lacks a required date doesn't inherit an
+-- unreadable date (`is_bad_date`) of an entry that it refers to
 pub record IsRecoveredBibliography (text : List ℕ) (bibliography : Bibliography) (origins : List ℕ)
     (skipped : List SkippedBlock) (errors : List ParseError) : Type 0 where
   pub says : FileReading

@@ -20,10 +20,10 @@ pub struct BibliographyRecovery {
     pub origins: Vec<usize>,
     /// The skipped blocks of the text, each with its syntax error.
     pub skipped: Vec<SkippedBlock>,
-    /// The errors of the rest. First, in the order of the entries and of their fields: undefined abbreviations, and the
-    /// fields and entries that are left out. For a field that is left out, those of its abbreviations come first. Then the
-    /// entries on cycles. Then the entries that lack a required date and refer to an entry without `date` whose `year`,
-    /// `month` and `day` can't be parsed.
+    /// The other errors. First, in the order of the entries and of their fields: undefined abbreviations, and the fields and
+    /// entries that are left out. For a field that is left out, the errors of its abbreviations come first. Then the entries
+    /// on cycles. Then the entries that lack a required date and refer to an entry without `date` whose `year`, `month` and
+    /// `day` can't be parsed.
     pub errors: Vec<ParseError>,
 }
 

@@ -56,7 +56,7 @@ record IsRecodedBy (form : Form) (q : Bool) (old : List ℕ) : Type 0 where
 same_text : (form : Form) (old : List ℕ) → has_other_form form old ≡ false → text_recoded form old ≡ old
 same_text form old none = ap (λ b. cond b (encode_utf8_all (with_form form (chars old))) old) none
 
--- a text in a form has the braces and quotes of the text
+-- if the braces and quotes of a text fit, so do those of the text in a form
 form_fits : (form : Form) (q : Bool) (cs : List ℕ) → text_fits q false 0 cs ≡ true → text_fits q false 0 (with_form form cs) ≡ true
 form_fits Characters q cs fit =
     written_fits q false 0 Free (decoded (signs Text false cs))

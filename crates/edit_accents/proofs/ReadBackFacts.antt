@@ -153,7 +153,7 @@ braced_decoded b is = ap (λ ss. decoded (Opening ∷ ss)) (bare_signs b Accent 
 not_white : (b : ℕ) → is_ascii_alphabetic b ≡ true → is_whitespace b ≡ false
 not_white b is = grind (arith, nat_tests)
 
--- an ASCII letter is an argument
+-- an ASCII letter before a closing brace is an argument
 bare_argument : (b : ℕ) → is_ascii_alphabetic b ≡ true → IsArgument (Plain b ∷ Closing ∷ []) b
 bare_argument b is = record {
   found = ap (λ t. character_if (t || is_beyond_ascii b) b) is;
@@ -161,7 +161,7 @@ bare_argument b is = record {
   closes = refl;
 }
 
--- an ASCII letter in braces is an argument
+-- an ASCII letter in braces before a closing brace is an argument
 braced_argument : (b : ℕ) → is_ascii_alphabetic b ≡ true → IsArgument (Opening ∷ Plain b ∷ Closing ∷ Closing ∷ []) b
 braced_argument b is = record {
   found = ap (λ t. character_if ((t || is_beyond_ascii b) && true) b) is;
@@ -169,7 +169,7 @@ braced_argument b is = record {
   closes = refl;
 }
 
--- a character that a command in braces became is an argument
+-- a character that a command in braces became is an argument before a closing brace
 grouped_argument : (b : ℕ) → IsArgument (Grouped b ∷ Closing ∷ []) b
 grouped_argument b = record { found = refl; adjacent = refl; closes = refl }
 

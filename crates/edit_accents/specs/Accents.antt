@@ -127,7 +127,7 @@ is_group s = false
 abbrev pub character_if : Bool → ℕ → Option ℕ
 character_if passes c = if passes then Some c else None
 
--- the letter that a sign is
+-- the ASCII letter that a sign is, or `None` if it is none
 abbrev pub letter_of : Sign → Option ℕ
 letter_of (Plain c) = character_if (is_ascii_alphabetic c) c
 letter_of s = None

@@ -40,7 +40,7 @@ fn white_count(signs: &[Sign]) -> usize
     count
 }
 
-// Returns the letter that a sign is.
+// Returns the ASCII letter that a sign is, or `None` if it is none.
 fn letter_of(sign: Sign) -> Option<char>
     ensures { result ≡ spec.letter_of sign }
 {

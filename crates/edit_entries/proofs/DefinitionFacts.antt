@@ -177,15 +177,14 @@ others_agree definitions others agree j g there k f last here =
     let named = passes_at (has_name g.name.text) definitions k f last here in
     sym (agree k j f g here there (word_from g.name.text f.name.text (sym (lower_same f.name.text g.name.text named))))
 
--- if each of `definitions` agrees with the last of `others`, a test whether the others agree with the last definitions decides whether both
--- lists agree
+-- if each of `definitions` agrees with the last of `others` with its name, a test of the converse decides whether both lists agree
 pub agree_if_both : (definitions others : List FieldReading) (answer : Bool) → AllAgree definitions others
     → MatchBool answer (AllAgree others definitions) (AllAgree others definitions → ⊥)
     → MatchBool answer (AgreeOnDefinitions definitions others) (AgreeOnDefinitions definitions others → ⊥)
 agree_if_both definitions others true one other = agree_all definitions others one other
 agree_if_both definitions others false one none = λ agree. none (others_agree definitions others agree)
 
--- if `g` is the last of `others` with the name of `f`, a test whether their values are the same decides whether `f` agrees
+-- if `g` is the last of `others` with the name of `f`, a test whether `f` and `g` have the same value decides `AgreesWithLast`
 pub agree_at : (others : List FieldReading) (f g : FieldReading) (k : ℕ) (answer : Bool)
     → last_position (has_name f.name.text) others ≡ Some k → slice_get others k ≡ Some g
     → MatchBool answer (HaveSameValue f g) (HaveSameValue f g → ⊥)

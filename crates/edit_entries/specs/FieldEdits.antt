@@ -78,7 +78,7 @@ pub record CantBeEdited (d : Document) (selected : List ℕ → Bool) (edit : Fi
   pub because : IsValueError edit error
   pub unfit : HasFitValue d.says.abbreviations (first_start selected (length d.text) d.says.entries) edit → ⊥
 
--- the conditions under which an edit of a field of several entries, those whose keys are selected, is refused
+-- the condition under which the edit of a field in the entries with selected keys is refused with this error
 abbrev pub FieldEditIsRefused : Document → (List ℕ → Bool) → FieldEdit → EditError → Type 0
 FieldEditIsRefused d selected edit UnknownKey = ⊥
 FieldEditIsRefused d selected edit KeyIsThere = ⊥

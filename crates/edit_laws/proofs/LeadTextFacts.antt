@@ -73,7 +73,7 @@ first_char c rest = by_size (ltb c 128) (ltb c 2048) (ltb c 65536) refl refl ref
     by_size false false true a b d = three c rest (ltb-false c 2048 b) (ltb-true c 65536 d)
     by_size false false false a b d = four c rest (ltb-false c 65536 d)
 
--- the characters of encoded characters are these
+-- decoding encoded characters gives the same characters
 pub chars_spelled : (cs : List ℕ) → chars (encode_utf8_all cs) ≡ cs
 chars_spelled [] = chars-nil
 chars_spelled (c ∷ cs) = first_char c (encode_utf8_all cs) ∙ ap (λ l. c ∷ l) (chars_spelled cs)

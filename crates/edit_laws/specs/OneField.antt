@@ -35,15 +35,15 @@ CanBeFieldContents name text = (atoms : List Atom) × IsContent (is_verbatim_fie
 abbrev pub with_field_text : List ℕ → Option (List Atom) → EntryTexts → EntryTexts
 with_field_text name text texts = record texts { fields = λ other. if bytes_eq other name then text else texts.fields other }
 
--- the entries `others` have the keys, types and own fields of `own`, except for one field of the entry at an index, which has
--- this text or is missing
+-- The entries `others` have the keys, the types and the styled texts of the fields of `own`, except for one field of the entry at an
+-- index. This field has the text `text`, or is missing.
 pub record DifferInField (own others : List Entry) (index : ℕ) (name : List ℕ) (text : Option (List Atom)) : Type 0 where
   pub entry : Entry
   pub here : slice_get own index ≡ Some entry
   pub keys : map (λ e. e.key) others ≡ map (λ e. e.key) own
   pub texts : texts_of_entries others ≡ slice_set (texts_of_entries own) index (with_field_text name text (texts_of_entry entry))
 
--- `others` are the entries `own`, except that a field of the entry with a key has the contents of a text
+-- `others` differ from `own` as `DifferInField` states: a field of the entry with a key has the contents of a text
 pub record AreSet (own others : List Entry) (key name text : List ℕ) : Type 0 where
   pub index : ℕ
   pub atoms : List Atom
@@ -51,7 +51,7 @@ pub record AreSet (own others : List Entry) (key name text : List ℕ) : Type 0 
   pub differ : DifferInField own others index name (Some atoms)
   pub is : differ.entry.key ≡ key
 
--- `others` are the entries `own`, except that the entry with a key has no field with a name
+-- `others` differ from `own` as `DifferInField` states: the entry with a key has no field with a name
 pub record AreUnset (own others : List Entry) (key name : List ℕ) : Type 0 where
   pub index : ℕ
   pub differ : DifferInField own others index name None

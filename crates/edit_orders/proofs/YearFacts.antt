@@ -40,7 +40,7 @@ pub counted_none : (is_before : Bool) (ds : List ℕ) → length ds ≡ 0 → co
 counted_none is_before [] h = refl
 counted_none is_before (d ∷ ds) h = absurd (omega arith)
 
--- the year of a text is counted by the text before its first digits and by these digits
+-- the year of a text is that of its first digits, before year 0 if the text before them is a hyphen
 pub year_is : (text before rest digits : List ℕ) (n : ℕ) → n ≡ prefix_len (λ b. not (is_ascii_digit b)) text → before ≡ take n text
     → rest ≡ drop n text → digits ≡ take (prefix_len is_ascii_digit rest) rest
     → year_by_digits text ≡ counted (bytes_eq before (codes "-")) digits

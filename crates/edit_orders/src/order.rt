@@ -16,9 +16,9 @@ pub enum Property {
     /// before them.
     Year,
     /// The names in the field `author`, or in `editor` if there is no `author`, except for `others`. Each name is compared by family name,
-    /// given name, suffix and prefix, without accents, case and punctuation.
+    /// given name, suffix and prefix, without accents, case, punctuation and symbols.
     Author,
-    /// The title, without accents, case, punctuation and LaTeX markup.
+    /// The title, without accents, case, punctuation, symbols and LaTeX markup.
     Title,
     /// The entry type, with ASCII letters in lowercase.
     Type,

@@ -78,7 +78,7 @@ module _ (entries : List EntryReading) where
       (λ k d within.
       All-map (λ r. r < length entries) (λ p. p.index) (parents entries (get_or entries k d)) (parents_within (get_or entries k d))))
 
-  -- the rows of the code are the graph of the parents
+  -- the rows that the code computes are the graph of the parents
   pub graph_known : (found lent : List (Vec Parent)) (refs shown : List (Vec ℕ)) → parent_lists found ≡ map (parents entries) entries
       → lent ≡ found → rows refs ≡ map (λ ps. map (λ p. p.index) ps.items) lent → shown ≡ refs → rows shown ≡ parent_graph entries
   graph_known found lent refs shown are same refer shown_is =

@@ -120,7 +120,7 @@ has_book_author MvBook child = is_book_part child
 has_book_author Book child = is_book_part child
 has_book_author _ child = false
 
--- the new name of this author, besides its own
+-- the name under which an entry of the second type inherits `author` besides `author` itself, if there is one
 abbrev pub author_name : EntryType → EntryType → Option (List ℕ)
 author_name parent child = if has_book_author parent child then Some (codes "bookauthor") else None
 

@@ -228,7 +228,7 @@ fn is_own_title(name: &str) -> bool
     )
 }
 
-// Returns whether a field is never inherited by `crossref`.
+// Returns whether a field other than an annotation is never inherited by `crossref`.
 fn is_never_by_crossref(name: &str) -> bool
     ensures { result ≡ is_one_of never_by_crossref name.now }
 {
@@ -271,7 +271,7 @@ pub(crate) fn keeps_name(parent: &EntryType, child: &EntryType, name: &str) -> b
     !(titles_in(parent, child).is_some() && is_own_title(name))
 }
 
-// Returns whether a field is never inherited by `xdata`.
+// Returns whether a field other than an annotation is never inherited by `xdata`.
 fn is_never_by_xdata(name: &str) -> bool
     ensures { result ≡ is_one_of never_by_xdata name.now }
 {

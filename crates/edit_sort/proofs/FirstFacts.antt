@@ -142,7 +142,7 @@ placed_items d places order in_order =
     (All-permutation (IsPlaced all places) (listed d places) order (listed_order d places order in_order).permutation
     (All-from_recursion (IsPlaced all places) (listed d places) (placed_from all d.text places 0 0 0 all)))
 
--- items with one key have the same place
+-- items with the same key, in any ASCII case, have the same place
 pub place_of_one_key : (all : List EntryReading) (places : List ℕ) (x y : Item) → IsPlaced all places x → IsPlaced all places y
     → has_key_of x.entry y.entry ≡ true → x.place ≡ y.place
 place_of_one_key all places x y placed placed' same =
@@ -164,7 +164,7 @@ key_at all order e i k keys within =
     sym (get_or-map (λ x. x.key.text) all k e [] (omega (arith, long, within))) ∙ ap (λ l. get_or l k []) keys
     ∙ get_or-map (λ j. j.entry.key.text) order k i [] within
 
--- with the places of items in order as places, an entry with the key of one of these items has the place of that item
+-- if the places are those of the items in order, an entry with the key of an item has the place of that item
 pub place_again : (all all' : List EntryReading) (places : List ℕ) (order : List Item) (e : EntryReading) (i : Item)
     → keys_of all' ≡ map (λ j. j.entry.key.text) order → AllByRecursion (IsPlaced all places) order
     → Contains order i → e.key.text ≡ i.entry.key.text → entry_place all' (map (λ j. j.place) order) e ≡ i.place

@@ -92,7 +92,7 @@ is_used taken name = is_month name || is_taken taken name
 abbrev pub AreUsedBelow : Taken → List ℕ → ℕ → Type 0
 AreUsedBelow taken base number = (n : ℕ) → 1 ≤ n → n < number → is_used taken (base ++ number_after n) ≡ true
 
--- a plain name has the first number that makes it new
+-- `name` is a plain name, and is `base` with the least number that makes it unused
 pub record IsLeastFree (taken : Taken) (base : List ℕ) (number : ℕ) (name : List ℕ) : Type 0 where
   pub plain : is_plain_name name ≡ true
   pub some : 1 ≤ number
@@ -100,7 +100,7 @@ pub record IsLeastFree (taken : Taken) (base : List ℕ) (number : ℕ) (name : 
   pub new : is_used taken name ≡ false
   pub first : AreUsedBelow taken base number
 
--- for each start of a name in a map, the numbers below its number make names that are used
+-- the number that a map has for the start of a name is at least 1, and each smaller number from 1 on makes a name that is used
 abbrev pub AreBelowUsed : Taken → BTreeMap (String Global) ℕ → Type 0
 AreBelowUsed taken numbers =
     (base : List ℕ) (number : ℕ) → get_by_text numbers base ≡ Some number → (1 ≤ number) × AreUsedBelow taken base number

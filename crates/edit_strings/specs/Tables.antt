@@ -144,11 +144,11 @@ entry_expansion text definitions rows e = expansion_by text rows (index_before d
 abbrev pub written_by : List FieldReading → List (List IndexedPiece) → EntryReading → FieldReading → List Piece
 written_by definitions rows e = field_expanded rows (index_before definitions (count_before definitions e))
 
--- a reference of the code that stays
+-- a reference that stays, converted from the type of the code
 abbrev pub left_of : LeftReference → Left
 left_of l = record { entry = entry_reading_of l.entry.now; field = field_of l.field.now; name = l.name }
 
--- the references of the code that stay
+-- references that stay, converted from the type of the code
 abbrev pub lent_left : List LeftReference → List Left
 lent_left left = map left_of left
 

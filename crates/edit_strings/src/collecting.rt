@@ -37,7 +37,7 @@ struct Collection<'s> {
     names: Vec<String>,
 }
 
-// Returns a map from each text to its index.
+// Returns a map from each text to its last index.
 fn indices<'s>(alloc: Global, texts: &[&'s str]) -> Result<BTreeMap<&'s str, usize>, AllocError>
     ensures { IfOk result (λ indices. index_in indices ≡ text_index (lent_texts texts.now)) }
 {

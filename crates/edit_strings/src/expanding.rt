@@ -107,7 +107,7 @@ fn push_expansions<'a, 's>(
     Ok(())
 }
 
-// Returns the edits that expand the values of `entries`, which are in the order of the file.
+// Returns the edits that expand the values of `entries`. The entries are in the order of the file.
 fn expansions<'a, 's>(
     alloc: Global,
     names: &Names<'a, 's>,
