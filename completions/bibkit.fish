@@ -39,6 +39,7 @@ complete -c bibkit -n '__fish_seen_subcommand_from lint' -x -l fail-on -a 'error
 complete -c bibkit -n '__fish_seen_subcommand_from lint' -r -l cited -d 'Report keys that this document cites and no file contains'
 complete -c bibkit -n '__fish_seen_subcommand_from lint' -l unused -d 'Report entries that the document doesn\'t cite'
 complete -c bibkit -n '__fish_seen_subcommand_from lint' -x -l color -a 'auto always never' -d 'When to print colours'
+complete -c bibkit -n '__fish_seen_subcommand_from lint' -r -l stdin-filename -d 'The name of standard input in findings'
 complete -c bibkit -n '__fish_seen_subcommand_from fmt' -x -l indent -a '0 1 2 3 4 5 6 7 8' -d 'Spaces before a field'
 complete -c bibkit -n '__fish_seen_subcommand_from fmt' -l align -d 'Align the equals signs of an entry'
 complete -c bibkit -n '__fish_seen_subcommand_from fmt' -l no-align -d 'Don\'t align them'

@@ -100,7 +100,7 @@ for word in help --help -h; do
     done
 done
 run_start 'help of lint' 0 $'Report errors and likely mistakes in files\n\nUsage: bibkit lint [OPTIONS] [FILE]...\n' lint --help
-for option in '--only <CODES>' '--ignore <CODES>' '--explain <CODE>' '--format <FORMAT>' '--fail-on <SEVERITY>' '--cited <DOCUMENT>' '--unused' '--color <WHEN>' '--where <CONDITION>'; do
+for option in '--only <CODES>' '--ignore <CODES>' '--explain <CODE>' '--format <FORMAT>' '--fail-on <SEVERITY>' '--cited <DOCUMENT>' '--unused' '--color <WHEN>' '--where <CONDITION>' '--stdin-filename <NAME>'; do
     holds "help of lint names $option" grep -qE "^      $option +[A-Z]" results
 done
 run_start 'help of keys' 0 $'Print the key of each entry\n\nUsage: bibkit keys [OPTIONS] [FILE]...\n' keys --help
@@ -152,6 +152,15 @@ run 'two files' 1 $'broken.bib:1:7: warning: a: missing year [missing-field]\nbr
 cp one.bib input
 run 'standard input' 1 "${lines_of_one//one.bib/-}"$'errors: 0, warnings: 3\n' lint
 run 'standard input by its name, after a file' 1 "$lines_of_one${lines_of_one//one.bib/-}"$'errors: 0, warnings: 6\n' lint one.bib -
+
+# standard input under another name, and with the settings of a file with that name
+run 'standard input under a name' 1 "${lines_of_one//one.bib/no.bib}"$'errors: 0, warnings: 3\n' lint --stdin-filename no.bib
+run 'standard input under a name, after a file' 1 "$lines_of_one${lines_of_one//one.bib/no.bib}"$'errors: 0, warnings: 6\n' lint --stdin-filename no.bib one.bib -
+mkdir named
+printf 'ignore = ["missing-field"]\n' >named/bibkit.toml
+run 'standard input with the settings of its name' 0 $'errors: 0, warnings: 0\n' lint --stdin-filename named/no.bib -
+run_messages 'a name for standard input, which is not read' 2 $'bibkit: `--stdin-filename` requires the file `-`, or no file\n' lint --stdin-filename no.bib one.bib
+run_messages 'a name for standard input that a file has' 2 $'bibkit: `--stdin-filename` requires a name that no other file has\n' lint --stdin-filename one.bib - one.bib
 : >input
 run 'a list in JSON' 1 '[
 {"file":"one.bib","line":1,"column":10,"end_line":1,"end_column":14,"severity":"warning","code":"missing-field","message":"test: missing title"},

@@ -28,6 +28,8 @@ pub enum Asked<'a> {
         cited: Option<Cited<'a>>,
         /// The conditions on the entries that findings are about. An entry must meet all of them.
         conditions: Vec<&'a str>,
+        /// The name of standard input in findings, if it isn't `-`.
+        input_name: Option<&'a str>,
     },
     /// Edits a file.
     Edits(Editing<'a>),
@@ -120,6 +122,7 @@ fn lint_asked<'a>(alloc: Global, matches: &ArgMatches<'a>) -> Result<Asked<'a>, 
         settings,
         cited,
         conditions: texts(alloc, matches, "where")?,
+        input_name: matches.get_str("stdin-filename"),
     })
 }
 

@@ -29,7 +29,7 @@ struct Whole {
 // The files of the system, except that the first call for the file of the document returns its whole text.
 #[derive(Drop)]
 struct DocumentFiles<'r, 'd, R> {
-    files: SystemFiles<'r, R>,
+    files: SystemFiles<'r, 'r, R>,
     name: &'d str,
     whole: Option<Vec<u8>>,
 }
@@ -210,7 +210,7 @@ fn run_names(rt: &HostRuntime, document: &str, text: String, names: Vec<&str>) -
         names,
     };
     let mut files = DocumentFiles {
-        files: SystemFiles::new(rt),
+        files: SystemFiles::new(rt, "-"),
         name: document,
         whole: Some(text.into_bytes()),
     };

@@ -7,14 +7,15 @@ use std::{fs, io, rt};
 
 /// The files of the system, and standard input.
 #[derive(Drop)]
-pub struct SystemFiles<'r, R> {
+pub struct SystemFiles<'r, 'n, R> {
     rt: &'r R,
+    input: &'n str,
 }
 
-impl<'r, R> SystemFiles<'r, R> {
-    /// Returns the files of a runtime.
-    pub fn new(rt: &'r R) -> Self {
-        SystemFiles { rt }
+impl<'r, 'n, R> SystemFiles<'r, 'n, R> {
+    /// Returns the files of a runtime. The file `input` is standard input.
+    pub fn new(rt: &'r R, input: &'n str) -> Self {
+        SystemFiles { rt, input }
     }
 }
 
@@ -37,12 +38,12 @@ fn file_error(kind: ErrorKind) -> FileError {
     }
 }
 
-impl<'r, R: rt::Files + Input + AllocGlobal> Files for SystemFiles<'r, R> {
+impl<'r, 'n, R: rt::Files + Input + AllocGlobal> Files for SystemFiles<'r, 'n, R> {
     // Nothing is known of the contents of the system's files.
     ghost reads = { λ old name bytes new. Unit {0} };
 
     fn read(&mut self, alloc: Global, name: &str) -> Result<Vec<u8>, FileError> {
-        let read = if name == "-" {
+        let read = if name == self.input {
             read_input(self.rt, alloc)
         } else {
             fs::read(self.rt, name)

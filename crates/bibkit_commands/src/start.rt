@@ -81,14 +81,14 @@ fn lint_request<'a>(
     Ok(Request::Lint(lint))
 }
 
-// Runs a request on files, and returns the status.
-fn run_request<'a>(rt: &HostRuntime, request: Request<'a>, names: Vec<&'a str>) -> u8 {
+// Runs a request on files, and returns the status. The file `input` is standard input.
+fn run_request<'a>(rt: &HostRuntime, request: Request<'a>, names: Vec<&'a str>, input: &str) -> u8 {
     let call = Call {
         request,
         has_progress: names.len() > 1 && rt.stderr().is_terminal(),
         names,
     };
-    let mut files = SystemFiles::new(rt);
+    let mut files = SystemFiles::new(rt, input);
     let mut output = Output::new(io::writer(rt));
     let messages = Output::new(rt.stderr());
     run(rt.alloc(), &call, &mut files, &mut output, messages)
@@ -105,22 +105,58 @@ fn refuse_settings(rt: &HostRuntime, error: ConfigurationError) -> u8 {
     }
 }
 
-// Runs `lint`, and returns the status.
+// Runs `lint`, and returns the status. The file `input` is standard input.
 fn run_lint<'a>(
     rt: &HostRuntime,
     settings: Settings,
     cited: Option<Cited<'a>>,
     conditions: &[&str],
     names: Vec<&'a str>,
+    input: &str,
 ) -> u8 {
     let conditions = match parse_conditions(rt.alloc(), conditions) {
         Ok(conditions) => conditions,
         Err(stop) => return say(rt, &stop),
     };
     match lint_request(rt, settings, cited, conditions, &names) {
-        Ok(request) => run_request(rt, request, names),
+        Ok(request) => run_request(rt, request, names, input),
         Err(error) => refuse_settings(rt, error),
     }
+}
+
+// Replaces each name `-` by `name`. Returns whether there is one.
+fn rename_input<'a>(names: &mut [&'a str], name: &'a str) -> bool {
+    let mut is_found = false;
+    'names: for one in names {
+        if *one == "-" {
+            *one = name;
+            is_found = true;
+        }
+    }
+    is_found
+}
+
+// Runs `lint` with standard input under another name, and returns the status: 2 if no file is standard input, or if another file has the
+// name.
+fn run_named_lint<'a>(
+    rt: &HostRuntime,
+    settings: Settings,
+    cited: Option<Cited<'a>>,
+    conditions: &[&str],
+    names: Vec<&'a str>,
+    name: &'a str,
+) -> u8 {
+    let mut names = names;
+    if names.iter().any(|one| *one == name) || cited.is_some_and(|cited| cited.name == name) {
+        return refuse_words(
+            rt,
+            "`--stdin-filename` requires a name that no other file has",
+        );
+    }
+    if !rename_input(&mut names, name) {
+        return refuse_words(rt, "`--stdin-filename` requires the file `-`, or no file");
+    }
+    run_lint(rt, settings, cited, conditions, names, name)
 }
 
 // Prints entries of files that meet conditions, or their keys, and returns the status.
@@ -131,7 +167,10 @@ fn run_selected<'a>(
     names: Vec<&'a str>,
 ) -> u8 {
     match parse_conditions(rt.alloc(), conditions) {
-        Ok(conditions) => run_request(rt, Request::Selected(Selected { conditions, keys }), names),
+        Ok(conditions) => {
+            let request = Request::Selected(Selected { conditions, keys });
+            run_request(rt, request, names, "-")
+        }
         Err(stop) => say(rt, &stop),
     }
 }
@@ -205,7 +244,11 @@ fn answer(rt: &HostRuntime, words: Words<'_>) -> u8 {
             settings,
             cited,
             conditions,
-        } => run_lint(rt, settings, cited, &conditions, names),
+            input_name,
+        } => match input_name {
+            Some(name) => run_named_lint(rt, settings, cited, &conditions, names, name),
+            None => run_lint(rt, settings, cited, &conditions, names, "-"),
+        },
         Asked::Edits(editing) => run_edits(rt, &editing),
         Asked::Format {
             settings,
@@ -219,7 +262,7 @@ fn answer(rt: &HostRuntime, words: Words<'_>) -> u8 {
         Asked::Cited(document) => run_cited(rt, document, &names),
         Asked::Select(selecting) => run_select(rt, &selecting, &names),
         Asked::Entries { conditions, keys } => run_selected(rt, &conditions, keys, names),
-        Asked::Other(request) => run_request(rt, request, names),
+        Asked::Other(request) => run_request(rt, request, names, "-"),
         Asked::Wrong(reason) => refuse_words(rt, reason),
         Asked::WrongOrder(error) => refuse_order(rt, error),
     }

@@ -40,7 +40,7 @@ impl Stop {
 /// Returns the bytes of a file. `-` is standard input. If the file can't be read, fails with a message and status 2, or with
 /// `OutOfMemory`.
 pub fn bytes_of(rt: &HostRuntime, name: &str) -> Result<Vec<u8>, Stop> {
-    let mut files = SystemFiles::new(rt);
+    let mut files = SystemFiles::new(rt, "-");
     match files.read(rt.alloc(), name) {
         Ok(bytes) => Ok(bytes),
         Err(error) => {

@@ -30,22 +30,10 @@ pub enum Takes {
     AnEditedFile,
     /// An option: codes separated by commas.
     Codes,
-    /// An option: one code.
-    Code,
-    /// An option: the format of findings.
-    Format,
-    /// An option: when colours are printed.
-    Color,
-    /// An option: the findings for which the status is 1.
-    FailOn,
     /// An option: the name of the .aux or .bcf file of a document.
     Document,
-    /// An option: the number of spaces before a field.
-    Indent,
-    /// An option: the number of blank lines between entries, or `keep`.
-    BlankLines,
-    /// An option: the delimiters of literals, or `keep`.
-    Delimiters,
+    /// An option: the name of standard input in findings.
+    InputName,
     /// An option: field names separated by commas.
     FieldNames,
     /// An option: the maximum width of a line in characters.
@@ -56,26 +44,54 @@ pub enum Takes {
     CollectedFields,
     /// An option, which conflicts with `expand`: the minimum number of fields with a text that is collected.
     Times,
-    /// An option: the encoding of a file.
+    /// An option: one of several words.
+    Choice(Choice),
+    /// An option without a value.
+    Flag(Flag),
+}
+
+/// The words of an option whose value is one of several words.
+#[derive(Clone, Copy)]
+pub enum Choice {
+    /// The codes of findings.
+    Code,
+    /// The formats of findings.
+    Format,
+    /// When colours are printed.
+    Color,
+    /// The findings for which the status is 1.
+    FailOn,
+    /// The numbers of spaces before a field.
+    Indent,
+    /// The numbers of blank lines between entries, and `keep`.
+    BlankLines,
+    /// The delimiters of literals, and `keep`.
+    Delimiters,
+    /// The encodings of a file.
     Encoding,
-    /// An option: the line ends of a text.
+    /// The line ends of a text.
     LineEnds,
-    /// An option: the form of accents.
+    /// The forms of accents.
     Accents,
-    /// A required option: the format to convert to.
+    /// The formats to convert to. The option is required.
     Target,
-    /// An option: the format to convert from.
+    /// The formats to convert from.
     Source,
-    /// A flag.
-    Nothing,
-    /// A flag that requires the option with this name.
-    NothingBeside(&'static str),
-    /// A flag that overrides an earlier flag with this name.
-    NothingAfter(&'static str),
-    /// A flag that is required if the flag with this name is missing, and conflicts with it.
-    NothingOr(&'static str),
-    /// A flag that conflicts with the options with these names.
-    NothingAgainst(&'static [&'static str]),
+}
+
+/// How a flag depends on other options.
+#[derive(Clone, Copy)]
+pub enum Flag {
+    /// It depends on none.
+    Plain,
+    /// It requires the option with this name.
+    Beside(&'static str),
+    /// It overrides an earlier flag with this name.
+    After(&'static str),
+    /// It is required if the flag with this name is missing, and conflicts with it.
+    Or(&'static str),
+    /// It conflicts with the options with these names.
+    Against(&'static [&'static str]),
 }
 
 /// An argument of a command.
@@ -197,6 +213,40 @@ fn edited_file<'a>(alloc: Global, row: &'static Argument) -> Arg<'a> {
     value(alloc, row, "FILE").short('f')
 }
 
+// Returns an option whose value is one of several words.
+fn choice<'a>(alloc: Global, row: &'static Argument, choice: Choice) -> Arg<'a> {
+    match choice {
+        Choice::Code => value(alloc, row, "CODE").value_parser(code_names()),
+        Choice::Format => value(alloc, row, "FORMAT").value_parser(OutputFormat::names()),
+        Choice::Color => value(alloc, row, "WHEN").value_parser(Color::names()),
+        Choice::FailOn => value(alloc, row, "SEVERITY").value_parser(fail_on_names()),
+        Choice::Indent => value(alloc, row, "SPACES").value_parser(INDENTS.as_slice()),
+        Choice::BlankLines => value(alloc, row, "LINES").value_parser(BLANK_LINES.as_slice()),
+        Choice::Delimiters => value(alloc, row, "DELIMITERS").value_parser(DELIMITERS.as_slice()),
+        Choice::Encoding => value(alloc, row, "ENCODING").value_parser(ENCODINGS.as_slice()),
+        Choice::LineEnds => value(alloc, row, "ENDS").value_parser(LINE_ENDS.as_slice()),
+        Choice::Accents => value(alloc, row, "FORM").value_parser(ACCENTS.as_slice()),
+        Choice::Target => value(alloc, row, "FORMAT")
+            .value_parser(TARGETS.as_slice())
+            .required(true),
+        Choice::Source => value(alloc, row, "FORMAT").value_parser(SOURCES.as_slice()),
+    }
+}
+
+// Returns an option without a value.
+fn flag<'a>(alloc: Global, row: &'static Argument, flag: Flag) -> Result<Arg<'a>, AllocError> {
+    let argument = option(alloc, row).action(ArgAction::SetTrue);
+    match flag {
+        Flag::Plain => Ok(argument),
+        Flag::Beside(other) => argument.requires_arg(other),
+        Flag::After(other) => argument.overrides_with(other),
+        Flag::Or(other) => argument
+            .conflicts_with(other)?
+            .required_unless_present(other),
+        Flag::Against(others) => argument.conflicts_with_all(others),
+    }
+}
+
 // Returns the argument that clap parses for a row.
 fn argument_of<'a>(alloc: Global, row: &'static Argument) -> Result<Arg<'a>, AllocError> {
     match row.takes {
@@ -216,16 +266,8 @@ fn argument_of<'a>(alloc: Global, row: &'static Argument) -> Result<Arg<'a>, All
         Takes::EditedFile => Ok(edited_file(alloc, row)),
         Takes::AnEditedFile => Ok(edited_file(alloc, row).required(true)),
         Takes::Codes => Ok(codes(alloc, row)),
-        Takes::Code => Ok(value(alloc, row, "CODE").value_parser(code_names())),
-        Takes::Format => Ok(value(alloc, row, "FORMAT").value_parser(OutputFormat::names())),
-        Takes::Color => Ok(value(alloc, row, "WHEN").value_parser(Color::names())),
-        Takes::FailOn => Ok(value(alloc, row, "SEVERITY").value_parser(fail_on_names())),
         Takes::Document => Ok(value(alloc, row, "DOCUMENT")),
-        Takes::Indent => Ok(value(alloc, row, "SPACES").value_parser(INDENTS.as_slice())),
-        Takes::BlankLines => Ok(value(alloc, row, "LINES").value_parser(BLANK_LINES.as_slice())),
-        Takes::Delimiters => Ok(value(alloc, row, "DELIMITERS").value_parser(
-            DELIMITERS.as_slice(),
-        )),
+        Takes::InputName => Ok(value(alloc, row, "NAME")),
         Takes::FieldNames => Ok(field_names(alloc, row)),
         Takes::Width => Ok(value(alloc, row, "CHARACTERS").value_parser(ValueParser::unsigned(
             0, 1_000_000,
@@ -235,29 +277,8 @@ fn argument_of<'a>(alloc: Global, row: &'static Argument) -> Result<Arg<'a>, All
         Takes::Times => value(alloc, row, "TIMES")
             .value_parser(ValueParser::unsigned(2, 1_000_000))
             .conflicts_with("expand"),
-        Takes::Encoding => Ok(value(alloc, row, "ENCODING").value_parser(ENCODINGS.as_slice())),
-        Takes::LineEnds => Ok(value(alloc, row, "ENDS").value_parser(LINE_ENDS.as_slice())),
-        Takes::Accents => Ok(value(alloc, row, "FORM").value_parser(ACCENTS.as_slice())),
-        Takes::Target => Ok(
-            value(alloc, row, "FORMAT")
-                .value_parser(TARGETS.as_slice())
-                .required(true),
-        ),
-        Takes::Source => Ok(value(alloc, row, "FORMAT").value_parser(SOURCES.as_slice())),
-        Takes::Nothing => Ok(option(alloc, row).action(ArgAction::SetTrue)),
-        Takes::NothingBeside(other) => option(alloc, row)
-            .action(ArgAction::SetTrue)
-            .requires_arg(other),
-        Takes::NothingAfter(other) => option(alloc, row)
-            .action(ArgAction::SetTrue)
-            .overrides_with(other),
-        Takes::NothingOr(other) => option(alloc, row)
-            .action(ArgAction::SetTrue)
-            .conflicts_with(other)?
-            .required_unless_present(other),
-        Takes::NothingAgainst(others) => option(alloc, row)
-            .action(ArgAction::SetTrue)
-            .conflicts_with_all(others),
+        Takes::Choice(words) => Ok(choice(alloc, row, words)),
+        Takes::Flag(kind) => flag(alloc, row, kind),
     }
 }
 

@@ -1,6 +1,6 @@
 //! The commands that print files in another form.
 
-use crate::commands::arguments::{Argument, Row, Takes};
+use crate::commands::arguments::{Argument, Choice, Flag, Row, Takes};
 use crate::commands::shared::{DIFF, WHERE};
 
 // The text at the end of the help of `fmt`.
@@ -18,37 +18,37 @@ Status: 0 done, 1 a file isn't in this style (--check) or has errors, 2 wrong us
 const FMT: [Argument; 13] = [
     Argument {
         name: "indent",
-        takes: Takes::Indent,
+        takes: Takes::Choice(Choice::Indent),
         help: "Spaces before a field [default: 2]",
     },
     Argument {
         name: "align",
-        takes: Takes::NothingAfter("no-align"),
+        takes: Takes::Flag(Flag::After("no-align")),
         help: "Align the equals signs of an entry",
     },
     Argument {
         name: "no-align",
-        takes: Takes::NothingAfter("align"),
+        takes: Takes::Flag(Flag::After("align")),
         help: "Don't align the equals signs (overrides bibkit.toml)",
     },
     Argument {
         name: "trailing-comma",
-        takes: Takes::NothingAfter("no-trailing-comma"),
+        takes: Takes::Flag(Flag::After("no-trailing-comma")),
         help: "Write a comma after the last field (overrides bibkit.toml)",
     },
     Argument {
         name: "no-trailing-comma",
-        takes: Takes::NothingAfter("trailing-comma"),
+        takes: Takes::Flag(Flag::After("trailing-comma")),
         help: "Write no comma after the last field of an entry",
     },
     Argument {
         name: "blank-lines",
-        takes: Takes::BlankLines,
+        takes: Takes::Choice(Choice::BlankLines),
         help: "Blank lines between entries with only white space between them",
     },
     Argument {
         name: "delimiters",
-        takes: Takes::Delimiters,
+        takes: Takes::Choice(Choice::Delimiters),
         help: "Write texts in braces or in quotes if possible",
     },
     Argument {
@@ -68,12 +68,12 @@ const FMT: [Argument; 13] = [
     },
     Argument {
         name: "check",
-        takes: Takes::Nothing,
+        takes: Takes::Flag(Flag::Plain),
         help: "List the files that aren't in this style, and change nothing",
     },
     Argument {
         name: "write",
-        takes: Takes::Nothing,
+        takes: Takes::Flag(Flag::Plain),
         help: "Write the new texts to the files instead of printing them",
     },
     DIFF,
@@ -97,12 +97,12 @@ Status: 0 done, 1 a file has errors or no entry meets --where, 2 wrong usage, or
 const CONVERT: [Argument; 3] = [
     Argument {
         name: "to",
-        takes: Takes::Target,
+        takes: Takes::Choice(Choice::Target),
         help: "CSL-JSON, JSON, RIS, or the types and fields of BibLaTeX or BibTeX",
     },
     Argument {
         name: "from",
-        takes: Takes::Source,
+        takes: Takes::Choice(Choice::Source),
         help: "Bibliography files or CSL-JSON [default: bib]",
     },
     WHERE,
@@ -124,12 +124,12 @@ Status: 0 done, 1 a file has errors, 2 wrong usage, or a file or the output fail
 const RESOLVE: [Argument; 3] = [
     Argument {
         name: "not-inherited",
-        takes: Takes::Nothing,
+        takes: Takes::Flag(Flag::Plain),
         help: "Report the fields that entries don't inherit from the entries they refer to",
     },
     Argument {
         name: "write",
-        takes: Takes::Nothing,
+        takes: Takes::Flag(Flag::Plain),
         help: "Write the new texts to the files instead of printing them",
     },
     DIFF,

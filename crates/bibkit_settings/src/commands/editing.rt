@@ -1,6 +1,6 @@
 //! The commands that edit a file.
 
-use crate::commands::arguments::{Argument, Row, Takes};
+use crate::commands::arguments::{Argument, Choice, Flag, Row, Takes};
 use crate::commands::shared::{DIFF, FILE, WHERE, WRITE};
 
 // The arguments of `edit`.
@@ -40,12 +40,12 @@ const REKEY: [Argument; 6] = [
     },
     Argument {
         name: "map",
-        takes: Takes::NothingAgainst(&["diff"]),
+        takes: Takes::Flag(Flag::Against(&["diff"])),
         help: "Print OLD,NEW for each key that changes instead of the new text",
     },
     Argument {
         name: "check",
-        takes: Takes::NothingAgainst(&["map", "write", "diff"]),
+        takes: Takes::Flag(Flag::Against(&["map", "write", "diff"])),
         help: "Report the keys that would change, and change nothing",
     },
     FILE,
@@ -132,12 +132,12 @@ const ADD: [Argument; 3] = [
 const STRINGS: [Argument; 7] = [
     Argument {
         name: "expand",
-        takes: Takes::NothingOr("collect"),
+        takes: Takes::Flag(Flag::Or("collect")),
         help: "Replace abbreviations by their texts in the entries that use them",
     },
     Argument {
         name: "collect",
-        takes: Takes::NothingOr("expand"),
+        takes: Takes::Flag(Flag::Or("expand")),
         help: "Define abbreviations for texts that occur in several fields",
     },
     Argument {
@@ -159,22 +159,22 @@ const STRINGS: [Argument; 7] = [
 const RECODE: [Argument; 6] = [
     Argument {
         name: "from",
-        takes: Takes::Encoding,
+        takes: Takes::Choice(Choice::Encoding),
         help: "The encoding of a file without a byte order mark [default: utf-8]",
     },
     Argument {
         name: "line-ends",
-        takes: Takes::LineEnds,
+        takes: Takes::Choice(Choice::LineEnds),
         help: "Write line ends of this kind [default: those of the file]",
     },
     Argument {
         name: "bom",
-        takes: Takes::Nothing,
+        takes: Takes::Flag(Flag::Plain),
         help: "Write a byte order mark; without it there is none",
     },
     Argument {
         name: "accents",
-        takes: Takes::Accents,
+        takes: Takes::Choice(Choice::Accents),
         help: "Write accents and letters as characters, or as LaTeX commands [default: keep them]",
     },
     FILE,

@@ -1,6 +1,6 @@
 //! The commands that print findings, keys, entries and counts of files.
 
-use crate::commands::arguments::{Argument, Row, Takes};
+use crate::commands::arguments::{Argument, Choice, Flag, Row, Takes};
 use crate::commands::shared::WHERE;
 
 // The text at the end of the help of `lint`.
@@ -19,7 +19,7 @@ Status: 0 no finding of at least the severity of --fail-on, 1 such a finding, 2 
 memory";
 
 // The arguments of `lint`.
-const LINT: [Argument; 9] = [
+const LINT: [Argument; 10] = [
     Argument {
         name: "only",
         takes: Takes::Codes,
@@ -32,22 +32,22 @@ const LINT: [Argument; 9] = [
     },
     Argument {
         name: "format",
-        takes: Takes::Format,
+        takes: Takes::Choice(Choice::Format),
         help: "Print findings in this format [default: text]",
     },
     Argument {
         name: "fail-on",
-        takes: Takes::FailOn,
+        takes: Takes::Choice(Choice::FailOn),
         help: "Status 1 for findings of at least this severity [default: warning]",
     },
     Argument {
         name: "color",
-        takes: Takes::Color,
+        takes: Takes::Choice(Choice::Color),
         help: "When to print colours and source excerpts",
     },
     Argument {
         name: "explain",
-        takes: Takes::Code,
+        takes: Takes::Choice(Choice::Code),
         help: "Explain a code, and read no file",
     },
     Argument {
@@ -57,13 +57,18 @@ const LINT: [Argument; 9] = [
     },
     Argument {
         name: "unused",
-        takes: Takes::NothingBeside("cited"),
+        takes: Takes::Flag(Flag::Beside("cited")),
         help: "Report entries that the document doesn't cite",
     },
     Argument {
         name: "where",
         takes: Takes::Condition,
         help: "Only findings about entries that meet this condition, and those of all other --where",
+    },
+    Argument {
+        name: "stdin-filename",
+        takes: Takes::InputName,
+        help: "Name of standard input in findings; the settings are those of a file with this name",
     },
 ];
 
@@ -97,12 +102,12 @@ const SELECT: [Argument; 3] = [
     WHERE,
     Argument {
         name: "complete",
-        takes: Takes::Nothing,
+        takes: Takes::Flag(Flag::Plain),
         help: "Print also the definitions, preambles and entries that they use",
     },
     Argument {
         name: "keys",
-        takes: Takes::Nothing,
+        takes: Takes::Flag(Flag::Plain),
         help: "Print only the keys of the entries",
     },
 ];

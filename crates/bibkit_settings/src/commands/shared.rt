@@ -1,6 +1,6 @@
 //! The options that several commands have.
 
-use crate::commands::arguments::{Argument, Takes};
+use crate::commands::arguments::{Argument, Flag, Takes};
 
 /// The option that names the file to edit.
 pub const FILE: Argument = Argument {
@@ -12,14 +12,14 @@ pub const FILE: Argument = Argument {
 /// The flag that writes the file.
 pub const WRITE: Argument = Argument {
     name: "write",
-    takes: Takes::NothingBeside("file"),
+    takes: Takes::Flag(Flag::Beside("file")),
     help: "Write the new text to the file instead of printing it",
 };
 
 /// The flag that prints a diff.
 pub const DIFF: Argument = Argument {
     name: "diff",
-    takes: Takes::NothingAfter("write"),
+    takes: Takes::Flag(Flag::After("write")),
     help: "Print a diff instead of the new text",
 };
 
