@@ -22,8 +22,8 @@ pub struct BibliographyRecovery {
     pub skipped: Vec<SkippedBlock>,
     /// The other errors. First, in the order of the entries and of their fields: undefined abbreviations, and the fields and
     /// entries that are left out. For a field that is left out, the errors of its abbreviations come first. Then the entries
-    /// on cycles. Then the entries that lack a required date and refer to an entry without `date` whose `year`, `month` and
-    /// `day` can't be parsed.
+    /// on cycles. Then the entries that lack a required date and refer to an entry that has `year` but no `date`, and whose
+    /// `year`, `month` and `day` can't be parsed.
     pub errors: Vec<ParseError>,
 }
 
@@ -43,8 +43,8 @@ impl Bibliography {
     /// (`ReferenceCycle`).
     /// - A name in a field that is neither defined nor the abbreviation of a month is replaced by its text
     /// (`UnknownAbbreviation`).
-    /// - An entry that lacks a required date doesn't inherit one from an entry without `date` whose `year`, `month` and
-    /// `day` can't be parsed (`ResolutionError`).
+    /// - An entry that lacks a required date doesn't inherit one from an entry that has `year` but no `date`, and whose
+    /// `year`, `month` and `day` can't be parsed (`ResolutionError`).
     ///
     /// The only returned error is out of memory.
     pub fn recover(alloc: Global, src: &str) -> Result<BibliographyRecovery, AllocError>
