@@ -111,8 +111,8 @@ impl Bibliography {
     /// inherits a date, its own `month` and `day` are removed.
     ///
     /// If the file grammar doesn't accept the text, the error is a syntax error or out of memory; otherwise the errors are
-    /// those of `from_raw`. Spans are in bytes of the text. The span of an error lies in the text; for an error of a date, this
-    /// isn't guaranteed.
+    /// those of `from_raw`. Spans are in bytes of the text, except for some errors of dates (see `from_raw`). The span of any
+    /// other error lies in the text.
     pub fn parse(alloc: Global, src: &str) -> Result<Self, ParseError>
         ensures loaded { IfOk result (IsBibliographyOf src.now) }
         ensures accepted { OnOk result (IsAcceptedText src.now) }

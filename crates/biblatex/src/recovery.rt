@@ -9,7 +9,7 @@ use bib_inheritance::recovering::resolve_readable;
 use bib_syntax::raw::{ParseError, RawBibliography, RawRecovery, SkippedBlock};
 use std::alloc::{AllocError, Global};
 
-/// The result of parsing a text with errors: the bibliography, and all errors.
+/// The result of parsing a text with errors: the bibliography, and the errors.
 #[derive(Debug, Drop)]
 pub struct BibliographyRecovery {
     /// The bibliography of the kept entries, after inheriting.
@@ -28,8 +28,9 @@ pub struct BibliographyRecovery {
 }
 
 impl Bibliography {
-    /// Parses a bibliography file as far as possible, and returns all its errors. Spans are in bytes of the text, except
-    /// for some errors of dates (see `from_raw`).
+    /// Parses a bibliography file as far as possible, and returns the errors. Spans are in bytes of the text, except for some
+    /// errors of dates (see `from_raw`). In a skipped block, an entry that is left out or a field that is left out, further
+    /// errors may be missing.
     ///
     /// The result has no skipped blocks and no errors exactly if `parse` accepts the text, and its bibliography is then that
     /// of `parse`. Otherwise the parts with errors are removed or replaced, and the rest is parsed as by `parse`:
