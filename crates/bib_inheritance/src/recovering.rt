@@ -127,7 +127,7 @@ fn date_errors(
     Ok(errors)
 }
 
-/// Adds to each entry the fields that it inherits, removes its `xdata`, and returns all errors. `names` points to the
+/// Adds to each entry the fields that it inherits, removes its `xdata`, and returns the errors. `names` points to the
 /// entries, and `spans` contains the span of each entry in the file.
 ///
 /// Each entry that refers to itself, directly or through others, is reported (`ReferenceCycle`, at the entry), and loses its
