@@ -29,8 +29,8 @@ pub struct BibliographyRecovery {
 
 impl Bibliography {
     /// Parses a bibliography file as far as possible, and returns the errors. Spans are in bytes of the text, except for some
-    /// errors of dates (see `from_raw`). In a skipped block, an entry that is left out or a field that is left out, further
-    /// errors may be missing.
+    /// errors of dates (see `from_raw`). Each skipped block has one syntax error. No errors are returned for the fields of an
+    /// entry that is left out.
     ///
     /// The result has no skipped blocks and no errors exactly if `parse` accepts the text, and its bibliography is then that
     /// of `parse`. Otherwise the parts with errors are removed or replaced, and the rest is parsed as by `parse`:
