@@ -70,11 +70,10 @@ impl Date {
     /// after the month. Without a month field, the day field is ignored.
     ///
     /// An error other than out of memory has the span of its field. For a day after the month, it has that of the
-    /// digits, in bytes of the month's text. The kind is `MonthOutOfRange` if the number of the month isn't from 1 to 12. It is
-    /// `DayOutOfRange` if the number of the day isn't from 1 to 31, except for a number above 255 in the day field. It is
-    /// `YearZeroCE` if the year 0 has an era and no sign. It is `InvalidFormat` if a year with a sign has an era, or white space
-    /// comes after the sign. Otherwise the kind isn't specified: it is `InvalidNumber`, `MissingNumber`, `WrongNumberOfDigits`
-    /// or `InvalidFormat`.
+    /// digits, in bytes of the month's text. Some kinds are specified. `MonthOutOfRange` means that the number of the month
+    /// isn't from 1 to 12, and `DayOutOfRange` that the number of the day isn't from 1 to 31. `YearZeroCE` means that the year 0
+    /// has an era and no sign. `InvalidFormat` may mean that a year with a sign has an era, or that white space comes after the
+    /// sign. If the kind isn't specified, it is `InvalidNumber`, `MissingNumber`, `WrongNumberOfDigits` or `InvalidFormat`.
     pub fn parse_three_fields(
         alloc: Global,
         year: ChunksRef<'_>,
