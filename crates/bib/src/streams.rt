@@ -38,7 +38,7 @@ impl<R> Input<R> {
         reader
     }
 
-    // Returns the bytes of a read, or its error. Counts a failure, except for out of memory.
+    // Returns the bytes of a read, or its error. Counts an error other than out of memory as a failure, up to 2^64 - 1.
     fn count(&mut self, read: io::Result<usize>, bytes: Vec<u8>) -> Result<Vec<u8>, SourceError>
         ensures given { OnOk read (result ≡ Ok bytes) }
         ensures failed { IfErr read (λ error. error_kind error ≢ ErrorKind.OutOfMemory →

@@ -198,7 +198,7 @@ impl<'m, 'f, 's> Expansion<'m, 'f, 's> {
         self.expand_name(memo, out, piece)
     }
 
-    // Appends the chunks of a name to `out`. Chunks that the memo contains already are not kept twice.
+    // Appends the chunks of a name to `out`. Chunks that the memo contained before are not kept twice.
     fn expand_name(
         self,
         memo: &mut Memo<'s>,
@@ -291,7 +291,7 @@ impl<'m, 'f, 's> Expansion<'m, 'f, 's> {
     }
 
     // Appends the chunks of a name to the memo, or starts to expand it. Returns an error if the name is being expanded, or
-    // if it is neither defined nor that of a month.
+    // if it is neither defined nor the abbreviation of a month.
     fn name(
         self,
         memo: &mut Memo<'s>,
@@ -320,8 +320,8 @@ impl<'m, 'f, 's> Expansion<'m, 'f, 's> {
         }
     }
 
-    // Starts to expand a name that isn't in the memo, or appends the name of a month. Returns an error if the name is neither
-    // defined nor that of a month.
+    // Starts to expand a name that isn't in the memo, or appends the name of the month that it abbreviates. Returns an error if
+    // the name is neither defined nor the abbreviation of a month.
     fn new_name(
         self,
         memo: &mut Memo<'s>,

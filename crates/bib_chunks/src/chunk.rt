@@ -60,10 +60,10 @@ impl Chunk {
     /// Returns the text of the chunk as it is written in a file, without braces and dollar signs around it. `is_verbatim` says
     /// whether the field is a verbatim one.
     ///
-    /// Outside verbatim fields, math is written unchanged. In any other text, braces and backslashes are escaped by a backslash,
-    /// outside verbatim fields also `#`, `&`, `%`, `$` and `_`. There `~` is written `\textasciitilde{}` and `^` is written
+    /// Outside verbatim fields, math is written unchanged. In any other text, braces and backslashes are escaped by a backslash.
+    /// Outside verbatim fields, so are `#`, `&`, `%`, `$` and `_`; `~` is written `\textasciitilde{}` and `^` is written
     /// `\textasciicircum{}`. A command that the parser doesn't know is plain text: `\emph{x}` is written `\\emph\{x\}`. The edits
-    /// and `convert` of `bibkit` don't use this function: they keep the text of the file.
+    /// of `bibkit` and its `convert --to biblatex` keep such commands.
     ///
     /// The only error is out of memory.
     pub fn to_biblatex_string(&self, alloc: Global, is_verbatim: bool) -> Result<String, AllocError>

@@ -66,7 +66,7 @@ fn longer(text: Text, more: &str) -> Result<Text, AllocError>
 
 /// Appends copies of `chunks` one after another, as `append` does.
 ///
-/// The only error is out of memory. Some of the first copies may then be appended, or the last chunk of `out` lost.
+/// The only error is out of memory. Some of the first copies may then be appended, and the last chunk of `out` may be lost.
 pub fn append_copies(out: &mut Chunks, chunks: &[Spanned<Chunk>]) -> Result<(), AllocError>
     ensures styled { OnOk result (styled out.new ≡ styled out.old ++ styled chunks.now) }
     ensures joined { OnOk result (AreJoined out.old → AreJoined out.new) }

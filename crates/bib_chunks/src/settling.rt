@@ -21,7 +21,7 @@ enum Before {
     Verbatim(char),
 }
 
-// Returns whether the parser reads the two characters as one if they are neighbours.
+// Returns whether the parser merges the two characters if they are neighbours: two spaces, or two hyphens.
 fn is_pair(c: char, d: char) -> bool
     ensures { result ≡ is_pair c d }
 {

@@ -73,9 +73,9 @@ fn take(
 /// or both verbatim. Spans are in bytes of the file, up to `usize::MAX`.
 ///
 /// If the text can't be parsed, returns an error with a span in it. The kind is `Unexpected` at a closing brace that
-/// has no opening one. It is `UnexpectedEof` if the second dollar sign of math, the closing brace of an argument or the
-/// character after a backslash is missing. The only other error is out of memory. The chunks that were finished before
-/// the error stay appended; when out of memory, the last of them may be lost.
+/// has no opening one. Outside verbatim fields, it is `UnexpectedEof` if the second dollar sign of math, the closing brace
+/// of an argument or the character after a backslash is missing. The only other error is out of memory. The chunks that were
+/// finished before the error stay appended. When out of memory, the last chunk of `out` may be lost.
 pub fn contents(
     out: &mut Chunks,
     alloc: Global,

@@ -2,7 +2,7 @@
 //!
 //! A piece of a value is cut into *units*: hyphens, white space, braces, escaped characters, math, commands with arguments,
 //! other backslashes, and single characters. `characters` is a cursor whose contracts speak of the characters
-//! that are left. So only that file deals with UTF-8: units consist of characters, spans of bytes. `units`
+//! that are left. So only that file deals with UTF-8: units consist of characters, and spans are in bytes. `units`
 //! parses one unit and does not allocate. `contents` goes from unit to unit and appends the text of each to the open
 //! chunk (`growing`), which a brace or math finishes. Plain characters are written in whole runs (`plain`), without a
 //! unit for each. `commands` is the table of commands, and `accents` that of accents.

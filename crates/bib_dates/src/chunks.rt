@@ -50,11 +50,11 @@ impl Date {
     /// Parses the formatted text of `chunks` as a date or a range, in any ASCII case. A mark at its end says that it is
     /// uncertain (`?`), approximate (`~`) or both (`%`).
     ///
-    /// An error other than out of memory has the span of all chunks. Its kind is `UndefinedRange` if both sides of a
-    /// range are open. It is `MonthOutOfRange` or `DayOutOfRange` if there is no such month or day, and `InvalidNumber`
-    /// if a number of a time is out of range. It is `WrongNumberOfDigits` if a text with an `X` begins with more than
-    /// four digits, or an `X` comes right after four. Otherwise the kind isn't specified: it is `InvalidNumber`,
-    /// `MissingNumber`, `WrongNumberOfDigits` or `InvalidFormat`.
+    /// An error other than out of memory has the span of all chunks. Some kinds are specified. `UndefinedRange` means that
+    /// both sides of a range are open. `MonthOutOfRange` and `DayOutOfRange` mean that there is no such month or day.
+    /// `InvalidNumber` may mean that a number of a time is out of range. `WrongNumberOfDigits` may mean that a text with an `X`
+    /// begins with more than four digits, or that an `X` comes right after four. If the kind isn't specified, it is
+    /// `InvalidNumber`, `MissingNumber`, `WrongNumberOfDigits` or `InvalidFormat`.
     pub fn parse(alloc: Global, chunks: ChunksRef<'_>) -> Result<Date, TypeError>
         ensures reads { AnswersReading (date_reading chunks.now) result }
         ensures place { LiesAt (Styled.whole_span chunks.now) result }
@@ -65,16 +65,15 @@ impl Date {
     }
 
     /// Parses the formatted texts of a year, a month and a day as a date. An era may come after the year. The month is a
-    /// number of one or two digits, or an English name or abbreviation after any other number of digits. If there is no
-    /// such name, the month is `None`, without an error. If there is no day field, the day may come after the month.
-    /// Without a month field, the day field is ignored.
+    /// number of one or two digits. Otherwise it is an English name or abbreviation, before which three or more digits are
+    /// skipped. If there is no such name, the month is `None`, without an error. If there is no day field, the day may come
+    /// after the month. Without a month field, the day field is ignored.
     ///
     /// An error other than out of memory has the span of its field. For a day after the month, it has that of the
-    /// digits, in bytes of the month's text. The kind is `MonthOutOfRange` if there is no such month. It is
-    /// `DayOutOfRange` if no month has the day, which in its own field is a number of at most 255. It is `YearZeroCE`
-    /// if the year 0 has an era and no sign. It is `InvalidFormat` if a year with a sign has an era, or white space comes
-    /// after the sign. Otherwise the kind isn't specified: it is `InvalidNumber`, `MissingNumber`, `WrongNumberOfDigits`
-    /// or `InvalidFormat`.
+    /// digits, in bytes of the month's text. Some kinds are specified. `MonthOutOfRange` means that the number of the month
+    /// isn't from 1 to 12, and `DayOutOfRange` that the number of the day isn't from 1 to 31. `YearZeroCE` means that the year 0
+    /// has an era and no sign. `InvalidFormat` may mean that a year with a sign has an era, or that white space comes after the
+    /// sign. If the kind isn't specified, it is `InvalidNumber`, `MissingNumber`, `WrongNumberOfDigits` or `InvalidFormat`.
     pub fn parse_three_fields(
         alloc: Global,
         year: ChunksRef<'_>,

@@ -251,7 +251,7 @@ fn number_part(ours: Option<u8>, theirs: Option<u8>) -> Option<Ordering>
     }
 }
 
-// Compares two times. Returns `None` if only one side has one.
+// Compares two times. Returns `None` if only one side has one, or if the times aren't comparable.
 fn time_part(ours: Option<Time>, theirs: Option<Time>) -> Option<Ordering>
     ensures { result ≡ part_cmp time_cmp ours theirs }
 {

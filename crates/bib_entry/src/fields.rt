@@ -27,7 +27,7 @@ impl Entry {
         reading::get_as(&self.fields, alloc, name)
     }
 
-    // Parses the field `name` as a value of type `T`, or else the field `other`.
+    // Parses the field `name`, or the field `other` if `name` is missing, as a value of type `T`.
     pub(crate) fn get_as_or<T: Type>(
         &self,
         alloc: Global,

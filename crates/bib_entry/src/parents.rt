@@ -1,4 +1,4 @@
-//! The entries that an entry belongs to or is related to.
+//! The entries that an entry belongs to, and the fields through which it inherits.
 
 ghost use Rattle.std.specs.Prelude.{◌≡◌, IfOk, IfErr, map, string_bytes};
 ghost use Rattle.bib_entry.specs.Parents.{has_references, parents_of};

@@ -74,7 +74,7 @@ fn write_side(
     write_part(out, prefix, "day", side.day_text(alloc)?)
 }
 
-// Appends a date in separate fields.
+// Appends a date in separate fields, without times and marks.
 fn write_date(alloc: Global, out: &mut String, date: &Date) -> Result<(), AllocError>
     ensures { OnOk result (string_bytes out.new ≡ string_bytes out.old ++ date_lines date.now) }
 {
@@ -212,8 +212,9 @@ impl Entry {
     /// `\textasciitilde{}`. The edits of `bibkit` and its `convert --to bibtex` keep such commands.
     ///
     /// `journaltitle` and `location` become `journal` and `address`, and the `institution` of a thesis becomes `school`. A
-    /// `date` that can be parsed becomes `year`, `month` and `day`, and a range with two sides also `endyear`, `endmonth` and
-    /// `endday`. Any other `date` is written unchanged. The fields are in the order of the bytes of their names in the entry.
+    /// `date` that can be parsed becomes `year`, and also `month` and `day` if it has them. For a range with two sides, these are
+    /// of the first side, and the second becomes `endyear`, `endmonth` and `endday` in the same way. Times, marks and open sides
+    /// are dropped. Any other `date` stays a field `date`. The fields are in the order of the bytes of their names in the entry.
     /// The only error is out of memory.
     pub fn to_bibtex_string(&self, alloc: Global) -> Result<String, AllocError>
         ensures { IfOk result (λ text. string_bytes text ≡ bibtex_entry self.now) }

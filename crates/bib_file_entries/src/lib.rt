@@ -8,7 +8,7 @@
 //! same in terms of the data structures, and one file of lemmas connects them.
 //!
 //! `keeping` does the same for a file with errors. It continues after a key that was claimed before and after a field that
-//! can't be parsed. It collects each error, and replaces an undefined abbreviation in a field by its name as text. It
+//! can't be parsed. It collects the errors, and replaces an undefined abbreviation in a field by its name as text. It
 //! borrows the raw entries, which contain the spans of the errors. It copies only the fields with an undefined abbreviation.
 #![tactic(auto)]
 

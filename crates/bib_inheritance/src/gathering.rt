@@ -20,7 +20,7 @@ use std::collections::BTreeMap;
 // Offered fields by name. A field that is inserted later replaces an earlier one of the same name.
 type GatheredFields<'a> = BTreeMap<&'a str, &'a Chunks>;
 
-// Returns whether no entry inherits a field of this name.
+// Returns whether the rules forbid inheriting a field of this name.
 fn is_kept_back(name: &str) -> bool
     ensures { result ≡ is_one_of never_inherited name.now }
 {
@@ -71,8 +71,8 @@ fn gather_groups<'a>(
     Ok(())
 }
 
-// Inserts the fields that `reference` offers for the names that the rules of `entry_type` require or allow, except for names that are
-// never inherited.
+// Inserts the fields that `reference` offers for the names that the rules of `entry_type` require or allow. Names that are never
+// inherited and the rule for dates are left out.
 fn gather_inheritable<'a>(
     entry_type: &EntryType,
     reference: &Reference<'a>,

@@ -55,7 +55,7 @@ fn field_as_text(
     }
 }
 
-// Borrows the chunks of a field, if there are any.
+// Borrows the chunks of a field, if the field exists.
 fn lent_chunks(chunks: &Option<Chunks>) -> Option<ChunksRef<'_>>
     ensures { option_copied result ≡ chunks.now }
 {
@@ -115,7 +115,7 @@ fn from_one_field(alloc: Global, date: &Chunks) -> Result<Chunks, AllocError>
 pub enum InheritableDate {
     /// The entry has neither `date` nor `year`.
     Undated,
-    /// The entry has no `date`, and its `year`, `month` and `day` can't be parsed, because of this error.
+    /// The entry has `year` but no `date`, and its `year`, `month` and `day` can't be parsed, because of this error.
     Unreadable(TypeError),
     /// The entry has this date. A date that can be parsed is rewritten without its time. A field `date` that can't be parsed
     /// is copied.

@@ -12,9 +12,9 @@
 //! For a bibliography, `reference_indices` builds the graph of references, and `turning` resolves the entries in topological
 //! order. An entry without references and without `xdata` is left unchanged. `dates` computes the date of an entry when
 //! another entry first needs it, and caches it by the index of the entry. The entry was resolved before, so its date doesn't
-//! change afterwards. When all entries are resolved, `unread` searches for unreadable dates (see `InheritableDate`); most
-//! dates are cached by then. `resolving` and `recovering` are the entry points: the first stops at an error, and the second
-//! collects the errors.
+//! change afterwards. When all entries are resolved, `unread` searches for unreadable dates (see `InheritableDate`), and uses
+//! the dates that are cached by then. `resolving` and `recovering` are the entry points: the first stops at an error, and the
+//! second collects the errors.
 #![tactic(auto)]
 
 mod dates;

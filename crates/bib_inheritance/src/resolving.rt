@@ -76,9 +76,9 @@ pub(crate) fn resolution_error(error: TypeError) -> ParseError
 ///
 /// The error is that of the first entry that refers to itself, directly or through others (`ReferenceCycle`, at the entry).
 /// If there is none, it is that of the first entry that lacks a required date and refers to an entry with an unreadable date
-/// (`ResolutionError`). A date is unreadable if the entry has no `date`, and its `year`, `month` and `day` can't be parsed.
-/// The span is then that of the first of these fields that can't be parsed. For a day in the field `month`, it is that of
-/// its digits, in bytes of that field's text.
+/// (`ResolutionError`). A date is unreadable if the entry has `year` but no `date`, and its `year`, `month` and `day` can't be
+/// parsed. The span is then that of the first of these three fields that can't be parsed. For a day in the field `month`, it is
+/// that of its digits, in bytes of that field's text.
 ///
 /// After an error, some entries may be resolved. After out of memory, one entry may have lost its fields.
 pub fn resolve(

@@ -47,7 +47,7 @@ fn write_after_prefix(out: &mut Text, person: &Person) -> Result<(), AllocError>
     Ok(())
 }
 
-// Returns whether the text begins with an uppercase letter.
+// Returns whether the text begins with an uppercase character.
 fn begins_capital(text: &str) -> bool
     ensures { result ≡ begins_capital (chars text.now) }
 {

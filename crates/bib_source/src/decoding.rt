@@ -18,7 +18,7 @@ pub enum Encoding {
 /// The decoded text of a file, and its encoding.
 #[derive(Debug, Drop)]
 pub struct Decoded {
-    /// The text. If it was decoded as UTF-8, without the byte order mark.
+    /// The text, without the byte order mark if it was decoded as UTF-8.
     pub text: String,
     pub encoding: Encoding,
     /// The index of the first byte of the file that isn't valid UTF-8, if there is one. Counts all bytes of the file.

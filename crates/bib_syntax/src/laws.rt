@@ -13,47 +13,47 @@ ghost use Rattle.bib_syntax.specs.SyntaxErrors.{IsReported};
 ghost use Rattle.bib_syntax.specs.declared.raw.ParseError.{ParseError};
 ghost use Rattle.bib_syntax.specs.declared.raw.recovery.SkippedBlock.{SkippedBlock};
 
-/// A text has at most one raw reading.
+/// States that a text has at most one raw reading.
 pub fn one_reading()
     ensures { (text : List ℕ) (says tells : FileReading) → IsRawReading text says →
         IsRawReading text tells → says ≡ tells }
 {}
 
-/// The file grammar accepts exactly the texts that have a raw reading. In the file grammar, a run of white space or of
-/// characters of a name may end anywhere. In a raw reading, each run is as long as possible.
+/// States that the file grammar accepts exactly the texts that have a raw reading. In the file grammar, a run of white space
+/// or of characters of a name may end anywhere. In a raw reading, each run is as long as possible.
 pub fn same_texts()
     ensures { (text : List ℕ) → IsFile text ↔ ((says : FileReading) × IsRawReading text says) }
 {}
 
-/// At most one error is reported for a text.
+/// States that at most one error is reported for a text.
 pub fn one_error()
     ensures { (text : List ℕ) (e f : ParseError) → IsReported text e → IsReported text f → e ≡ f }
 {}
 
-/// The file grammar rejects each text for which an error is reported.
+/// States that the file grammar rejects each text for which an error is reported.
 pub fn error_or_reading()
     ensures { (text : List ℕ) (e : ParseError) → IsReported text e → IsFile text → ⊥ }
 {}
 
-/// The error that is reported for a text is an error of the grammar, and its span is in the text.
+/// States that the error that is reported for a text is an error of the grammar, and that its span is in the text.
 pub fn errors_stand()
     ensures { (text : List ℕ) (e : ParseError) → IsReported text e → IsSyntaxError text e }
 {}
 
-/// Each key, entry type, field name and piece of a raw reading is the text in its span.
+/// States that each key, entry type, field name and piece of a raw reading is the text in its span.
 pub fn parts_stand()
     ensures { (text : List ℕ) (says : FileReading) → IsRawReading text says →
         ReadingStandsIn text says }
 {}
 
-/// Each UTF-8 text has a raw reading, or an error is reported for it. By `one_reading`, `one_error` and `error_or_reading`, it
-/// has exactly one of them.
+/// States that each UTF-8 text has a raw reading, or an error is reported for it. By `one_reading`, `one_error` and
+/// `error_or_reading`, it has exactly one of them.
 pub fn has_reading_or_error()
     ensures { (text : List ℕ) → IsUtf8 text →
         ((says : FileReading) × IsRawReading text says) ⊎ ((e : ParseError) × IsReported text e) }
 {}
 
-/// Each UTF-8 text has a recovery, and a full recovery. By `one_recovery`, it has exactly one of each.
+/// States that each UTF-8 text has a recovery, and a full recovery. By `one_recovery`, it has exactly one of each.
 pub fn has_recovery()
     ensures recovery { (text : List ℕ) → IsUtf8 text →
         (says : FileReading) × (errors : List SkippedBlock) × IsRecovery text says errors }
@@ -61,7 +61,8 @@ pub fn has_recovery()
         (says : FileReading) × (errors : List SkippedBlock) × IsFullRecovery text says errors }
 {}
 
-/// A recovery or a full recovery skips no block if and only if the text has a raw reading, and then it has this reading.
+/// States that a recovery or a full recovery skips no block if and only if the text has a raw reading, and that it then has
+/// this reading.
 pub fn recovered_is_read()
     ensures recovery { (text : List ℕ) (says : FileReading) → IsRawReading text says ↔
         IsRecovery text says [] }
@@ -69,8 +70,8 @@ pub fn recovered_is_read()
         IsFullRecovery text says [] }
 {}
 
-/// A text has at most one recovery and one full recovery: one reading and one list of skipped blocks with their errors. Both
-/// have the same skipped blocks.
+/// States that a text has at most one recovery and one full recovery: one reading and one list of skipped blocks with their
+/// errors. Both have the same skipped blocks.
 pub fn one_recovery()
     ensures recovery { (text : List ℕ) (says tells : FileReading) (errors others : List SkippedBlock) →
         IsRecovery text says errors → IsRecovery text tells others →
@@ -82,8 +83,8 @@ pub fn one_recovery()
         IsRecovery text says errors → IsFullRecovery text tells others → errors ≡ others }
 {}
 
-/// Each recovered entry is the raw reading of a block at its start. In a full recovery, it may instead be the kept part of a
-/// skipped block.
+/// States that each recovered entry is the raw reading of a block at its start. In a full recovery, it may instead be the kept
+/// part of a skipped block.
 pub fn recovered_entries_stand()
     ensures recovery { (text : List ℕ) (says : FileReading) (errors : List SkippedBlock) →
         IsRecovery text says errors → AllByRecursion (IsBlockOf text) says.entries }
@@ -91,8 +92,8 @@ pub fn recovered_entries_stand()
         IsFullRecovery text says errors → AllByRecursion (λ e. IsBlockOf text e ⊎ IsKeptPart text errors e) says.entries }
 {}
 
-/// A recovery and a full recovery have each entry that is the raw reading of a block at some place, with two exceptions. The
-/// place is inside a block or a line comment that recovery parses, or it is inside a skipped block.
+/// States that a recovery and a full recovery have each entry that is the raw reading of a block at some place, with two
+/// exceptions. The place is inside a block or a line comment that recovery parses, or it is inside a skipped block.
 pub fn nothing_is_lost()
     ensures recovery { (text : List ℕ) (says : FileReading) (errors : List SkippedBlock) (e : EntryReading) →
         IsRecovery text says errors → IsBlockOf text e → Contains says.entries e ⊎

@@ -65,8 +65,8 @@ impl<'s> RawBibliography<'s> {
     }
 
     /// Parses the blocks of a bibliography file, and skips those that can't be parsed. Keeps the error of a skipped block, and
-    /// continues at the next at sign that begins a line, if any. Skips no block if and only if the file grammar accepts `src`.
-    /// Returns an error only if out of memory.
+    /// continues at the next at sign with only white space before it on its line, if any. Skips no block if and only if the file
+    /// grammar accepts `src`. Returns an error only if out of memory.
     pub fn recover(alloc: Global, src: &'s str) -> Result<RawRecovery<'s>, AllocError>
         ensures { IfOk result (λ found. IsRecovery src.now (file_of found.raw) found.skipped.items) }
     {
@@ -177,7 +177,7 @@ pub enum ParseErrorKind {
     Unexpected(Token),
     /// An expected token is missing.
     Expected(Token),
-    /// An abbreviation is neither defined nor the first three letters of an English month. The text is its name.
+    /// An abbreviation is neither defined nor the first three letters of an English month, in any ASCII case. The text is its name.
     UnknownAbbreviation(Text),
     /// A command is malformed. Never returned; kept so that all names of the Rust crate `biblatex` exist.
     MalformedCommand,

@@ -27,7 +27,8 @@ impl Dialect {
     }
 }
 
-/// Returns BibLaTeX's name of a field. Only BibTeX's names in lowercase are replaced. Any other name is returned unchanged.
+/// Returns BibLaTeX's name of a field: `journaltitle` for `journal`, `location` for `address`, and `institution` for `school`.
+/// Any other name is returned unchanged. The case of letters matters.
 pub fn biblatex_name(name: &str) -> &str
     ensures { result.now ≡ biblatex_name name.now }
 {
@@ -60,8 +61,8 @@ fn thesis_name(name: &str) -> &str
     }
 }
 
-/// Returns BibTeX's name of a field of an entry of type `kind`: the `institution` of a thesis is its `school`. Only BibLaTeX's
-/// names in lowercase are replaced. Any other name is returned unchanged.
+/// Returns BibTeX's name of a field of an entry of type `kind`: `journal` for `journaltitle`, `address` for `location`, and for
+/// a thesis `school` for `institution`. Any other name is returned unchanged. The case of letters matters.
 pub fn bibtex_name<'n>(kind: &EntryType, name: &'n str) -> &'n str
     ensures { result.now ≡ bibtex_name kind.now name.now }
 {

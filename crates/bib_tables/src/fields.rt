@@ -1,4 +1,4 @@
-//! Fields whose values are parsed in a special way.
+//! The names of verbatim fields and of reference fields.
 
 ghost use Rattle.std.specs.Prelude.{◌≡◌};
 ghost use Rattle.bib_tables.specs.ReferenceFields as references;

@@ -32,8 +32,8 @@ pub fn get_as<T: Type>(
     read(alloc, name, get(fields, name))
 }
 
-/// Parses the field `name` as a value of type `T`, or else the field `other`. If both are missing, the error contains `name`.
-/// The other errors are those of `get_as`.
+/// Parses the field `name`, or the field `other` if `name` is missing, as a value of type `T`. If both are missing, the error is
+/// `Missing` with `name`. The other errors are those of `get_as`.
 pub fn get_as_or<T: Type>(
     fields: &TextMap<Chunks>,
     alloc: Global,
@@ -56,8 +56,8 @@ pub fn chunks_of_field<'f>(
     require_chunks(alloc, name, get(fields, name))
 }
 
-/// Returns the chunks of the field `name`, or else of the field `other`. If both are missing, the error contains `name`, or
-/// is out of memory.
+/// Returns the chunks of the field `name`, or else of the field `other`. If both are missing, the error is `Missing` with
+/// `name`, or out of memory.
 pub fn chunks_of_either<'f>(
     fields: &'f TextMap<Chunks>,
     alloc: Global,
@@ -79,7 +79,7 @@ fn get_or<'f>(fields: &'f TextMap<Chunks>, name: &str, other: &str) -> Option<Ch
     }
 }
 
-// Parses a field as a value of type `T`. If there is no field, the error contains `name`.
+// Parses a field as a value of type `T`. If there is no field, the error is `Missing` with `name`, or out of memory.
 fn read<T: Type>(
     alloc: Global,
     name: &str,
@@ -96,7 +96,7 @@ fn read<T: Type>(
     }
 }
 
-// Returns the chunks of a field. If there is no field, the error contains `name`.
+// Returns the chunks of a field. If there is no field, the error is `Missing` with `name`, or out of memory.
 fn require_chunks<'a>(
     alloc: Global,
     name: &str,

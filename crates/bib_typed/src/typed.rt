@@ -39,8 +39,8 @@ pub trait Type: Sized {
     // The values for which the type guarantees that they parse back from the chunks written for them.
     ghost kept: { Meaning → Type 0 };
 
-    /// Parses chunks as a value. The error is out of memory, with the span `0..0`, or states that the chunks can't be parsed.
-    /// Its span is then that of all chunks, in bytes of the file.
+    /// Parses chunks as a value. The error is out of memory, with the span `0..0`, or states that the chunks can't be parsed, with
+    /// the span of all chunks in bytes of the file.
     fn from_chunks(alloc: Global, chunks: ChunksRef<'_>) -> Result<Self, TypeError>
         ensures reads { IsReadAs meaning (reads chunks.now) (may_refuse chunks.now) result }
         ensures place { LiesAt (Styled.whole_span chunks.now) result };

@@ -111,8 +111,8 @@ impl Bibliography {
     /// inherits a date, its own `month` and `day` are removed.
     ///
     /// If the file grammar doesn't accept the text, the error is a syntax error or out of memory; otherwise the errors are
-    /// those of `from_raw`. Spans are in bytes of the text. The span of an error lies in the text, except for an error of a
-    /// date.
+    /// those of `from_raw`. Spans are in bytes of the text, except for some errors of dates (see `from_raw`). The span of any
+    /// other error lies in the text.
     pub fn parse(alloc: Global, src: &str) -> Result<Self, ParseError>
         ensures loaded { IfOk result (IsBibliographyOf src.now) }
         ensures accepted { OnOk result (IsAcceptedText src.now) }
@@ -128,17 +128,17 @@ impl Bibliography {
     /// Builds the bibliography of a raw bibliography. The texts and spans of `raw` are trusted: a span needn't lie in any
     /// text.
     ///
-    /// Each own field that an entry keeps has the same chunks as before. For an inherited field, only the styled text is
+    /// Inheriting doesn't change the chunks of an own field that an entry keeps. For an inherited field, only the styled text is
     /// guaranteed: the borders and the spans of its chunks are not.
     ///
     /// The error is that of the first case that applies, at its first place in the order of the file:
     ///
     /// 1. An entry has a key that an earlier entry claimed (`DuplicateKey`, at the entry), or a field can't be parsed.
     /// 2. An entry refers to itself, directly or through others (`ReferenceCycle`, at the entry).
-    /// 3. An entry lacks a required date, and refers to an entry without `date` whose `year`, `month` and `day` can't be
-    /// parsed (`ResolutionError`). Its span is that of the first of these fields that can't be parsed. For a day in the
-    /// field `month`, it is in bytes of that field's text. An entry lacks a required date if its type requires one, and it
-    /// has neither `date` nor `year`.
+    /// 3. An entry lacks a required date, and refers to an entry that has `year` but no `date`, and whose `year`, `month` and
+    /// `day` can't be parsed (`ResolutionError`). The span of the error is that of the first of these three fields that can't
+    /// be parsed. For a day in the field `month`, it is in bytes of that field's text. An entry lacks a required date if its
+    /// type requires one, and it has neither `date` nor `year`.
     ///
     /// The only other error is out of memory.
     pub fn from_raw(alloc: Global, raw: RawBibliography<'_>) -> Result<Self, ParseError>

@@ -72,7 +72,7 @@ pub fn last_claims()
         IsLoaded says bibliography → PointsToLastClaims (record { entries = own; names = bibliography.names }) }
 {}
 
-/// States that in a file that has own entries, no key is a name that an earlier entry claims.
+/// States that in a list of a file's own entries, no key is a name that an earlier entry claims.
 pub fn fresh_keys()
     ensures { (says : FileReading) (own : List Entry) → AreOwn says own → HasFreshKeys own }
 {}
@@ -103,9 +103,8 @@ pub fn recovered_is_loaded()
         IsRecoveredBibliography text bibliography origins skipped errors → (skipped ≡ []) × (errors ≡ []) }
 {}
 
-/// States that each text has at most one recovery. Two of them have the same keys, names and origins and, except for the
-/// borders and the spans of chunks, the same types and fields. They skip the same blocks and report errors that agree as in
-/// `one_error`.
+/// States that two recoveries of a text have the same keys, names and origins and, except for the borders and the spans of
+/// chunks, the same types and fields. They skip the same blocks and report errors that agree as in `one_error`.
 pub fn one_recovered_bibliography()
     ensures same { (text : List ℕ) (one other : Bibliography) (origins indices : List ℕ)
         (skipped passed : List SkippedBlock) (errors others : List ParseError) →

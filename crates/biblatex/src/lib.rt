@@ -1,7 +1,8 @@
 //! Parses and writes BibTeX and BibLaTeX files.
 //!
 //! `Bibliography::parse` parses a text and resolves the references between its entries. `Bibliography::recover` also accepts
-//! texts with errors: it returns all that can be parsed, and the errors. `Entry` has typed getters and setters for 93 fields.
+//! texts with errors: it returns the entries and fields that it can load, and the errors. `Entry` has typed getters and setters
+//! for 93 fields.
 #![tactic(auto)]
 
 pub mod bibliography;

@@ -9,7 +9,7 @@ use bib_inheritance::recovering::resolve_readable;
 use bib_syntax::raw::{ParseError, RawBibliography, RawRecovery, SkippedBlock};
 use std::alloc::{AllocError, Global};
 
-/// The result of parsing a text with errors: the bibliography, and all errors.
+/// The result of parsing a text with errors: the bibliography, and the errors.
 #[derive(Debug, Drop)]
 pub struct BibliographyRecovery {
     /// The bibliography of the kept entries, after inheriting.
@@ -22,14 +22,15 @@ pub struct BibliographyRecovery {
     pub skipped: Vec<SkippedBlock>,
     /// The other errors. First, in the order of the entries and of their fields: undefined abbreviations, and the fields and
     /// entries that are left out. For a field that is left out, the errors of its abbreviations come first. Then the entries
-    /// on cycles. Then the entries that lack a required date and refer to an entry without `date` whose `year`, `month` and
-    /// `day` can't be parsed.
+    /// on cycles. Then the entries that lack a required date and refer to an entry that has `year` but no `date`, and whose
+    /// `year`, `month` and `day` can't be parsed.
     pub errors: Vec<ParseError>,
 }
 
 impl Bibliography {
-    /// Parses a bibliography file as far as possible, and returns all its errors. Spans are in bytes of the text, except
-    /// for some errors of dates (see `from_raw`).
+    /// Parses a bibliography file as far as possible, and returns the errors. Spans are in bytes of the text, except for some
+    /// errors of dates (see `from_raw`). Each skipped block has one syntax error. No errors are returned for the fields of an
+    /// entry that is left out.
     ///
     /// The result has no skipped blocks and no errors exactly if `parse` accepts the text, and its bibliography is then that
     /// of `parse`. Otherwise the parts with errors are removed or replaced, and the rest is parsed as by `parse`:
@@ -43,8 +44,8 @@ impl Bibliography {
     /// (`ReferenceCycle`).
     /// - A name in a field that is neither defined nor the abbreviation of a month is replaced by its text
     /// (`UnknownAbbreviation`).
-    /// - An entry that lacks a required date doesn't inherit one from an entry without `date` whose `year`, `month` and
-    /// `day` can't be parsed (`ResolutionError`).
+    /// - An entry that lacks a required date doesn't inherit one from an entry that has `year` but no `date`, and whose
+    /// `year`, `month` and `day` can't be parsed (`ResolutionError`).
     ///
     /// The only returned error is out of memory.
     pub fn recover(alloc: Global, src: &str) -> Result<BibliographyRecovery, AllocError>

@@ -12,7 +12,7 @@ use bib_syntax::raw::{is_id_continue, is_id_start, is_key};
 use bib_tables::fields::is_verbatim_field;
 use bib_text::scanner::Scanner;
 
-// Returns whether the whole text is a key.
+// Returns whether the text consists of key characters. It may be empty.
 fn is_whole_key(text: &str) -> bool
     ensures { IsTrue result ↔ IsKey text.now }
 {

@@ -43,7 +43,8 @@ fn is_refusal(written: &io::Result<usize>) -> bool
 }
 
 /// A writer as a sink. A text that is taken is written once. If a text is refused, a prefix of it may have been written, once.
-/// The contract states this for a writer whose contents are known. For any writer, it states that a refusal is counted.
+/// The contract states this for a writer whose contents are known. For any writer, it states that a refusal is counted, up to
+/// 2^64 - 1.
 #[derive(Drop)]
 pub struct Output<W> {
     writer: W,
@@ -73,7 +74,7 @@ impl<W> Output<W> {
         writer
     }
 
-    // Counts a refusal.
+    // Counts a refusal, up to 2^64 - 1.
     fn refuse(&mut self)
         ensures counted { self.new.refusals ≡ min (self.old.refusals + 1) (2 ^ 64 - 1) }
         ensures writer { self.new.writer ≡ self.old.writer }

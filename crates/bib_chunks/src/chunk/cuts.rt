@@ -79,7 +79,8 @@ fn normal(alloc: Global, text: &str, start: usize, end: usize) -> Result<Spanned
     })
 }
 
-// Returns the text, without the white space at its start if `first`: the text follows a separator or begins the list.
+// Returns the text, without the white space at its start if `first` is true, which means that the text follows a separator or
+// begins the list.
 fn trimmed_start(text: &str, first: bool) -> &str
     ensures value { result.now ≡ trimmed_start first text.now }
     ensures shorter { length result.now ≤ length text.now }
@@ -90,7 +91,8 @@ fn trimmed_start(text: &str, first: bool) -> &str
     text
 }
 
-// Returns the text, without the white space at its end if `last`: a separator follows the text, or it ends the list.
+// Returns the text, without the white space at its end if `last` is true, which means that a separator follows the text, or
+// that it ends the list.
 fn trimmed_end(text: &str, last: bool) -> &str
     ensures { result.now ≡ trimmed_end last text.now }
 {
@@ -251,8 +253,8 @@ fn list_parts(
 /// Splits a comma list into its parts, at each comma of a normal chunk. The white space next to such a comma in that
 /// chunk is removed. If `chunks` is empty, the result is one empty part.
 ///
-/// A piece of a chunk has the span of its text, counted in bytes from the start of the chunk. A piece that is the whole
-/// chunk keeps the span of the chunk. The only error is out of memory.
+/// A piece of a chunk has the span of its text, counted in bytes from the start of the chunk, up to `usize::MAX`. A piece
+/// that is the whole chunk keeps the span of the chunk. The only error is out of memory.
 pub fn comma_list(alloc: Global, chunks: ChunksRef<'_>) -> Result<Items<Chunks>, AllocError>
     ensures { IfOk result (λ parts. parts ≡ comma_list chunks.now) }
 {
@@ -295,8 +297,8 @@ fn trimmed_ends(alloc: Global, chunks: ChunksRef<'_>) -> Result<Chunks, AllocErr
 /// one, if they are normal. Then splits at each word `and` that has white space right before and after it inside one normal
 /// chunk. Removes the white space next to such a word in that chunk. If `chunks` is empty, the result is one empty part.
 ///
-/// A piece of a chunk has the span of its text, counted in bytes from the start of the chunk. A piece that is the whole
-/// chunk keeps the span of the chunk. The only error is out of memory.
+/// A piece of a chunk has the span of its text, counted in bytes from the start of the chunk, up to `usize::MAX`. A piece
+/// that is the whole chunk keeps the span of the chunk. The only error is out of memory.
 pub fn and_list(alloc: Global, chunks: ChunksRef<'_>) -> Result<Items<Chunks>, AllocError>
     ensures { IfOk result (λ parts. parts ≡ and_list chunks.now) }
 {
@@ -355,7 +357,7 @@ fn after_cut(
 /// `None` if no normal chunk contains the character.
 ///
 /// The white space next to the separator in that chunk is removed. Both pieces of that chunk have the span of their text,
-/// counted in bytes from the start of the chunk. The only error is out of memory.
+/// counted in bytes from the start of the chunk, up to `usize::MAX`. The only error is out of memory.
 pub fn cut_at(
     alloc: Global,
     chunks: ChunksRef<'_>,

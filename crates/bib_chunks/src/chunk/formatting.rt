@@ -95,9 +95,9 @@ fn write_math(out: &mut String, text: &str) -> Result<(), AllocError>
     Ok(())
 }
 
-/// Returns the text of the chunks. Math is written between dollar signs. In normal text a line break becomes a space,
-/// or nothing after white space. This ignores math between the two, and an empty verbatim chunk counts as no white
-/// space. The only error is out of memory.
+/// Returns the text of the chunks. Math is written between dollar signs. A line break in normal text becomes a space, or
+/// nothing if the last character written before it is white space. Math doesn't count as written, and an empty verbatim
+/// chunk counts as a character other than white space. The only error is out of memory.
 pub fn format_verbatim(alloc: Global, chunks: ChunksRef<'_>) -> Result<String, AllocError>
     ensures { IfOk result (λ text. string_bytes text ≡ encode_utf8_all (formatted_chars chunks.now)) }
 {

@@ -417,15 +417,16 @@ impl Entry {
         self.set_as("volumes", value)
     }
 
-    /// Returns the field `gender`: the gender of the author, or of the editor (BibLaTeX manual, 2.2.3). If it is missing,
-    /// the error is `Missing` with the name `gender`. If its chunks are no gender, the error is a `TypeError`.
+    /// Returns the field `gender`: the gender of the author, or of the editor if there is no author (BibLaTeX manual, 2.2.3).
+    /// If it is missing, the error is `Missing` with the name `gender`. If its chunks are no gender, the error is a `TypeError`.
     pub fn gender(&self, alloc: Global) -> Result<Gender, RetrievalError>
         ensures { GetsValue ⟦<Gender as Type>⟧ self.now (codes "gender") result }
     {
         self.get_as(alloc, "gender")
     }
 
-    /// Sets the field `gender`: the gender of the author, or of the editor. If memory runs out, the entry stays unchanged.
+    /// Sets the field `gender`: the gender of the author, or of the editor if there is no author. If memory runs out, the entry
+    /// stays unchanged.
     pub fn set_gender(&mut self, value: &Gender) -> Result<(), AllocError>
         ensures { SetsValue ⟦<Gender as Type>⟧ (⟦<Gender as Type>⟧.meaning value.now)
             (codes "gender") self.old self.new result }

@@ -32,8 +32,8 @@ use std::alloc::{AllocError, Global};
 pub struct SkippedBlock {
     /// Why it can't be parsed.
     pub error: ParseError,
-    /// The skipped text: from its at sign to before the next at sign that begins a line, or to the end of the file. In bytes
-    /// of the file.
+    /// The span of the skipped text, in bytes of the file. It is from the at sign of the block to before the next at sign with
+    /// only white space before it on its line, or to the end of the file.
     pub span: Span,
 }
 

@@ -102,7 +102,7 @@ fn is_digit(c: char) -> bool
     c.is_ascii_digit()
 }
 
-// Moves past the digits of a number, with at most one point after the first digit.
+// Moves past a number: a digit, and then zero or more digits and at most one point. Returns an error at a second point.
 fn digits(s: &mut Reader<'_, '_>) -> Result<(), ParseError>
     requires { (c : ℕ) × (v : Place) × CharAt s.old c v × (is_ascii_digit c ≡ true) }
     ensures found { OnOk result (Number longest s.old s.new) }
@@ -120,7 +120,7 @@ fn digits(s: &mut Reader<'_, '_>) -> Result<(), ParseError>
     Ok(())
 }
 
-// Parses a number: digits with at most one point after the first digit.
+// Parses a number: a digit, and then zero or more digits and at most one point.
 fn number<'s>(s: &mut Reader<'s, '_>) -> Result<Spanned<&'s str>, ParseError>
     requires { (c : ℕ) × (v : Place) × CharAt s.old c v × (is_ascii_digit c ≡ true) }
     ensures found { OnOk result (Number longest s.old s.new) }

@@ -48,7 +48,7 @@ const ANNOTATORS: [&str; 7] = [
 /// The title of a work in several volumes.
 const MAIN_TITLE: [&str; 3] = ["maintitle", "mainsubtitle", "maintitleaddon"];
 
-/// The title of the book that contains a work, without `booktitle`.
+/// The subtitle and the title addon of the book that contains a work.
 const BOOK_TITLE: [&str; 2] = ["booksubtitle", "booktitleaddon"];
 
 pub(super) static ARTICLE: Row = Row {
