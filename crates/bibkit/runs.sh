@@ -375,6 +375,20 @@ printf '<bcf:datasource type="file" datatype="bibtex" glob="false">two.bib</bcf:
 run 'the members of a set' 0 $'@misc{a, title={A}, author={B}}\n@misc{b, title={x y}, author={Knuth, D.}, year={1984}}\n' cited set.bcf
 run 'a set is no key' 0 $'@misc{a, title={A}, author={B}}\n@misc{b, title={x y}, author={Knuth, D.}, year={1984}}\n' cited set.bcf two.bib
 
+# several files are one database: a definition, an entry that uses it, and its parent are in three files
+printf '@string{jsl = {Journal}}\n' >part1.bib
+printf '@article{x, title={X}, journal=jsl, crossref={par}}' >part2.bib
+printf '@book{par, title={P}}\n@book{other, title={O}}\n' >part3.bib
+printf '\\citation{x}\n\\bibdata{part1,part2,part3}\n' >parts.aux
+parts=$'@string{jsl = {Journal}}\n@article{x, title={X}, journal=jsl, crossref={par}}\n@book{par, title={P}}\n'
+run 'a document with three files' 0 "$parts" cited parts.aux
+run 'three files of which one is standard input' 0 "$parts" cited parts.aux part1.bib - part2.bib part3.bib
+run 'a selected entry of three files, and what it uses' 0 "$parts" select --complete --where 'key = x' part1.bib part2.bib part3.bib
+run 'keys of a selected entry of three files, and of what it uses' 0 $'x\npar\n' select --complete --keys --where 'key = x' part1.bib part2.bib part3.bib
+run 'one of three files that is absent' 2 "${parts%@book*}" select --complete --where 'key = x' part1.bib no.bib part2.bib
+holds 'it is named' grep -qx 'bibkit: no.bib: there is no such file' messages
+run 'no selected entry of two files' 1 '' select --complete --where 'key = z' part2.bib part3.bib
+
 # what a document cites
 run 'a key that no file has' 1 $'paper.aux:3:1: error: no file has an entry "z" [missing-entry]\nerrors: 1, warnings: 0\n' lint --ignore missing-field --cited paper.aux two.bib
 run 'an entry that is never cited' 1 $'two.bib:1:7: warning: a: never cited [unused-entry]\npaper.aux:3:1: error: no file has an entry "z" [missing-entry]\nerrors: 1, warnings: 1\n' lint --ignore missing-field --cited paper.aux --unused two.bib
@@ -858,6 +872,9 @@ if command -v patch >/dev/null; then
     patches open.bib $'@misc{a, title={A}}\n@misc{b, year={2}}' set b year=2 -f
     patches expand.bib "$expanded" strings --expand -f
     patches far.bib "$(sed 's/= s}/= {x}}/' far.bib)"$'\n' strings --expand -f
+    cp two.bib 'two files.bib'
+    "$program" remove a -f 'two files.bib' --diff | patch -s -p0 >output 2>&1
+    holds 'a patch of a file whose name has a space' eval '"$program" remove a -f two.bib | cmp -s - "two files.bib"'
 else
     lacks patch
 fi

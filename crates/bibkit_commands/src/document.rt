@@ -1,6 +1,7 @@
 //! Runs `cited`: reads the file of a document, with the .aux files that it inputs, and prints the cited entries of .bib files.
 
 use crate::files::SystemFiles;
+use crate::joining::joined;
 use crate::stops::{Stop, bytes_of, say};
 use bib_queries::lines::aux_input;
 use bib_queries::sources::{sources_in_aux, sources_in_bcf};
@@ -11,7 +12,6 @@ use bibkit_core::run::run;
 use biblatex::Output;
 use std::alloc::{AllocError, Global};
 use std::collections::BTreeMap;
-use std::io::IsTerminal;
 use std::path::Path;
 use std::{fs, io, rt};
 
@@ -26,12 +26,14 @@ struct Whole {
     status: u8,
 }
 
-// The files of the system, except that the first call for the file of the document returns its whole text.
+// The files of the system, except that the first call for the file of the document returns its whole text. If `joined` is a text, the first
+// call for another file returns it.
 #[derive(Drop)]
 struct DocumentFiles<'r, 'd, R> {
     files: SystemFiles<'r, 'r, R>,
     name: &'d str,
     whole: Option<Vec<u8>>,
+    joined: Option<Vec<u8>>,
 }
 
 impl<'r, 'd, R: rt::Files + Input + AllocGlobal> Files for DocumentFiles<'r, 'd, R> {
@@ -44,7 +46,10 @@ impl<'r, 'd, R: rt::Files + Input + AllocGlobal> Files for DocumentFiles<'r, 'd,
                 return Ok(bytes);
             }
         }
-        self.files.read(alloc, name)
+        match self.joined.take() {
+            Some(bytes) => Ok(bytes),
+            None => self.files.read(alloc, name),
+        }
     }
 }
 
@@ -202,21 +207,44 @@ fn texts(alloc: Global, names: &[String]) -> Result<Vec<&str>, AllocError> {
     Ok(texts)
 }
 
-// Prints the entries that the document with this whole text cites, and returns the status.
-fn run_names(rt: &HostRuntime, document: &str, text: String, names: Vec<&str>) -> u8 {
+// Prints the entries that the document with this whole text cites, and returns the status. The entries are those of the file `name`, or of
+// the text `joined` if there is one.
+fn run_name(
+    rt: &HostRuntime,
+    document: &str,
+    whole: String,
+    name: &str,
+    joined: Option<String>,
+) -> Result<u8, AllocError> {
     let call = Call {
         request: Request::Cited(document),
-        has_progress: names.len() > 1 && rt.stderr().is_terminal(),
-        names,
+        has_progress: false,
+        names: vec![in rt.alloc(); name]?,
     };
     let mut files = DocumentFiles {
         files: SystemFiles::new(rt, "-"),
         name: document,
-        whole: Some(text.into_bytes()),
+        whole: Some(whole.into_bytes()),
+        joined: joined.map(|text| text.into_bytes()),
     };
     let mut output = Output::new(io::writer(rt));
     let messages = Output::new(rt.stderr());
-    run(rt.alloc(), &call, &mut files, &mut output, messages)
+    Ok(run(rt.alloc(), &call, &mut files, &mut output, messages))
+}
+
+// Prints the entries of files that the document with this whole text cites, and returns the status. Several files are one database.
+fn run_names(
+    rt: &HostRuntime,
+    document: &str,
+    whole: String,
+    names: &[&str],
+) -> Result<u8, AllocError> {
+    if let [name] = names {
+        return run_name(rt, document, whole, name, None);
+    }
+    let joined = joined(rt, names)?;
+    let status = run_name(rt, document, whole, "-", Some(joined.text))?;
+    Ok(status.max(joined.status))
 }
 
 // Runs `cited`, and returns the status.
@@ -233,7 +261,8 @@ fn cited_status(rt: &HostRuntime, document: &str, given: &[&str]) -> Result<u8, 
         copies(rt.alloc(), given)?
     };
     let names = texts(rt.alloc(), &files)?;
-    Ok(run_names(rt, document, whole.text, names).max(whole.status))
+    let status = run_names(rt, document, whole.text, &names)?;
+    Ok(status.max(whole.status))
 }
 
 /// Prints the entries of files that a document cites, and returns the status. The files are those with the names `given`, or those that

@@ -146,10 +146,19 @@ fn unless_out_of_memory(error: ReplaceError) -> Result<ReplaceError, AllocError>
     }
 }
 
-// Replaces the text of a file. Fails with a message and status 2, or if out of memory.
-fn write(rt: &HostRuntime, name: &str, text: &str) -> Result<(), Stop> {
-    match replace(rt, name, text) {
-        Ok(()) => Ok(()),
+// Returns the message for a file that another program changed after it was read.
+fn changed_stop(alloc: Global, name: &str) -> Result<Stop, AllocError> {
+    let said = format!(in alloc;
+        "bibkit: {name}: another program changed it, so it isn't written\n"
+    )?;
+    Ok(Stop::Said(said, 2))
+}
+
+// Replaces the bytes `old` of a file by a text. Fails with a message and status 2, or if out of memory.
+fn write(rt: &HostRuntime, name: &str, old: &[u8], text: &str) -> Result<(), Stop> {
+    match replace(rt, name, old, text) {
+        Ok(true) => Ok(()),
+        Ok(false) => Err(changed_stop(rt.alloc(), name)?),
         Err(error) => {
             let error = unless_out_of_memory(error)?;
             let said = unwritten_line(rt.alloc(), name, &error)?;
@@ -183,26 +192,13 @@ pub fn new_text(
     }
 }
 
-// Fails if a file no longer has the bytes that were read.
-fn check_unchanged(rt: &HostRuntime, name: &str, bytes: &[u8]) -> Result<(), Stop> {
-    let now = bytes_of(rt, name)?;
-    if now.as_slice() == bytes {
-        return Ok(());
-    }
-    let said = format!(in rt.alloc();
-        "bibkit: {name}: another program changed it, so it isn't written\n"
-    )?;
-    Err(Stop::Said(said, 2))
-}
-
 /// Writes the text `new` into a file that had these bytes. Does nothing if the text is the same. Otherwise fails if the file has other
 /// bytes by now.
 pub fn write_new(rt: &HostRuntime, name: &str, bytes: &[u8], new: &str) -> Result<(), Stop> {
     if new.as_bytes() == bytes {
         return Ok(());
     }
-    check_unchanged(rt, name, bytes)?;
-    write(rt, name, new)
+    write(rt, name, bytes, new)
 }
 
 // Applies edits to a file's bytes, and writes the new text into the file if it differs from them.
@@ -232,6 +228,16 @@ fn check_edited(alloc: Global, name: &str, bytes: &[u8], edits: &[Edit<'_>]) -> 
     }
 }
 
+// Returns the name of a file in a diff. If it contains a space, a tab follows it, as in the output of diff. Otherwise `patch` ends the name
+// at the space.
+fn name_in_diff(alloc: Global, name: &str) -> Result<String, AllocError> {
+    let mut text = String::from_str(alloc, name)?;
+    if name.contains(' ') {
+        text.push('\t')?;
+    }
+    Ok(text)
+}
+
 // Prints the diff of edits of a file's bytes. If `is_check`, fails if the diff isn't empty.
 fn show_difference(
     rt: &HostRuntime,
@@ -241,7 +247,8 @@ fn show_difference(
     is_check: bool,
 ) -> Result<(), Stop> {
     let mut output = Output::new(io::writer(rt));
-    let is_changed = match print_difference(rt.alloc(), name, bytes, edits, &mut output) {
+    let shown = name_in_diff(rt.alloc(), name)?;
+    let is_changed = match print_difference(rt.alloc(), &shown, bytes, edits, &mut output) {
         Ok(is_changed) => is_changed,
         Err(why) => return Err(printing_stop(rt.alloc(), name, bytes, edits, &why)?),
     };

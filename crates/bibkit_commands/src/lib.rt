@@ -13,6 +13,7 @@ mod edits;
 mod files;
 mod formatting;
 mod importing;
+mod joining;
 mod recoding;
 mod refusals;
 mod rekeying;

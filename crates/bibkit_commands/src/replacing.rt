@@ -13,11 +13,15 @@ use std::{fs, io};
 
 // The folder of a file, and the permissions of the new file.
 #[derive(Drop)]
-struct SystemFolder<'r, R: Files> {
+struct SystemFolder<'r, 'b, R: Files> {
     rt: &'r R,
     // The folder, open.
     folder: R::File,
     rights: Permissions,
+    // The bytes that the file must have when it is replaced.
+    old: &'b [u8],
+    // Whether the file had other bytes instead.
+    is_changed: bool,
     // The file that is open for writing.
     file: Option<R::File>,
     failures: u64,
@@ -47,7 +51,19 @@ fn none_open() -> io::Result<()> {
     Err(io::Error::from(ErrorKind::InvalidInput))
 }
 
-impl<'r, R: Files> Folder for SystemFolder<'r, R> {
+impl<'r, 'b, R: Files + AllocGlobal> SystemFolder<'r, 'b, R> {
+    // Renames the file `from` to `to`. Fails if `to` doesn't have the bytes `old`.
+    fn replace_old(&mut self, from: &str, to: &str) -> io::Result<()> {
+        let now = fs::read(self.rt, to)?;
+        if now.as_slice() == self.old {
+            return fs::rename(self.rt, from, to);
+        }
+        self.is_changed = true;
+        Err(io::Error::from(ErrorKind::InvalidInput))
+    }
+}
+
+impl<'r, 'b, R: Files + AllocGlobal> Folder for SystemFolder<'r, 'b, R> {
     // Nothing is known of the contents of the system's files.
     ghost disk = { λ _. unknown_disk };
 
@@ -90,7 +106,7 @@ impl<'r, R: Files> Folder for SystemFolder<'r, R> {
     }
 
     fn rename(&mut self, from: &str, to: &str) -> io::Result<()> {
-        let answer = fs::rename(self.rt, from, to);
+        let answer = self.replace_old(from, to);
         count(&mut self.failures, &answer);
         answer
     }
@@ -128,14 +144,21 @@ fn parent_of(target: &PathBuf) -> io::Result<&str> {
     }
 }
 
-// Opens the folder of a file. Fails if the folder can't be opened, or if the file can't be opened for writing or isn't a regular file.
-fn folder_of<'r, R: Files>(rt: &'r R, target: &PathBuf) -> io::Result<SystemFolder<'r, R>> {
+// Opens the folder of a file that has the bytes `old`. Fails if the folder can't be opened, or if the file can't be opened for writing or
+// isn't a regular file.
+fn folder_of<'r, 'b, R: Files>(
+    rt: &'r R,
+    target: &PathBuf,
+    old: &'b [u8],
+) -> io::Result<SystemFolder<'r, 'b, R>> {
     let rights = rights(rt, target.to_string_lossy())?;
     let folder = fs::open(rt, parent_of(target)?)?;
     Ok(SystemFolder {
         rt,
         folder,
         rights,
+        old,
+        is_changed: false,
         file: None,
         failures: 0,
     })
@@ -169,10 +192,20 @@ fn target_of<R: Files + AllocGlobal>(rt: &R, name: &str) -> io::Result<PathBuf> 
     Err(io::Error::from(ErrorKind::InvalidInput))
 }
 
-/// Replaces the text of the file `name` by `text`, as `bibkit_core::replacing` specifies. The file keeps its permissions. If
-/// `name` is a symbolic link, its target is replaced. Fails if the file can't be opened for writing or isn't a regular file.
-pub fn replace<R: Files + AllocGlobal>(rt: &R, name: &str, text: &str) -> Result<(), ReplaceError> {
+/// Replaces the bytes `old` of the file `name` by `text`, as `bibkit_core::replacing` specifies. Returns false, and replaces nothing, if the
+/// file has other bytes just before the new file gets its name. The file keeps its permissions. If `name` is a symbolic link, its target is
+/// replaced. Fails if the file can't be opened for writing or isn't a regular file.
+pub fn replace<R: Files + AllocGlobal>(
+    rt: &R,
+    name: &str,
+    old: &[u8],
+    text: &str,
+) -> Result<bool, ReplaceError> {
     let target = target_of(rt, name).map_err(ReplaceError::NotReplaced)?;
-    let mut folder = folder_of(rt, &target).map_err(ReplaceError::NotReplaced)?;
-    replacing::replace(rt.alloc(), &mut folder, target.to_string_lossy(), text)
+    let mut folder = folder_of(rt, &target, old).map_err(ReplaceError::NotReplaced)?;
+    match replacing::replace(rt.alloc(), &mut folder, target.to_string_lossy(), text) {
+        Ok(()) => Ok(true),
+        Err(_) if folder.is_changed => Ok(false),
+        Err(error) => Err(error),
+    }
 }

@@ -1,6 +1,7 @@
 //! Prints the entries that meet conditions, and edits them.
 
 use crate::edits::{Editing, after_mark, apply};
+use crate::joining::joined;
 use crate::stops::{Stop, bytes_of, output_stop, say};
 use bib_queries::excerpts::answer;
 use bib_queries::request::{CitedKeys, Request as Excerpts};
@@ -96,6 +97,22 @@ fn selected_text(
     Ok((found.text, found.has_entry))
 }
 
+// Prints the entries of a text that meet all conditions. Returns whether there is one.
+fn select_text<K: Sink>(
+    alloc: Global,
+    selections: &[Selection],
+    printed: Printed,
+    text: &str,
+    output: &mut K,
+) -> Result<bool, Stop> {
+    let (text, is_found) = selected_text(alloc, selections, printed, text)?;
+    if output.write_str(&text) {
+        Ok(is_found)
+    } else {
+        Err(output_stop(alloc)?)
+    }
+}
+
 // Prints the entries of a file that meet all conditions. Returns whether there is one.
 fn select_file<K: Sink>(
     rt: &HostRuntime,
@@ -106,26 +123,52 @@ fn select_file<K: Sink>(
 ) -> Result<bool, Stop> {
     let bytes = bytes_of(rt, name)?;
     let decoded = decode(rt.alloc(), &bytes)?;
-    let (text, is_found) = selected_text(rt.alloc(), selections, printed, &decoded.text)?;
-    if output.write_str(&text) {
-        Ok(is_found)
-    } else {
-        Err(output_stop(rt.alloc())?)
-    }
+    select_text(rt.alloc(), selections, printed, &decoded.text, output)
 }
 
-// Prints the entries of files that meet all conditions, and returns the greatest status, which is at least 1 if no entry meets them.
-fn select_files(rt: &HostRuntime, selecting: &Selecting<'_>, names: &[&str]) -> Result<u8, Stop> {
-    let selections = parse_conditions(rt.alloc(), &selecting.conditions)?;
-    let mut output = Output::new(io::writer(rt));
+// Prints the entries of files as one database that meet all conditions. Returns whether there is one, and the status of reading the files.
+fn select_joined<K: Sink>(
+    rt: &HostRuntime,
+    selections: &[Selection],
+    printed: Printed,
+    names: &[&str],
+    output: &mut K,
+) -> Result<(bool, u8), Stop> {
+    let joined = joined(rt, names)?;
+    let is_found = select_text(rt.alloc(), selections, printed, &joined.text, output)?;
+    Ok((is_found, joined.status))
+}
+
+// Prints the entries of each file that meet all conditions. Returns whether there is one, and the greatest status of the files.
+fn select_each<K: Sink>(
+    rt: &HostRuntime,
+    selections: &[Selection],
+    printed: Printed,
+    names: &[&str],
+    output: &mut K,
+) -> (bool, u8) {
     let mut is_found = false;
     let mut status = 0;
     'names: for name in names {
-        match select_file(rt, &selections, selecting.printed, name, &mut output) {
+        match select_file(rt, selections, printed, name, output) {
             Ok(found) => is_found = is_found || found,
             Err(stop) => status = say(rt, &stop).max(status),
         }
     }
+    (is_found, status)
+}
+
+// Prints the entries of files that meet all conditions, and returns the greatest status, which is at least 1 if no entry meets them. With
+// the definitions and entries that they use, several files are one database.
+fn select_files(rt: &HostRuntime, selecting: &Selecting<'_>, names: &[&str]) -> Result<u8, Stop> {
+    let selections = parse_conditions(rt.alloc(), &selecting.conditions)?;
+    let printed = selecting.printed;
+    let mut output = Output::new(io::writer(rt));
+    let (is_found, status) = if printed.is_complete && names.len() > 1 {
+        select_joined(rt, &selections, printed, names, &mut output)?
+    } else {
+        select_each(rt, &selections, printed, names, &mut output)
+    };
     if is_found || status > 0 {
         Ok(status)
     } else {
