@@ -214,7 +214,7 @@ fn edited_file<'a>(alloc: Global, row: &'static Argument) -> Arg<'a> {
 }
 
 // Returns an option whose value is one of several words.
-fn choice<'a>(alloc: Global, row: &'static Argument, choice: Choice) -> Arg<'a> {
+fn choice_argument<'a>(alloc: Global, row: &'static Argument, choice: Choice) -> Arg<'a> {
     match choice {
         Choice::Code => value(alloc, row, "CODE").value_parser(code_names()),
         Choice::Format => value(alloc, row, "FORMAT").value_parser(OutputFormat::names()),
@@ -234,7 +234,11 @@ fn choice<'a>(alloc: Global, row: &'static Argument, choice: Choice) -> Arg<'a> 
 }
 
 // Returns an option without a value.
-fn flag<'a>(alloc: Global, row: &'static Argument, flag: Flag) -> Result<Arg<'a>, AllocError> {
+fn flag_argument<'a>(
+    alloc: Global,
+    row: &'static Argument,
+    flag: Flag,
+) -> Result<Arg<'a>, AllocError> {
     let argument = option(alloc, row).action(ArgAction::SetTrue);
     match flag {
         Flag::Plain => Ok(argument),
@@ -277,8 +281,8 @@ fn argument_of<'a>(alloc: Global, row: &'static Argument) -> Result<Arg<'a>, All
         Takes::Times => value(alloc, row, "TIMES")
             .value_parser(ValueParser::unsigned(2, 1_000_000))
             .conflicts_with("expand"),
-        Takes::Choice(words) => Ok(choice(alloc, row, words)),
-        Takes::Flag(kind) => flag(alloc, row, kind),
+        Takes::Choice(choice) => Ok(choice_argument(alloc, row, choice)),
+        Takes::Flag(flag) => flag_argument(alloc, row, flag),
     }
 }
 
