@@ -22,6 +22,7 @@ use Rattle.bib_findings.specs.Duplicates.{duplicates, entries_at}
 use Rattle.bib_findings.specs.Findings.{AreBetween, AreFindingsIn, AreOfEntry, AreOfKept, AreSortedByPlace, single_findings}
 use Rattle.bib_findings.specs.Foreign.{foreign_findings}
 use Rattle.bib_findings.specs.KeyCases.{case_findings}
+use Rattle.bib_findings.specs.Lacking.{with_flags}
 use Rattle.bib_findings.specs.ParentOrder.{early_findings}
 use Rattle.bib_findings.specs.Stray.{stray_findings}
 use Rattle.bib_findings.specs.References.{AreReferences}
@@ -130,8 +131,8 @@ entry_added missing said entry old one two three new (Ok u) first second third f
 entry_added missing said entry old one two three new (Err x) first second third fourth = tt
 
 -- the findings of entries, followed by those of one more entry, are the findings of all of them
-each_more : (Are : EntryReading → Entry → List Finding → Type 0) (said : List EntryReading) (indices : List ℕ)
-    (entries : List Entry) (found : List Finding) (index : ℕ) (one : EntryReading) (entry : Entry)
+each_more : {A : Type 0} (Are : EntryReading → A → List Finding → Type 0) (said : List EntryReading) (indices : List ℕ)
+    (entries : List A) (found : List Finding) (index : ℕ) (one : EntryReading) (entry : A)
     (more : List Finding)
     → AreOfEach Are said indices entries found → slice_get said index ≡ Some one → Are one entry more
     → AreOfEach Are said (indices ++ index ∷ []) (entries ++ entry ∷ []) (found ++ more)
@@ -144,8 +145,8 @@ each_more Are said _ _ _ index one entry more
     (AreOfEach.next here its (each_more Are said indices entries rest index one entry more following there are))
 
 -- adding the findings of entries and then those of one more entry adds the findings of all of them
-pub each_next : (Are : EntryReading → Entry → List Finding → Type 0) (said : List EntryReading) (indices : List ℕ)
-    (entries : List Entry) (old mid new : List Finding) (index : ℕ) (one : EntryReading) (entry : Entry)
+pub each_next : {A : Type 0} (Are : EntryReading → A → List Finding → Type 0) (said : List EntryReading) (indices : List ℕ)
+    (entries : List A) (old mid new : List Finding) (index : ℕ) (one : EntryReading) (entry : A)
     → Adds (AreOfEach Are said indices entries) old mid → slice_get said index ≡ Some one → Adds (Are one entry) mid new
     → Adds (AreOfEach Are said (indices ++ index ∷ []) (entries ++ entry ∷ [])) old new
 each_next Are said indices entries old mid new index one entry before there more = record {
@@ -155,25 +156,25 @@ each_next Are said indices entries old mid new index one entry before there more
 }
 
 -- for no entries, nothing is added
-pub each_none : (Are : EntryReading → Entry → List Finding → Type 0) (said : List EntryReading) (old : List Finding)
+pub each_none : {A : Type 0} (Are : EntryReading → A → List Finding → Type 0) (said : List EntryReading) (old : List Finding)
     → Adds (AreOfEach Are said [] []) old old
 each_none Are said old = record { added = []; are = AreOfEach.none; new_is = sym (append-nil old) }
 
 -- adding the findings of the entry at `index` extends those of the entries before it
-pub each_at : (Are : EntryReading → Entry → List Finding → Type 0) (said : List (Spanned RawEntry)) (origins : List ℕ)
-    (entries : List Entry) (index : ℕ) (one : Spanned RawEntry) (entry : Entry) (old mid new : List Finding)
+pub each_at : {A : Type 0} (Are : EntryReading → A → List Finding → Type 0) (said : List (Spanned RawEntry)) (origins : List ℕ)
+    (entries : List A) (index : ℕ) (one : Spanned RawEntry) (entry : A) (old mid new : List Finding)
     → All (λ i. i < length said) origins → length origins ≡ length entries → index < length entries
     → one ≡ get_or said (get_or origins index 0) one → entry ≡ get_or entries index entry
     → Adds (AreOfEach Are (map entry_reading_of said) (take index origins) (take index entries)) old mid
     → Adds (Are (entry_reading_of one) entry) mid new
     → Adds (AreOfEach Are (map entry_reading_of said) (take (index + 1) origins) (take (index + 1) entries)) old new
-each_at Are said origins entries index one entry old mid new there same within one_is entry_is before added =
+each_at {A} Are said origins entries index one entry old mid new there same within one_is entry_is before added =
     let inside : index < length origins = omega (arith, same) in
     let origin : ℕ = get_or origins index 0 in
     let here : slice_get (map entry_reading_of said) origin ≡ Some (entry_reading_of one) =
     get_mapped entry_reading_of said origin one (All-get_or (λ i. i < length said) origins index 0 inside there)
     ∙ ap (λ e. Some (entry_reading_of e)) (sym one_is) in
-    let P : List ℕ → List Entry → Type 0 = λ is es. Adds (AreOfEach Are (map entry_reading_of said) is es) old new in
+    let P : List ℕ → List A → Type 0 = λ is es. Adds (AreOfEach Are (map entry_reading_of said) is es) old new in
     subst (λ is. P is (take (index + 1) entries)) (sym (take_more origins index 0 inside))
     (subst (λ es. P (take index origins ++ origin ∷ []) es) (sym (more entries index entry within entry_is))
     (each_next Are (map entry_reading_of said) (take index origins) (take index entries) old mid new origin
@@ -227,16 +228,16 @@ between_are text skipped names said origins own whole none one two three four fi
       entries = entries_at said origins
 
 -- the sorted findings of all parts are the findings of the recovered file
-pub sorted_are : {E : Type 0} (skipped : List SkippedBlock) (names : ByText ℕ) (errors : List ParseError) (said : List EntryReading)
+pub sorted_are : {E : Type 0} (skipped : List SkippedBlock) (lacking : List Bool) (errors : List ParseError) (said : List EntryReading)
     (origins : List ℕ) (entries : List Entry) (between of_entries all : List Finding)
     (r : Result (Vec Finding Global) E)
-    → AreOfEach (AreOfKept skipped names said origins) said origins entries of_entries
+    → AreOfEach AreOfKept said origins (with_flags lacking entries) of_entries
     → all ≡ map (block_finding said) skipped ++ (map error_finding errors ++ (of_entries ++ between))
     → IfOk r (λ sorted. AreSortedByPlace all sorted.items)
-    → IfOk r (λ found. AreFindingsIn skipped names errors said origins entries between found.items)
-sorted_are skipped names errors said origins entries between of_entries all (Ok found) reports are sorted = record {
+    → IfOk r (λ found. AreFindingsIn skipped lacking errors said origins entries between found.items)
+sorted_are skipped lacking errors said origins entries between of_entries all (Ok found) reports are sorted = record {
   of_entries = of_entries;
   reports = reports;
   sorted = subst (λ l. AreSortedByPlace l found.items) are sorted;
 }
-sorted_are skipped names errors said origins entries between of_entries all (Err e) reports are sorted = tt
+sorted_are skipped lacking errors said origins entries between of_entries all (Err e) reports are sorted = tt

@@ -4,6 +4,7 @@ mod CountedFacts
 mod CountedIndexFacts
 mod ForeignFacts
 mod IdentityFacts
+mod LackingFacts
 mod ListFacts
 mod MarkFacts
 mod NameFacts
@@ -11,6 +12,7 @@ mod NearestFacts
 mod NotedFacts
 mod OutsideFacts
 mod SeenFacts
+mod ReachFacts
 mod RecoveredFacts
 mod SharedFacts
 mod SpecialFacts

@@ -1,5 +1,5 @@
 -- The entries that recovery keeps, and their indices.
-use Rattle.std.proofs.Common.{◌≡◌, ℕ, ◌<◌, suc, List, [], ◌∷◌, length, refl, sym, ap, ◌∙◌, subst, Result, Ok, Err, IfOk}
+use Rattle.std.proofs.Common.{◌≡◌, ℕ, Bool, ◌<◌, suc, List, [], ◌∷◌, length, refl, sym, ap, ◌∙◌, subst, Result, Ok, Err, IfOk}
 use Rattle.std.specs.List.{All, AllZip}
 use Rattle.std.specs.declared.ops.Range.{Range}
 use Rattle.std.proofs.lemmas.List.{length-map}
@@ -14,6 +14,7 @@ use Rattle.bib_syntax.specs.Reading.{EntryReading}
 use Rattle.bib_syntax.specs.declared.raw.ParseError.{ParseError}
 use Rattle.bib_syntax.specs.declared.raw.recovery.SkippedBlock.{SkippedBlock}
 use Rattle.bib_findings.specs.Findings.{AreBetween, AreFindingsIn}
+use Rattle.bib_findings.specs.Lacking.{AreLacking}
 use Rattle.bib_findings.specs.declared.finding.Finding.{Finding}
 
 -- as many raw entries are kept as entries
@@ -61,18 +62,19 @@ within_of said origins indices n within are count =
     subst (λ m. All (λ index. index < m) indices) count (subst (λ l. All (λ index. index < length said) l) (sym are) within)
 
 -- the findings of a recovered file are those for equal lists
-pub findings_of : (skipped skipped' : List SkippedBlock) (names : ByText ℕ) (errors errors' : List ParseError)
+pub findings_of : (skipped skipped' : List SkippedBlock) (lacking lacking' : List Bool) (errors errors' : List ParseError)
     (said said' : List EntryReading) (origins origins' : List ℕ) (entries entries' : List Entry)
     (between found : List Finding)
-    → skipped ≡ skipped' → errors ≡ errors' → said ≡ said' → origins ≡ origins' → entries ≡ entries'
-    → AreFindingsIn skipped names errors said origins entries between found
-    → AreFindingsIn skipped' names errors' said' origins' entries' between found
-findings_of skipped skipped' names errors errors' said said' origins origins' entries entries' between found a b c d e are =
-    subst (λ x. AreFindingsIn skipped' names errors' said' origins' x between found) e
-    (subst (λ x. AreFindingsIn skipped' names errors' said' x entries between found) d
-    (subst (λ x. AreFindingsIn skipped' names errors' x origins entries between found) c
-    (subst (λ x. AreFindingsIn skipped' names x said origins entries between found) b
-    (subst (λ x. AreFindingsIn x names errors said origins entries between found) a are))))
+    → skipped ≡ skipped' → lacking ≡ lacking' → errors ≡ errors' → said ≡ said' → origins ≡ origins' → entries ≡ entries'
+    → AreFindingsIn skipped lacking errors said origins entries between found
+    → AreFindingsIn skipped' lacking' errors' said' origins' entries' between found
+findings_of skipped skipped' lacking lacking' errors errors' said said' origins origins' entries entries' between found a b c d e f are =
+    subst (λ x. AreFindingsIn skipped' lacking' errors' said' origins' x between found) f
+    (subst (λ x. AreFindingsIn skipped' lacking' errors' said' x entries between found) e
+    (subst (λ x. AreFindingsIn skipped' lacking' errors' x origins entries between found) d
+    (subst (λ x. AreFindingsIn skipped' lacking' x said origins entries between found) c
+    (subst (λ x. AreFindingsIn skipped' x errors said origins entries between found) b
+    (subst (λ x. AreFindingsIn x lacking errors said origins entries between found) a are)))))
 
 -- the findings between entries are those for equal lists
 pub between_of : (text : List ℕ) (skipped skipped' : List SkippedBlock) (names : ByText ℕ) (said said' : List EntryReading)
@@ -83,6 +85,16 @@ between_of text skipped skipped' names said said' origins origins' own own' foun
     subst (λ x. AreBetween text skipped' names said' origins' x found) d
     (subst (λ x. AreBetween text skipped' names said' x own found) c
     (subst (λ x. AreBetween text skipped' names x origins own found) b (subst (λ x. AreBetween text x names said origins own found) a are)))
+
+-- the flags of entries of which fields may be lost are those for equal lists
+pub lacking_same : (skipped skipped' : List SkippedBlock) (names : ByText ℕ) (said said' : List EntryReading)
+    (origins origins' : List ℕ) (own own' : List Entry) (lacking : List Bool) → skipped ≡ skipped' → said ≡ said'
+    → origins ≡ origins' → own ≡ own'
+    → AreLacking skipped names said origins own lacking → AreLacking skipped' names said' origins' own' lacking
+lacking_same skipped skipped' names said said' origins origins' own own' lacking a b c d are =
+    subst (λ x. AreLacking skipped' names said' origins' x lacking) d
+    (subst (λ x. AreLacking skipped' names said' x own lacking) c
+    (subst (λ x. AreLacking skipped' names x origins own lacking) b (subst (λ x. AreLacking x names said origins own lacking) a are)))
 
 -- if the value of an Ok satisfies `P`, it satisfies each `Q` that follows from `P`
 pub if_ok_more : {A E : Type 0} (P Q : A → Type 0) (r : Result A E) → ((a : A) → P a → Q a) → IfOk r P → IfOk r Q

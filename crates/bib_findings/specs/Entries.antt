@@ -4,7 +4,6 @@ use Rattle.std.specs.Prelude.{◌≡◌, ℕ, Bool, false, ◌==◌, List, [], �
 use Rattle.std.specs.List.{find, list_all}
 use Rattle.std.specs.Str.{str_eq_ignore_ascii_case, trim}
 use Rattle.std.specs.declared.ops.Range.{Range}
-use Rattle.bib_entry.specs.declared.entry.Entry.{Entry}
 use Rattle.bib_syntax.specs.Reading.{Part, EntryReading, FieldReading, Piece}
 use Rattle.bib_syntax.specs.Reading.Piece.{literal, abbreviation}
 use Rattle.bib_findings.specs.EntryNames.{entry_name}
@@ -51,9 +50,9 @@ abbrev pub field_finding : EntryReading → Code → List ℕ → List ℕ → F
 field_finding said c wrong name = finding_at c (field_place said name) (field_message said.key.text wrong name)
 
 -- whether the findings are those of these entries, in order, each related by `Are` to its entry and to the raw entry with its index
-pub data AreOfEach (Are : EntryReading → Entry → List Finding → Type 0) (said : List EntryReading) : List ℕ → List Entry
+pub data AreOfEach {A : Type 0} (Are : EntryReading → A → List Finding → Type 0) (said : List EntryReading) : List ℕ → List A
     → List Finding → Type 0 where
   none : AreOfEach Are said [] [] []
-  next : {index : ℕ} {indices : List ℕ} {one : EntryReading} {entry : Entry} {entries : List Entry} {first rest : List Finding}
+  next : {index : ℕ} {indices : List ℕ} {one : EntryReading} {entry : A} {entries : List A} {first rest : List Finding}
       → slice_get said index ≡ Some one → Are one entry first → AreOfEach Are said indices entries rest
       → AreOfEach Are said (index ∷ indices) (entry ∷ entries) (first ++ rest)

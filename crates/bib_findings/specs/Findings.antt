@@ -1,7 +1,7 @@
 -- Meaning: words of public contracts.
 -- All findings of the text of a file: those of the skipped blocks and errors of recovery, those of each kept entry, and those between
 -- entries. Findings about the bytes of the file or about documents aren't among them.
-use Rattle.std.specs.Prelude.{◌≡◌, ℕ, List, ◌++◌, map}
+use Rattle.std.specs.Prelude.{◌≡◌, ℕ, Bool, List, ◌++◌, map}
 use Rattle.std.specs.declared.ops.Range.{Range}
 use Rattle.std.specs.List.Sorted.{IsPermutation, IsSortedByKey, IsStableByKey}
 use Rattle.std.specs.Ordering.{nat_cmp}
@@ -26,7 +26,7 @@ use Rattle.bib_findings.specs.Errors.{block_finding, error_finding}
 use Rattle.bib_findings.specs.Fields.{address_findings, empty_findings, key_findings, repeated_findings}
 use Rattle.bib_findings.specs.Foreign.{foreign_findings}
 use Rattle.bib_findings.specs.KeyCases.{case_findings}
-use Rattle.bib_findings.specs.Lacking.{may_lack}
+use Rattle.bib_findings.specs.Lacking.{AreLacking, with_flags}
 use Rattle.bib_findings.specs.MalformedDates.{date_findings}
 use Rattle.bib_findings.specs.Names.{AreOfUnknown}
 use Rattle.bib_findings.specs.ParentOrder.{early_findings}
@@ -70,11 +70,10 @@ pub record AreOfEntry (missing : Names) (said : EntryReading) (entry : Entry) (f
   pub unknown : AreOfUnknown said of_unknown
   pub are : found ≡ of_type ++ (of_report ++ (of_unknown ++ single_findings missing said entry))
 
--- whether these are the findings of an entry of a recovered file, with its raw form `one`. No field is missing if fields of the entry may
--- be lost.
-abbrev pub AreOfKept : List SkippedBlock → ByText ℕ → List EntryReading → List ℕ → EntryReading → Entry → List Finding → Type 0
-AreOfKept skipped names said origins one entry found =
-    AreOfEntry (reported_missing (may_lack skipped names said origins one entry) one entry) one entry found
+-- whether these are the findings of an entry of a recovered file, with its raw form `one`. The entry comes after a flag: whether fields of
+-- it may be lost. If they may, no field is reported as missing
+abbrev pub AreOfKept : EntryReading → Bool × Entry → List Finding → Type 0
+AreOfKept one flagged found = AreOfEntry (reported_missing flagged.0 one flagged.1) one flagged.1 found
 
 -- whether `found` is `all`, sorted by the start of the span; findings with the same start keep their order
 pub record AreSortedByPlace (all found : List Finding) : Type 0 where
@@ -98,11 +97,11 @@ pub record AreBetween (text : List ℕ) (skipped : List SkippedBlock) (names : B
       ++ (early_findings (entries_at said origins) ++ foreign_findings (entries_at said origins)))))
 
 -- whether these are the findings of a recovered file, sorted by their starts: those of skipped blocks, of errors, of each kept
--- entry, and those between entries
-pub record AreFindingsIn (skipped : List SkippedBlock) (names : ByText ℕ) (errors : List ParseError) (said : List EntryReading)
+-- entry, and those between entries. `lacking` says of each kept entry whether fields of it may be lost
+pub record AreFindingsIn (skipped : List SkippedBlock) (lacking : List Bool) (errors : List ParseError) (said : List EntryReading)
     (origins : List ℕ) (entries : List Entry) (between found : List Finding) : Type 0 where
   pub of_entries : List Finding
-  pub reports : AreOfEach (AreOfKept skipped names said origins) said origins entries of_entries
+  pub reports : AreOfEach AreOfKept said origins (with_flags lacking entries) of_entries
   pub sorted : AreSortedByPlace (map (block_finding said) skipped ++ (map error_finding errors ++ (of_entries ++ between))) found
 
 -- whether these are all findings of a file with this text, with the complete parts of its skipped blocks. The findings of a kept entry also
@@ -117,9 +116,11 @@ pub record AreFindings (text : List ℕ) (found : List Finding) : Type 0 where
   pub origins : List ℕ
   pub of_entries : List ParseError
   pub kept : IsKeptSoFar (definition_in says.abbreviations) says.entries own names places origins of_entries
+  pub lacking : List Bool
+  pub are_lacking : AreLacking skipped names says.entries origins own lacking
   pub entries : List Entry
   pub of_references : List ParseError
   pub resolved : AreRecovered places names own entries of_references
   pub between : List Finding
   pub are_between : AreBetween text skipped names says.entries origins own between
-  pub are : AreFindingsIn skipped names (of_entries ++ of_references) says.entries origins entries between found
+  pub are : AreFindingsIn skipped lacking (of_entries ++ of_references) says.entries origins entries between found

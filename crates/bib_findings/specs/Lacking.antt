@@ -1,30 +1,37 @@
 -- Meaning: words of public contracts.
--- Entries of which fields may be lost by a syntax error: those of skipped blocks, and those that refer to one by `crossref` or `xdata`.
-use Rattle.std.specs.Prelude.{ℕ, Bool, false, ◌||◌, List, ◌++◌, codes, slice_get}
-use Rattle.std.specs.FinMap as by_name
-use Rattle.std.specs.List.{list_any}
+-- Entries of which fields may be lost by a syntax error: those of skipped blocks, and those that refer to one by `crossref` or `xdata`,
+-- directly or through others.
+use Rattle.std.specs.Prelude.{◌≡◌, ℕ, Bool, true, false, List, [], ◌∷◌, length, slice_get}
+use Rattle.std.specs.List.{Contains}
 use Rattle.std.specs.Option.{option_map_or}
+use Rattle.bib_collections.specs.Graph.{Graph, refs_of}
 use Rattle.bib_collections.specs.Sorted.{ByText}
 use Rattle.bib_entry.specs.declared.entry.Entry.{Entry}
+use Rattle.bib_inheritance.specs.Resolving.{graph_by}
+use Rattle.bib_queries.specs.Needed.{AreMarks}
 use Rattle.bib_syntax.specs.Reading.{EntryReading}
 use Rattle.bib_syntax.specs.declared.raw.recovery.SkippedBlock.{SkippedBlock}
 use Rattle.bib_findings.specs.Cuts.{is_cut}
-use Rattle.bib_findings.specs.References.{keys_in}
 
 -- whether the kept entry with this index is cut; `origins` has the index in `said` of each kept entry
 abbrev pub is_cut_at : List SkippedBlock → List EntryReading → List ℕ → ℕ → Bool
 is_cut_at skipped said origins index =
     option_map_or (λ origin. option_map_or (is_cut skipped) (slice_get said origin) false) (slice_get origins index) false
 
--- whether `names` points from a key to a cut entry
-abbrev pub names_cut : List SkippedBlock → ByText ℕ → List EntryReading → List ℕ → List ℕ → Bool
-names_cut skipped names said origins key = option_map_or (is_cut_at skipped said origins) (by_name.get names key) false
+-- whether fields of the entry with this index may be lost: it is cut, or refers to an entry of which fields may be lost. `graph` has for
+-- each entry the indices of those that it refers to
+pub data MayLack (graph : Graph) (is_cut : ℕ → Bool) : ℕ → Type 0 where
+  cut : {index : ℕ} → is_cut index ≡ true → MayLack graph is_cut index
+  refers : {index parent : ℕ} → Contains (refs_of graph index) parent → MayLack graph is_cut parent → MayLack graph is_cut index
 
--- the keys in the fields `crossref` and `xdata` of an entry
-abbrev pub parent_keys : Entry → List (List ℕ)
-parent_keys entry = keys_in entry (codes "crossref") ++ keys_in entry (codes "xdata")
+-- whether `lacking` says for each kept entry whether fields of it may be lost. `own` has the entries with only the fields that each has
+-- itself, so `crossref` and `xdata` are as in the file
+abbrev pub AreLacking : List SkippedBlock → ByText ℕ → List EntryReading → List ℕ → List Entry → List Bool → Type 0
+AreLacking skipped names said origins own lacking =
+    AreMarks (MayLack (graph_by names own) (is_cut_at skipped said origins)) (length own) lacking
 
--- whether fields of an entry, with its raw form `one`, may be lost: it is cut, or its `crossref` or `xdata` names an entry that is cut
-abbrev pub may_lack : List SkippedBlock → ByText ℕ → List EntryReading → List ℕ → EntryReading → Entry → Bool
-may_lack skipped names said origins one entry =
-    is_cut skipped one || list_any (names_cut skipped names said origins) (parent_keys entry)
+-- the entries, each after its flag; an entry without a flag gets `false`
+abbrev pub with_flags : List Bool → List Entry → List (Bool × Entry)
+with_flags flags [] = []
+with_flags [] (entry ∷ entries) = (false, entry) ∷ with_flags [] entries
+with_flags (flag ∷ flags) (entry ∷ entries) = (flag, entry) ∷ with_flags flags entries

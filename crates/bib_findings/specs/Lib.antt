@@ -25,6 +25,7 @@ pub mod Nearest
 pub mod Outside
 pub mod ParentOrder
 pub mod People
+pub mod Reaching
 pub mod References
 pub mod Reported
 pub mod Seen

@@ -242,9 +242,9 @@ impl Code {
             Self::CircularAbbreviation =>
                 "The definition of an abbreviation refers to the abbreviation itself, directly or through others. Fields that use it are removed. Write the text itself in one of the definitions.",
             Self::DuplicateKey =>
-                "An earlier entry has this key, or has it in its field `ids`. This entry is removed. Give one of the two another key, or remove one.",
+                "An earlier entry has this key, or has it in its field `ids`; an entry that is itself left out doesn't count. This entry is left out. Give it another key, remove the key from `ids`, or remove one of the two entries.",
             Self::CircularReference =>
-                "An entry refers to itself by crossref or xdata, directly or through others. It loses its references. Remove one of them.",
+                "The entry refers to itself by `crossref` or `xdata`, directly or through other entries. It loses these fields, so it inherits nothing. Remove one of the references on this cycle.",
             Self::UnreadDate =>
                 "An entry would inherit a year, month and day that can't be parsed, so it doesn't inherit them. Write the date as YYYY-MM-DD, YYYY-MM or YYYY in the entry that it refers to.",
             Self::UnknownType =>
@@ -284,7 +284,7 @@ impl Code {
             Self::StrayField =>
                 "The text after the closing brace of an entry reads as a field. BibTeX and Biber ignore it, so the field is lost. Most often a value before this brace has a closing brace too many.",
             Self::UnknownReference =>
-                "A field refers to a key that no entry of the file has as its key or in its field `ids`. Nothing is inherited from it. Correct the key, or add the entry.",
+                "The field `crossref`, `xdata`, `xref`, `related` or `entryset` names a key that no entry of the file has as its key or in `ids`. An entry with the code `duplicate-key` doesn't count, because it is left out. Nothing is inherited through this reference. Correct the key, or add the entry.",
             Self::LikelyDuplicate =>
                 "An earlier entry has the same DOI, the same ISBN of a whole book, or the same title, first person and year, and no volume, number, pages, chapter, part, edition or subtitle differs. Keep one of the two, and name the key of the other in its field `ids`.",
             Self::KeyCase =>

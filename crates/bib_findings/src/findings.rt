@@ -7,9 +7,10 @@ ghost use Rattle.bib_syntax.specs.Views.{entry_reading_of};
 ghost use Rattle.bib_findings.specs.Adding.{Adds};
 ghost use Rattle.bib_findings.specs.Entries.{AreOfEach};
 ghost use Rattle.bib_findings.specs.Findings.{AreBetween, AreFindings, AreFindingsIn, AreOfEntry, AreOfKept, AreSortedByPlace, entries_said, own_findings, single_findings, text_findings};
+ghost use Rattle.bib_findings.specs.Lacking.{with_flags};
 ghost use Rattle.bib_findings.specs.Met.{AreFieldNames};
 
-use crate::cuts::{block_starts, whole_origins};
+use crate::cuts::whole_origins;
 use crate::demands::reported_missing;
 use crate::duplicates::add_duplicates;
 use crate::entries::add_report;
@@ -18,7 +19,7 @@ use crate::fields::{add_address, add_empty, add_empty_key, add_repeated};
 use crate::finding::Finding;
 use crate::foreign::add_foreign_fields;
 use crate::key_cases::add_cases;
-use crate::lacking::may_lack;
+use crate::lacking::{flag_at, lacking_flags};
 use crate::malformed_dates::add_dates;
 use crate::names::{FieldName, add_unknown_fields};
 use crate::parent_order::add_early;
@@ -107,28 +108,25 @@ fn add_entry(
     add_single(alloc, found, missing, said, entry)
 }
 
-// Appends the findings of entries. `origins` contains the index of each in `said`, `names` points to the entries, and `skipped` contains the
-// skipped blocks.
+// Appends the findings of entries. `origins` contains the index of each in `said`, and `lacking` whether fields of it may be lost.
 fn add_entries(
     alloc: Global,
     found: &mut Vec<Finding>,
-    skipped: &[SkippedBlock],
-    names: &Names,
+    lacking: &[bool],
     said: &[Spanned<RawEntry<'_>>],
     origins: &[usize],
     entries: &[Entry],
 ) -> Result<(), AllocError>
     requires same_length { length origins.now ≡ length entries.now }
     requires there { All (λ index. index < length said.now) origins.now }
-    ensures { OnOk result (Adds (AreOfEach (AreOfKept skipped.now names.now (map entry_reading_of said.now) origins.now)
-        (map entry_reading_of said.now) origins.now entries.now) found.old.items found.new.items) }
+    ensures { OnOk result (Adds (AreOfEach AreOfKept (map entry_reading_of said.now) origins.now (with_flags lacking.now entries.now))
+        found.old.items found.new.items) }
 {
-    let starts = block_starts(alloc, skipped)?;
     let mut met = BTreeMap::new(alloc);
     'entries: for index in 0..entries.len() {
         let one = &said[origins[index]];
         let entry = &entries[index];
-        let may_lack = may_lack(alloc, &starts, names, said, origins, one, entry)?;
+        let may_lack = flag_at(lacking, index);
         let missing = reported_missing(alloc, may_lack, one, entry)?;
         add_entry(alloc, found, &mut met, &missing, one, entry)?;
     }
@@ -176,12 +174,13 @@ fn sorted_by_place(found: Vec<Finding>) -> Result<Vec<Finding>, AllocError>
 }
 
 /// Returns all findings of a recovered file, sorted by their starts. `skipped` contains its skipped blocks,
-/// `errors` the errors, `entries` the kept entries, and `between` the findings between them. `names` points to the kept
-/// entries, and `origins` contains the index of each in `said`, the raw entries of the file. Fails only if out of memory.
+/// `errors` the errors, `entries` the kept entries, and `between` the findings between them. `origins` contains the index of each
+/// entry in `said`, the raw entries of the file. `lacking` contains for each entry whether fields of it may be lost (see
+/// `lacking_flags`). Fails only if out of memory.
 pub fn findings_in(
     alloc: Global,
     skipped: &[SkippedBlock],
-    names: &Names,
+    lacking: &[bool],
     errors: &[ParseError],
     said: &[Spanned<RawEntry<'_>>],
     origins: &[usize],
@@ -190,14 +189,14 @@ pub fn findings_in(
 ) -> Result<Vec<Finding>, AllocError>
     requires same_length { length origins.now ≡ length entries.now }
     requires there { All (λ index. index < length said.now) origins.now }
-    ensures { IfOk result (λ found. AreFindingsIn skipped.now names.now errors.now (entries_said said.now)
+    ensures { IfOk result (λ found. AreFindingsIn skipped.now lacking.now errors.now (entries_said said.now)
         origins.now entries.now between.items found.items) }
 {
     let mut between = between;
     let mut found = Vec::new(alloc);
     add_blocks(alloc, &mut found, said, skipped)?;
     add_errors(alloc, &mut found, errors)?;
-    add_entries(alloc, &mut found, skipped, names, said, origins, entries)?;
+    add_entries(alloc, &mut found, lacking, said, origins, entries)?;
     found.append(&mut between)?;
     sorted_by_place(found)
 }
@@ -219,9 +218,10 @@ pub fn findings(alloc: Global, text: &str) -> Result<Vec<Finding>, AllocError>
     } = keep(alloc, &raw)?;
     let said = &raw.entries;
     let linked = between(alloc, text, &skipped, said, &origins, &names, &entries)?;
+    let lacking = lacking_flags(alloc, &skipped, &names, said, &origins, &entries)?;
     let mut unresolved = resolve_readable(alloc, &spans, &names, &mut entries)?;
     errors.append(&mut unresolved)?;
     findings_in(
-        alloc, &skipped, &names, &errors, said, &origins, &entries, linked,
+        alloc, &skipped, &lacking, &errors, said, &origins, &entries, linked,
     )
 }

@@ -6,8 +6,9 @@
 //! text after an entry that reads as a field, keys that differ only in ASCII case, early parents, and fields of other programs.
 //! `findings::findings_in` sorts all findings by their starts.
 //!
-//! `codes` contains the codes and their explanations. `places` finds fields in an entry, `cuts` finds the entries of skipped
-//! blocks, and `lacking` finds entries that may have lost fields. `demands` has the fields that BibLaTeX requires. `nearest` finds
+//! `codes` contains the codes and their explanations. `places` finds fields in an entry, and `cuts` finds the entries of skipped
+//! blocks. `lacking` finds the entries of which fields may be lost: those of skipped blocks, and those that refer to one by
+//! `crossref` or `xdata`, directly or through others. `demands` has the fields that BibLaTeX requires. `nearest` finds
 //! the known name that may be meant, `marks` selects the entries that may be the same work as another, and `outside` finds the text
 //! outside braces. `errors`, `types`, `entries`, `names`, `fields`, `standard_numbers`, `malformed_dates`, `people`,
 //! `special_characters`, `years`, `stray`, `references`, `duplicates`, `key_cases`, `foreign` and `parent_order` make the findings;
@@ -27,7 +28,7 @@ pub mod findings;
 mod foreign;
 pub mod identities;
 mod key_cases;
-mod lacking;
+pub mod lacking;
 mod malformed_dates;
 mod marks;
 mod names;

@@ -41,8 +41,8 @@ fn keys_of(alloc: Global, field: &str, chunks: ChunksRef<'_>) -> Result<Vec<Text
     Ok(keys)
 }
 
-/// Returns the keys in this field of an entry, or none if the entry lacks the field.
-pub(crate) fn keys_in(alloc: Global, entry: &Entry, field: &str) -> Result<Vec<Text>, AllocError>
+// Returns the keys in this field of an entry, or none if the entry lacks the field.
+fn keys_in(alloc: Global, entry: &Entry, field: &str) -> Result<Vec<Text>, AllocError>
     ensures { IfOk result (λ keys. keys.items ≡ keys_in entry.now field.now) }
 {
     match entry.get(field) {

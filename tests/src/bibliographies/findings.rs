@@ -3,6 +3,7 @@
 use bib_file_entries::keeping::{KeptEntries, keep};
 use bib_findings::finding::Finding;
 use bib_findings::findings::{between, findings_in};
+use bib_findings::lacking::lacking_flags;
 use bib_inheritance::recovering::resolve_readable;
 use bib_syntax::raw::{RawBibliography, RawRecovery};
 use std::alloc::{AllocError, Global};
@@ -19,9 +20,10 @@ fn found(alloc: Global, file: &str) -> Result<Vec<Finding>, AllocError> {
         mut errors,
     } = keep(alloc, &raw)?;
     let between = between(alloc, file, &skipped, &said, &origins, &names, &entries)?;
+    let lacking = lacking_flags(alloc, &skipped, &names, &said, &origins, &entries)?;
     let mut unresolved = resolve_readable(alloc, &spans, &names, &mut entries)?;
     errors.append(&mut unresolved)?;
-    findings_in(alloc, &skipped, &names, &errors, &said, &origins, &entries, between)
+    findings_in(alloc, &skipped, &lacking, &errors, &said, &origins, &entries, between)
 }
 
 /// All that is wrong in a file: each finding's place, code and message.

@@ -9,7 +9,7 @@ returns c =
     let blocks = map (block_finding (map entry_reading_of c.args.said.now)) c.args.skipped.now in
     let errors = map error_finding c.args.errors.now in
     let reports = c.in_ok-add_entries.ensures in
-    sorted_are c.args.skipped.now c.args.names.now c.args.errors.now (map entry_reading_of c.args.said.now) c.args.origins.now
+    sorted_are c.args.skipped.now c.args.lacking.now c.args.errors.now (map entry_reading_of c.args.said.now) c.args.origins.now
     c.args.entries.now c.args.between.items reports.added c.append.new.self.items c.sorted_by_place.result
     reports.are
     (added_in_order c.new-found.result.items c.add_blocks.new.found.items c.add_errors.new.found.items
