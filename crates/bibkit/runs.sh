@@ -659,11 +659,16 @@ printf '@misc{c, ids={B}}\n' >input
 refuses 'an entry whose ids are there' 1 "bibkit: two.bib: \`B\`$is_there"$'\n' add -f two.bib
 printf '@misc{c, title={C}}\n@misc{d, title={D}}\n@misc{C, title={E}}\n' >input
 refuses 'two added entries with one name' 1 "bibkit: two.bib: \`C\`$is_there"$'\n' add -f two.bib
+printf '@misc{x, ids={x}}\n@misc{a, title={A}}\n' >input
+refuses 'an added entry with one name twice, before one whose key is there' 1 "bibkit: two.bib: \`a\`$is_there"$'\n' add -f two.bib
 printf '@misc{c,}@misc{d{,}@misc{*,}\n' >input
 refuses 'an entry whose key Biber cuts' 1 "bibkit: two.bib: \`d{\`$no_key" add -f two.bib
 printf '@string{s = {x}}\n@misc{a, title=s}\n' >defined.bib
 printf '@STRING{S = {y}}\n' >input
 refuses 'an abbreviation that is there' 1 $'bibkit: defined.bib: `S`: an abbreviation is defined already with another text\n' add -f defined.bib
+printf '@string{s = {x}}\n@string{s = {y}}\n' >both.bib
+printf '@string{s = {y}}\n@misc{x, title=s}\n' >input
+refuses 'an abbreviation that is there with two texts' 1 $'bibkit: both.bib: `s`: an abbreviation is defined already with another text\n' add -f both.bib
 printf '@STRING{S = "x"}\n' >input
 run 'the same abbreviation is added' 0 $'@string{s = {x}}\n@misc{a, title=s}\n\n@STRING{S = "x"}\n' add -f defined.bib
 cp two.bib input

@@ -16,22 +16,33 @@ use std::alloc::{AllocError, Global};
 use std::collections::{BTreeMap, BTreeSet};
 use std::str::from_utf8;
 
-// Inserts names into a set, in ASCII lowercase. Returns the first name that the set contains already, if there is one.
-fn insert_names<'s>(
+// Returns the first of these names that the set contains, in ASCII lowercase.
+fn first_in<'s>(
     alloc: Global,
-    set: &mut BTreeSet<String>,
+    set: &BTreeSet<String>,
     names: &[&'s str],
 ) -> Result<Option<&'s str>, AllocError> {
-    let mut taken = None;
     'names: for name in names {
-        if !set.insert(name.to_ascii_lowercase(alloc)?)? && taken.is_none() {
-            taken = Some(*name);
+        if set.contains(name.to_ascii_lowercase(alloc)?.as_str()) {
+            return Ok(Some(*name));
         }
     }
-    Ok(taken)
+    Ok(None)
 }
 
-// Inserts the names of entries into a set, in ASCII lowercase. Returns the first name that the set contains already, if there is one.
+// Inserts names into a set, in ASCII lowercase.
+fn insert_names(
+    alloc: Global,
+    set: &mut BTreeSet<String>,
+    names: &[&str],
+) -> Result<(), AllocError> {
+    'names: for name in names {
+        set.insert(name.to_ascii_lowercase(alloc)?)?;
+    }
+    Ok(())
+}
+
+// Inserts the names of entries into a set, in ASCII lowercase. Returns the first name of an entry that was in the set before this entry.
 fn insert_entries<'s>(
     alloc: Global,
     set: &mut BTreeSet<String>,
@@ -40,15 +51,15 @@ fn insert_entries<'s>(
     let mut taken = None;
     'entries: for entry in entries {
         let names = entry_names(alloc, entry)?;
-        let found = insert_names(alloc, set, &names)?;
         if taken.is_none() {
-            taken = found;
+            taken = first_in(alloc, set, &names)?;
         }
+        insert_names(alloc, set, &names)?;
     }
     Ok(taken)
 }
 
-// Returns the first name of an added entry that is taken: an entry of the file or an earlier added entry has it, or the entry has it twice.
+// Returns the first name of an added entry that an entry of the file or an earlier added entry has, in any ASCII case.
 fn taken_name<'s>(
     alloc: Global,
     file: &RawBibliography<'_>,
@@ -79,20 +90,35 @@ fn have_same_value(one: &Pair<'_>, other: &Pair<'_>) -> bool {
             .all(|(piece, second)| is_same_piece(piece, second))
 }
 
-// Returns the name of the first added definition whose value isn't that of the last definition of the same name in the file.
+// Returns, for each name that these definitions define in any ASCII case, its last definition, and whether all its definitions have one
+// value.
+fn definitions_by_name<'d, 's>(
+    alloc: Global,
+    definitions: &'d [Pair<'s>],
+) -> Result<BTreeMap<String, (&'d Pair<'s>, bool)>, AllocError> {
+    let mut by_name = BTreeMap::new(alloc);
+    'definitions: for definition in definitions {
+        let name = definition.key.v.to_ascii_lowercase(alloc)?;
+        let agree = match by_name.get(name.as_str()) {
+            Some((last, agree)) => *agree && have_same_value(definition, last),
+            None => true,
+        };
+        by_name.insert(name, (definition, agree))?;
+    }
+    Ok(by_name)
+}
+
+// Returns the name of the first added definition whose value isn't that of each definition of the name in the file.
 fn other_definition<'s>(
     alloc: Global,
     file: &RawBibliography<'_>,
     added: &RawBibliography<'s>,
 ) -> Result<Option<&'s str>, AllocError> {
-    let mut last = BTreeMap::new(alloc);
-    'definitions: for definition in &file.abbreviations {
-        last.insert(definition.key.v.to_ascii_lowercase(alloc)?, definition)?;
-    }
+    let by_name = definitions_by_name(alloc, &file.abbreviations)?;
     'added: for definition in &added.abbreviations {
         let name = definition.key.v.to_ascii_lowercase(alloc)?;
-        if let Some(other) = last.get(name.as_str()) {
-            if !have_same_value(definition, other) {
+        if let Some((last, agree)) = by_name.get(name.as_str()) {
+            if !*agree || !have_same_value(definition, last) {
                 return Ok(Some(definition.key.v));
             }
         }
