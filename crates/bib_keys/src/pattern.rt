@@ -20,7 +20,8 @@ use std::marker::Model;
 pub enum Case {
     /// In lower case, such as `{author}`.
     Lower,
-    /// With the first character of each word in upper case, such as `{Author}`. Other characters keep their case.
+    /// With the first character of each family name or word of the title in upper case, such as `{Author}`. Other characters keep their
+    /// case.
     Capital,
     /// In upper case, such as `{AUTHOR}`.
     Upper,
