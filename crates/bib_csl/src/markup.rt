@@ -121,7 +121,7 @@ pub(crate) fn marked_chunks(
 }
 
 /// Returns the text of chunks with its LaTeX commands replaced, as an item has it, but without HTML tags. An unknown command without an
-/// argument is kept. The only error is out of memory.
+/// argument is kept, and so is math. The only error is out of memory.
 #[tactic(auto, unfolding(crate::specs::Texts::bare_text))]
 pub fn bare_text(alloc: Global, chunks: ChunksRef<'_>) -> Result<Text, AllocError>
     ensures { IfOk result (λ text. text ≡ bare_text chunks.now) }
