@@ -186,7 +186,8 @@ fn whole_prefix(alloc: Global, parts: &NameParts) -> Result<Text, AllocError>
     Ok(text)
 }
 
-// Returns `true` or `false` as the prefix is part of the family name or not, or an empty text without a prefix.
+// Returns `true` if the name has a prefix that is part of the family name, `false` if it only has another prefix, and an empty text if it
+// has none.
 #[tactic(auto, unfolding(crate::specs::WrittenPeople::prefix_flag))]
 fn prefix_flag(parts: &NameParts) -> &'static str
     ensures { result.now ≡ spec.prefix_flag parts.now }
