@@ -352,8 +352,8 @@ fn matches<'a>(alloc: Global, words: &'a [String]) -> Result<ArgMatches<'a>, Err
 }
 
 /// Parses a command line. Its first word is the name of the program. Fails with the requested help or version, with the reason why clap
-/// refuses the command line, or if out of memory. Some wrong command lines are parsed: `asked` is then `Asked::Wrong` or
-/// `Asked::WrongOrder`, or edits with a word that has no equals sign.
+/// refuses the command line, or if out of memory. Some wrong command lines are parsed, for example as `Asked::Wrong` or
+/// `Asked::WrongOrder`, and refused when they are run.
 pub fn read<'a>(alloc: Global, words: &'a [String]) -> Result<Words<'a>, Error> {
     let matches = matches(alloc, words)?;
     let words = parse_matches(alloc, &matches)?;
