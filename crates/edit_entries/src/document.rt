@@ -140,9 +140,10 @@ impl<'s> RawDocument<'s> {
     ///
     /// - A comment is after the comma before the field, and a later field has the same name.
     /// - A comment is after the comma before the field, and the next field or the closing brace is on the line on which the field ends.
-    /// - White space other than a space, tab, line feed, form feed or carriage return, such as a no-break space, is between the key and its
-    ///   comma, or between a comment and the comma or closing brace after it. Or such white space is between one of the two commas and the
-    ///   next comment, field or closing brace, and a comment is before the field.
+    /// - Special white space, such as a no-break space, is between the key and its comma, or between a comment and the comma or closing
+    ///   brace after it. Special means: other than a space, tab, line feed, form feed or carriage return.
+    /// - A comment is before the field, and special white space is between one of the two commas and the next comment, field or closing
+    ///   brace. Or special white space follows the value, with neither a comma after it nor a comment on its line.
     ///
     /// # Errors
     ///
