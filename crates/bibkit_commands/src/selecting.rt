@@ -159,8 +159,8 @@ fn texts_of<'e>(edit: &FieldEdit<'e>) -> (&'e str, &'e str) {
     }
 }
 
-// Returns the texts of an edit of the selected entries: two for an edit of a field, one for the name of a field that is removed, and none
-// for the removal of the entries. A missing text is empty.
+// Returns the texts of an edit of the selected entries. An edit of a field has two, the removal of a field one, which is its name, and the
+// removal of the entries none. A missing text is empty.
 fn texts_of_change<'e>(change: &SelectedEdit<'e>) -> (&'e str, &'e str) {
     match change {
         SelectedEdit::Field(edit) => texts_of(edit),
