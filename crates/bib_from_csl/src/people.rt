@@ -110,7 +110,7 @@ fn particle(uses_prefix: bool, parts: &NameParts) -> &str
     parts.dropping_particle.as_str()
 }
 
-// Returns whether a name is written in BibTeX's format.
+// Returns whether a name with a family name and a given name is written in BibTeX's format.
 #[tactic(auto, unfolding(crate::specs::WrittenPeople::is_bibtex_name))]
 fn is_plain_name(uses_prefix: bool, parts: &NameParts) -> bool
     ensures { result ≡ spec.is_bibtex_name uses_prefix parts.now }
