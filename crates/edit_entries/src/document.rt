@@ -89,7 +89,7 @@ impl<'s> RawDocument<'s> {
 
     /// Returns whether a field of an entry or the definition of an abbreviation contains a text in quotes whose braces aren't balanced, as
     /// in `"The {"}Big{"} one"`. BibTeX and Biber end such a text at the first quote outside of braces. This library and bibtool end it
-    /// at the first quote that no backslash escapes. So the end of the text depends on the program, and an edit can break it.
+    /// at the first quote that no backslash escapes. So the end of the text can depend on the program, and an edit can break it.
     pub fn has_unbalanced_quotes(&self) -> bool
         ensures { result ≡ quotes.has_unbalanced_quotes self.now }
     {
