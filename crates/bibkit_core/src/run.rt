@@ -272,7 +272,7 @@ fn run_entries<F: Files, K: Sink, M: Sink>(
     Ok(status)
 }
 
-// Prints entries of files that meet conditions, or their keys, and returns the status.
+// Prints entries of files that conditions select, or their keys, and returns the status.
 fn run_selected<F: Files, K: Sink, M: Sink>(
     alloc: Global,
     selected: &Selected<'_>,
