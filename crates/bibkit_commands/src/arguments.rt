@@ -57,13 +57,13 @@ pub enum Asked<'a> {
     },
     /// Prints the entries that the document of this .aux or .bcf file cites.
     Cited(&'a str),
-    /// Prints the entries that meet conditions, or their keys.
+    /// Prints the entries that conditions select, or their keys (see `selecting`).
     Select(Selecting<'a>),
-    /// Prints entries of files that meet conditions, or their keys.
+    /// Prints entries of files that conditions select, or their keys.
     Entries {
         /// The conditions, all of which an entry must meet.
         conditions: Vec<&'a str>,
-        /// The keys of the entries to print. If it is `None`, the keys of all entries that meet the conditions are printed.
+        /// The keys of the entries to print. If it is `None`, the keys of all selected entries are printed.
         keys: Option<Vec<&'a str>>,
     },
     /// Runs another request.

@@ -1,4 +1,5 @@
-//! Prints the entries that meet conditions, and edits them.
+//! Prints the entries that conditions select, and edits them. An entry is selected if its key is that of an entry that meets all
+//! conditions.
 
 use crate::edits::{Editing, after_mark, apply};
 use crate::stops::{Stop, bytes_of, output_stop, say};
@@ -34,7 +35,7 @@ pub struct Printed {
     pub has_keys: bool,
 }
 
-/// An edit of the entries that meet conditions.
+/// An edit of the selected entries.
 #[derive(Clone, Copy)]
 pub enum SelectedEdit<'a> {
     /// Edits a field of each of these entries.
@@ -96,7 +97,7 @@ fn selected_text(
     Ok((found.text, found.has_entry))
 }
 
-// Prints the entries of a file that meet all conditions. Returns whether there is one.
+// Prints the selected entries of a file, as `printed` requests. Returns whether there is one.
 fn select_file<K: Sink>(
     rt: &HostRuntime,
     selections: &[Selection],
@@ -114,7 +115,7 @@ fn select_file<K: Sink>(
     }
 }
 
-// Prints the entries of files that meet all conditions, and returns the greatest status, which is at least 1 if no entry meets them.
+// Prints the selected entries of files, and returns the greatest status, which is at least 1 if no entry is selected.
 fn select_files(rt: &HostRuntime, selecting: &Selecting<'_>, names: &[&str]) -> Result<u8, Stop> {
     let selections = parse_conditions(rt.alloc(), &selecting.conditions)?;
     let mut output = Output::new(io::writer(rt));
@@ -133,7 +134,7 @@ fn select_files(rt: &HostRuntime, selecting: &Selecting<'_>, names: &[&str]) -> 
     }
 }
 
-/// Prints the entries of files that meet all conditions, and returns the status.
+/// Prints the selected entries of files, and returns the status.
 pub fn run_select(rt: &HostRuntime, selecting: &Selecting<'_>, names: &[&str]) -> u8 {
     match select_files(rt, selecting, names) {
         Ok(status) => status,
@@ -219,7 +220,7 @@ fn push_change<'e>(
     Ok(())
 }
 
-// Edits the entries of a file's text that meet all conditions.
+// Edits the selected entries of a file's text.
 fn edit_text(
     rt: &HostRuntime,
     editing: &Editing<'_>,
@@ -239,7 +240,7 @@ fn edit_text(
     apply(rt, editing, bytes, &edits)
 }
 
-/// Edits the entries of a file that meet all conditions, by each of these edits in turn.
+/// Edits the selected entries of a file, by each of these edits in turn.
 pub fn edit_selected(
     rt: &HostRuntime,
     editing: &Editing<'_>,

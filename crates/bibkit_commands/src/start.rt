@@ -159,7 +159,7 @@ fn run_named_lint<'a>(
     run_lint(rt, settings, cited, conditions, names, name)
 }
 
-// Prints entries of files that meet conditions, or their keys, and returns the status.
+// Prints entries of files that conditions select, or their keys, and returns the status.
 fn run_selected<'a>(
     rt: &HostRuntime,
     conditions: &[&str],
