@@ -26,7 +26,7 @@ fn sign_named(name: &str) -> Option<&'static str>
     }
 }
 
-// Returns whether a command changes the font up to the end of its group, or has no output at all.
+// Returns whether a command is left out: `\relax`, or one of these that change the font up to the end of the group.
 #[tactic(auto, unfolding(crate::specs::Markup::is_silent))]
 fn is_silent(name: &str) -> bool
     ensures { result ≡ spec.is_silent name.now }

@@ -167,7 +167,7 @@ fn add_names_of(
     }
 }
 
-// Returns whether an option of an entry says that prefixes are part of family names.
+// Returns whether an option of an entry is `useprefix`, `useprefix=true` or `useprefix = true`: prefixes are then part of family names.
 #[tactic(auto, unfolding(crate::specs::People::is_prefix_option))]
 fn is_prefix_option(alloc: Global, option: ChunksRef<'_>) -> Result<bool, AllocError>
     ensures { IfOk result (λ is. is ≡ spec.is_prefix_option (text option.now)) }

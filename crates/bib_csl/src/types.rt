@@ -17,8 +17,8 @@ fn type_of_article(subtype: &str) -> ItemType
     }
 }
 
-/// Returns the type of the item of an entry whose type is unknown and has this name: a type for some other types of BibLaTeX, such as
-/// `movie`, and `Document` for any other name.
+/// Returns the type of the item of an entry with an unknown type of this name. Some other types of BibLaTeX, such as `movie`, have an
+/// item type. Any other name has `Document`.
 #[tactic(auto, unfolding(crate::specs::Types::item_type_named))]
 pub fn item_type_named(name: &str) -> ItemType
     ensures { result ≡ item_type_named name.now }

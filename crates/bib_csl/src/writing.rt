@@ -112,7 +112,7 @@ fn write_month(out: &mut Writer, month: Option<u16>, day: Option<u16>) -> Result
     write_day(out, day)
 }
 
-// Writes an array with the year, the month and the day.
+// Writes an array with the year, the month if there is one, and its day if there is one.
 fn write_date_parts(out: &mut Writer, parts: &DateParts) -> Result<(), AllocError>
     ensures written { OnOk result (out.new.tokens ≡ out.old.tokens ++ tokens_of (json.date_parts_json parts.now)) }
     ensures before { out.new.before ≡ out.old.before }

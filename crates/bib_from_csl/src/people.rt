@@ -110,7 +110,7 @@ fn particle(uses_prefix: bool, parts: &NameParts) -> &str
     parts.dropping_particle.as_str()
 }
 
-// Returns whether a name is written in BibTeX's format.
+// Returns whether a name with a family name and a given name is written in BibTeX's format.
 #[tactic(auto, unfolding(crate::specs::WrittenPeople::is_bibtex_name))]
 fn is_plain_name(uses_prefix: bool, parts: &NameParts) -> bool
     ensures { result ≡ spec.is_bibtex_name uses_prefix parts.now }
@@ -186,7 +186,8 @@ fn whole_prefix(alloc: Global, parts: &NameParts) -> Result<Text, AllocError>
     Ok(text)
 }
 
-// Returns `true` or `false` as the prefix is part of the family name or not, or an empty text without a prefix.
+// Returns `true` if the name has a prefix that is part of the family name, `false` if it only has another prefix, and an empty text if it
+// has none.
 #[tactic(auto, unfolding(crate::specs::WrittenPeople::prefix_flag))]
 fn prefix_flag(parts: &NameParts) -> &'static str
     ensures { result.now ≡ spec.prefix_flag parts.now }

@@ -20,7 +20,8 @@ use std::marker::Model;
 pub enum Case {
     /// In lower case, such as `{author}`.
     Lower,
-    /// With the first character of each word in upper case, such as `{Author}`. Other characters keep their case.
+    /// With the first character of each family name or word of the title in upper case, such as `{Author}`. Other characters keep their
+    /// case.
     Capital,
     /// In upper case, such as `{AUTHOR}`.
     Upper,
@@ -58,10 +59,10 @@ impl Model for KeyPattern {
 }
 
 impl KeyPattern {
-    /// Parses a pattern. A placeholder is `{author}`, `{title}` or `{year}`; the first two also in the forms `{Author}` and
-    /// `{AUTHOR}`, and with a number from 1 to 9, as `{author:3}`; the year also as `{year:2}`. All other characters are copied
-    /// to the key, except for a hyphen after a hyphen. The error is the first character that isn't allowed in a key, or the first
-    /// opening brace that doesn't begin a placeholder, or out of memory.
+    /// Parses a pattern. A placeholder is `{author}`, `{title}` or `{year}`. The first two also have the forms `{Author}` and
+    /// `{AUTHOR}`, and may have a number from 1 to 9, such as `{author:3}`. The year may have the number 2: `{year:2}`. All other
+    /// characters are copied to the key, except for a hyphen after a hyphen. The error is the first character that isn't allowed in a
+    /// key, or the first opening brace that doesn't begin a placeholder, or out of memory.
     pub fn parse(alloc: Global, text: &str) -> Result<KeyPattern, PatternError>
         ensures found { IfOk result (λ pattern. IsPattern pattern text.now) }
         ensures refused { IfErr result (IsPatternError text.now) }
@@ -70,10 +71,9 @@ impl KeyPattern {
         Ok(KeyPattern { parts })
     }
 
-    /// Returns one key for each entry, in the order of `entries`. A key depends on the fields of entries, not on their old keys.
-    /// If the text that the pattern gives for an entry is the key of an entry before it, in any ASCII case, the first of the suffixes
-    /// `a`, `b`, .., `z`, `aa`, .. that gives a new key is appended. If the text has no letter and no digit, it is replaced by `nokey`.
-    /// The only error is out of memory.
+    /// Returns one key for each entry, in the order of `entries`. A key depends on the fields of entries, not on their old keys. It is
+    /// the text that the pattern gives, or `nokey` if that text has no letter and no digit. If an earlier entry has this key, in any
+    /// ASCII case, a suffix is appended: the first of `a`, `b`, .., `z`, `aa`, .. that gives a new key. The only error is out of memory.
     pub fn keys(&self, alloc: Global, entries: &[Entry]) -> Result<Vec<Text>, AllocError>
         ensures keys { IfOk result (λ keys. AreKeys self.now entries.now keys.items) }
         ensures distinct { IfOk result (λ keys. AreDistinct keys.items) }

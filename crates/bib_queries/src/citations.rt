@@ -220,8 +220,8 @@ impl Collected {
     }
 }
 
-/// Returns the citations of an .aux file: the keys in the last argument of each `\citation`, which LaTeX and natbib write, and of
-/// each `\abx@aux@cite`, which BibLaTeX writes. Such a command is at the start of a line and has one or two arguments.
+/// Returns the citations of an .aux file: the keys in the last argument of each `\citation` and `\abx@aux@cite`. LaTeX and natbib
+/// write the former, and BibLaTeX the latter. Such a command is at the start of a line and has one or two arguments.
 pub fn in_aux(alloc: Global, text: &str) -> Result<Citations, AllocError>
     ensures { IfOk result (AreAuxCitations text.now) }
 {

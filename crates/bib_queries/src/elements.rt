@@ -11,8 +11,8 @@ use crate::lines::after_prefix;
 use crate::names::{push_filled, push_parts};
 use std::alloc::{AllocError, Global};
 
-// Returns the character of the XML escape whose name begins `text`, and the text after it, or an ampersand and all of `text` if
-// it begins with no such name.
+// If `text` begins with the name of an XML escape and its semicolon, returns its character and the text after them. Otherwise returns an
+// ampersand and all of `text`.
 fn escape(text: &str) -> (&str, &str)
     ensures { result.0.now ++ result.1.now ≡ spec.unescaped_piece text.now }
 {

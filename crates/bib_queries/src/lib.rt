@@ -6,7 +6,7 @@
 //!
 //! Entries and abbreviations are nodes: they have names and refer to names. `needed` marks the needed nodes. Its map
 //! contains the indices of the nodes with each name. Its stack contains the marked nodes whose references are not
-//! looked up yet. Looking up a name removes it from the map, so that no name is looked up twice.
+//! looked up yet. Looking up a name removes it from the map, so that its indices are visited only once.
 #![tactic(auto)]
 
 pub mod citations;

@@ -88,8 +88,8 @@ fn mark_all(
     Ok(())
 }
 
-// Marks the nodes with a name, and appends those that had no mark to `pending`. Removes the name from `holders`, so that no name is
-// looked up twice.
+// Marks the nodes with a name, and appends those that had no mark to `pending`. Removes the name from `holders`, so that its indices
+// are visited only once.
 fn mark_name(
     alloc: Global,
     holders: &mut BTreeMap<&str, Vec<usize>>,

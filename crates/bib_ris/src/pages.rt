@@ -42,7 +42,7 @@ fn all_digits(alloc: Global, text: &str) -> Result<String, AllocError>
     text.chars().filter(|c| c.is_ascii_digit()).collect(alloc)
 }
 
-// Appends the lines of the first and the last page of a text that is one range.
+// Appends the lines of the first and the last page of a text that is one range. One page only has the first of these lines.
 fn push_range(out: &mut String, alloc: Global, text: &str) -> Result<(), AllocError>
     ensures { OnOk result (string_bytes out.new ≡ string_bytes out.old ++ spec.range_lines text.now) }
 {
@@ -52,7 +52,7 @@ fn push_range(out: &mut String, alloc: Global, text: &str) -> Result<(), AllocEr
     push_given(out, "EP", last.as_str())
 }
 
-/// Appends the lines of the first and the last page of one range, or else a line with the text.
+/// Appends the lines of the first and the last page of one range, or the line of one page, or else a line with the text.
 pub(crate) fn push_pages(
     out: &mut String,
     alloc: Global,

@@ -184,7 +184,7 @@ fn raw_test_at<'s>(question: Question<'s>, placed: &Placed<'s>) -> Option<RawTes
     }
 }
 
-// Returns the number that a text spells in decimal digits, with or without a sign, if it fits in 64 bits.
+// Returns the number that a text spells in decimal digits, with or without a sign, if it is an `i64`.
 fn decimal(text: &str) -> Option<i64>
     ensures { result ≡ decimal_of text.now }
 {

@@ -57,13 +57,13 @@ pub enum Asked<'a> {
     },
     /// Prints the entries that the document of this .aux or .bcf file cites.
     Cited(&'a str),
-    /// Prints the entries that meet conditions, or their keys.
+    /// Prints the entries that conditions select, or their keys (see `selecting`).
     Select(Selecting<'a>),
-    /// Prints entries of files that meet conditions, or their keys.
+    /// Prints entries of files that conditions select, or their keys.
     Entries {
         /// The conditions, all of which an entry must meet.
         conditions: Vec<&'a str>,
-        /// The keys of the entries to print. If it is `None`, the keys of all entries that meet the conditions are printed.
+        /// The keys of the entries to print. If it is `None`, the keys of all selected entries are printed.
         keys: Option<Vec<&'a str>>,
     },
     /// Runs another request.
@@ -352,8 +352,8 @@ fn matches<'a>(alloc: Global, words: &'a [String]) -> Result<ArgMatches<'a>, Err
 }
 
 /// Parses a command line. Its first word is the name of the program. Fails with the requested help or version, with the reason why clap
-/// refuses the command line, or if out of memory. Some wrong command lines are parsed: `asked` is then `Asked::Wrong` or
-/// `Asked::WrongOrder`, or edits with a word that has no equals sign.
+/// refuses the command line, or if out of memory. Some wrong command lines are parsed, for example as `Asked::Wrong` or
+/// `Asked::WrongOrder`, and refused when they are run.
 pub fn read<'a>(alloc: Global, words: &'a [String]) -> Result<Words<'a>, Error> {
     let matches = matches(alloc, words)?;
     let words = parse_matches(alloc, &matches)?;

@@ -265,8 +265,8 @@ fn cited_status(rt: &HostRuntime, document: &str, given: &[&str]) -> Result<u8, 
     Ok(status.max(whole.status))
 }
 
-/// Prints the entries of files that a document cites, and returns the status. The files are those with the names `given`, or those that
-/// the document names if `given` is empty.
+/// Prints the entries of files that a document cites, and returns the status. The files are those with the names `given`. If `given` is
+/// empty, they are those that the document names, or standard input if it names none.
 pub fn run_cited(rt: &HostRuntime, document: &str, given: &[&str]) -> u8 {
     match cited_status(rt, document, given) {
         Ok(status) => status,

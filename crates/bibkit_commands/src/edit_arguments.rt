@@ -114,7 +114,7 @@ fn push_unset_edits<'a>(
     Ok(())
 }
 
-// Returns the edits of `remove`: they remove the entries that meet the conditions of `--where`, or without it the entries with the keys.
+// Returns the edits of `remove`: they remove the entries that `--where` selects, or without it the entries with the keys.
 fn removal_edits<'a>(alloc: Global, matches: &ArgMatches<'a>) -> Result<Edits<'a>, AllocError> {
     let conditions = texts(alloc, matches, "where")?;
     if !conditions.is_empty() {

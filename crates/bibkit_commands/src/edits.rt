@@ -34,7 +34,7 @@ pub enum Edits<'a> {
         /// The minimum number of fields with the same text.
         at_least: usize,
     },
-    /// Edits the entries that meet conditions.
+    /// Edits the entries that conditions select (see `selecting`).
     Selected {
         /// The conditions, all of which an entry must meet.
         conditions: Vec<&'a str>,

@@ -177,7 +177,8 @@ fn would_be_empty(entry: &RawEntry<'_>, keys: &[&str], field: &str) -> bool {
             .all(|own| own.key.v.eq_ignore_ascii_case(field))
 }
 
-// Returns the message for the error `why` of unsetting a field of the entries with these keys, with the first key to which it applies.
+// Returns the message for the error `why` of unsetting a field of the entries with these keys. It has the first key of an entry in `src` to
+// which the error applies, if there is one.
 fn unset_line(
     alloc: Global,
     name: &str,
@@ -241,7 +242,8 @@ fn kept_names<'s>(
     Ok(kept)
 }
 
-// Returns the message for the error `KeyIsThere` of giving entries these keys, with the first key that an entry has already.
+// Returns the message for the error `KeyIsThere` of giving entries these keys. It has the first new key that is a name that an entry keeps,
+// if there is one.
 fn taken_key_line(
     alloc: Global,
     name: &str,

@@ -1,4 +1,5 @@
-//! Prints the entries that meet conditions, and edits them.
+//! Prints the entries that conditions select, and edits them. An entry is selected if its key is that of an entry that meets all
+//! conditions.
 
 use crate::edits::{Editing, after_mark, apply};
 use crate::joining::joined;
@@ -35,7 +36,7 @@ pub struct Printed {
     pub has_keys: bool,
 }
 
-/// An edit of the entries that meet conditions.
+/// An edit of the selected entries.
 #[derive(Clone, Copy)]
 pub enum SelectedEdit<'a> {
     /// Edits a field of each of these entries.
@@ -97,7 +98,7 @@ fn selected_text(
     Ok((found.text, found.has_entry))
 }
 
-// Prints the entries of a text that meet all conditions. Returns whether there is one.
+// Prints the selected entries of a text, as `printed` requests. Returns whether there is one.
 fn select_text<K: Sink>(
     alloc: Global,
     selections: &[Selection],
@@ -113,7 +114,7 @@ fn select_text<K: Sink>(
     }
 }
 
-// Prints the entries of a file that meet all conditions. Returns whether there is one.
+// Prints the selected entries of a file, as `printed` requests. Returns whether there is one.
 fn select_file<K: Sink>(
     rt: &HostRuntime,
     selections: &[Selection],
@@ -126,7 +127,7 @@ fn select_file<K: Sink>(
     select_text(rt.alloc(), selections, printed, &decoded.text, output)
 }
 
-// Prints the entries of files as one database that meet all conditions. Returns whether there is one, and the status of reading the files.
+// Prints the selected entries of files as one database. Returns whether there is one, and the status of reading the files.
 fn select_joined<K: Sink>(
     rt: &HostRuntime,
     selections: &[Selection],
@@ -139,7 +140,7 @@ fn select_joined<K: Sink>(
     Ok((is_found, joined.status))
 }
 
-// Prints the entries of each file that meet all conditions. Returns whether there is one, and the greatest status of the files.
+// Prints the selected entries of each file. Returns whether there is one, and the greatest status of the files.
 fn select_each<K: Sink>(
     rt: &HostRuntime,
     selections: &[Selection],
@@ -158,8 +159,8 @@ fn select_each<K: Sink>(
     (is_found, status)
 }
 
-// Prints the entries of files that meet all conditions, and returns the greatest status, which is at least 1 if no entry meets them. With
-// the definitions and entries that they use, several files are one database.
+// Prints the selected entries of files, and returns the greatest status, which is at least 1 if no entry is selected. With the definitions
+// and entries that they use, several files are one database.
 fn select_files(rt: &HostRuntime, selecting: &Selecting<'_>, names: &[&str]) -> Result<u8, Stop> {
     let selections = parse_conditions(rt.alloc(), &selecting.conditions)?;
     let printed = selecting.printed;
@@ -176,7 +177,7 @@ fn select_files(rt: &HostRuntime, selecting: &Selecting<'_>, names: &[&str]) -> 
     }
 }
 
-/// Prints the entries of files that meet all conditions, and returns the status.
+/// Prints the selected entries of files, and returns the status.
 pub fn run_select(rt: &HostRuntime, selecting: &Selecting<'_>, names: &[&str]) -> u8 {
     match select_files(rt, selecting, names) {
         Ok(status) => status,
@@ -202,8 +203,8 @@ fn texts_of<'e>(edit: &FieldEdit<'e>) -> (&'e str, &'e str) {
     }
 }
 
-// Returns the texts of an edit of the selected entries: two for an edit of a field, one for the name of a field that is removed, and none
-// for the removal of the entries. A missing text is empty.
+// Returns the texts of an edit of the selected entries. An edit of a field has two, the removal of a field one, which is its name, and the
+// removal of the entries none. A missing text is empty.
 fn texts_of_change<'e>(change: &SelectedEdit<'e>) -> (&'e str, &'e str) {
     match change {
         SelectedEdit::Field(edit) => texts_of(edit),
@@ -262,7 +263,7 @@ fn push_change<'e>(
     Ok(())
 }
 
-// Edits the entries of a file's text that meet all conditions.
+// Edits the selected entries of a file's text.
 fn edit_text(
     rt: &HostRuntime,
     editing: &Editing<'_>,
@@ -282,7 +283,7 @@ fn edit_text(
     apply(rt, editing, bytes, &edits)
 }
 
-/// Edits the entries of a file that meet all conditions, by each of these edits in turn.
+/// Edits the selected entries of a file, by each of these edits in turn.
 pub fn edit_selected(
     rt: &HostRuntime,
     editing: &Editing<'_>,

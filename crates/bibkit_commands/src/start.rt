@@ -29,8 +29,8 @@ fn words(rt: &HostRuntime) -> io::Result<Vec<String>> {
     Ok(words)
 }
 
-// Prints the requested help or version, or the error of the command line, and returns the status: 0 for help and the version, 2 for an
-// error, 3 if out of memory. If printing fails, the status is 2.
+// Prints the requested help or version, or the error of the command line. Returns the status: 0 for help and the version, 2 for an error
+// or if printing fails, 3 if out of memory.
 fn refuse(rt: &HostRuntime, error: &clap::Error) -> u8 {
     if error.kind() == ErrorKind::OutOfMemory {
         return out_of_memory(rt);
@@ -159,7 +159,7 @@ fn run_named_lint<'a>(
     run_lint(rt, settings, cited, conditions, names, name)
 }
 
-// Prints entries of files that meet conditions, or their keys, and returns the status.
+// Prints entries of files that conditions select, or their keys, and returns the status.
 fn run_selected<'a>(
     rt: &HostRuntime,
     conditions: &[&str],

@@ -161,7 +161,7 @@ impl<'t> Document<'t> {
         })
     }
 
-    /// Returns the name and the bytes of the file of the document, for the positions of findings in it.
+    /// Returns the name of the document's file, and the bytes of its decoded text, for the positions of findings in it.
     pub fn origin(&self) -> Origin<'t>
         ensures name { result.name.now ≡ self.now.name.now }
         ensures bytes { result.bytes.now ≡ self.now.text.now }

@@ -406,8 +406,8 @@ fn about_selected(
     Ok(kept)
 }
 
-/// Returns the findings of a text that are reported: all without conditions, otherwise those that are about entries whose key is that of
-/// an entry that meets all conditions. The only error is out of memory.
+/// Returns the findings of a text that are reported. Without conditions, these are all findings. Otherwise, they are those about entries
+/// whose key is that of an entry that meets all conditions. The only error is out of memory.
 pub fn reported_findings(
     alloc: Global,
     conditions: &[Selection],

@@ -150,9 +150,9 @@ fn print_unread(
     print_findings(alloc, printed, lint, origin, &kept)
 }
 
-/// Appends the selected findings of a file to `printed`, and counts them: the finding that the file isn't UTF-8, if it isn't, and then the
-/// findings of its decoded text. If there are conditions, only findings about entries whose key is that of an entry that meets all of them
-/// are appended. The first finding has its position in the file's bytes, and the others have theirs in the decoded text.
+/// Appends the selected findings of a file to `printed`, and counts them. If the file isn't UTF-8, a finding says so first, with its
+/// position in the file's bytes. The findings of the decoded text follow, with their positions in this text. If there are conditions,
+/// only findings about entries whose key is that of an entry that meets all of them are appended.
 pub fn print_file(
     alloc: Global,
     printed: &mut Printed,

@@ -116,8 +116,8 @@ fn opening(style: Style) -> &'static str
     }
 }
 
-// Returns the text after all findings: the line with the counts in the styles `Plain` and `Colored`, the end of the array in JSON, or of
-// the document for Checkstyle and SARIF. It is empty in the other styles.
+// Returns the text after all findings. It is the line with the counts in the styles `Plain` and `Colored`, the end of the array in JSON,
+// and the end of the document for Checkstyle and SARIF. In the other styles, it is empty.
 fn closing(alloc: Global, style: Style, tally: Tally) -> Result<String, AllocError>
     ensures { IfOk result (λ text. IsEndOfFindings style tally (string_bytes text)) }
 {

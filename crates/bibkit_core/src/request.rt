@@ -62,12 +62,13 @@ pub struct Lint<'a> {
     pub conditions: Vec<Condition>,
 }
 
-/// The conditions on entries of files, and the output for the entries that meet them.
+/// The conditions on entries of files, and the output for the entries that they select: those with the key of an entry that meets all
+/// conditions.
 #[derive(Drop)]
 pub struct Selected<'a> {
     /// The conditions, all of which an entry must meet.
     pub conditions: Vec<Condition>,
-    /// The keys of the entries to print. If it is `None`, the keys of all entries that meet the conditions are printed.
+    /// The keys of the entries to print. If it is `None`, the keys of all selected entries are printed.
     pub keys: Option<Vec<&'a str>>,
 }
 
@@ -80,7 +81,7 @@ pub enum Request<'a> {
     Explain(Code),
     /// Prints entries of files, or their keys.
     Entries(Excerpts<'a>),
-    /// Prints entries of files that meet conditions, or their keys.
+    /// Prints entries of files that conditions select, or their keys.
     Selected(Selected<'a>),
     /// Prints the entries that the document of this .aux or .bcf file cites, and everything that they refer to, transitively.
     Cited(&'a str),

@@ -272,7 +272,7 @@ fn run_entries<F: Files, K: Sink, M: Sink>(
     Ok(status)
 }
 
-// Prints entries of files that meet conditions, or their keys, and returns the status.
+// Prints entries of files that conditions select, or their keys, and returns the status.
 fn run_selected<F: Files, K: Sink, M: Sink>(
     alloc: Global,
     selected: &Selected<'_>,
@@ -402,7 +402,7 @@ fn answer<F: Files, K: Sink, M: Sink>(
     }
 }
 
-/// Runs a request, and returns the status:
+/// Runs a request, and returns the greatest status that applies:
 /// - 0: done.
 /// - 1: `lint` printed findings of the severities that `fail_on` names, or a search found nothing.
 /// - 2: a file can't be read, or the output refused a text.

@@ -1,4 +1,4 @@
-//! The task that prints entries of files that meet conditions, or their keys.
+//! The task that prints entries of files that conditions select, or their keys.
 
 ghost use Rattle.std.specs.Prelude.{◌≡◌, ◌==◌, length, map, not, IfOk};
 ghost use Rattle.std.specs.String.{string_bytes};
@@ -17,7 +17,7 @@ use bib_queries::request::Request as Excerpts;
 use biblatex::{RawBibliography, RawEntry, Spanned};
 use std::alloc::{AllocError, Global};
 
-/// Prints entries of files that meet conditions, or their keys.
+/// Prints entries of files that conditions select, or their keys.
 #[derive(Drop)]
 pub struct Selecting<'r, 'a> {
     selected: &'r Selected<'a>,

@@ -135,7 +135,7 @@ pub enum Refusal {
         entry: usize,
     },
     /// Any edit except [`Edit::Format`] is refused: a field or a definition contains a text in quotes whose braces aren't balanced, such as
-    /// `"The {"}Big{"} one"`. BibTeX and Biber end such a text elsewhere, so they parse it and the text after it differently.
+    /// `"The {"}Big{"} one"`. BibTeX and Biber may end such a text elsewhere, and then parse it and the text after it differently.
     UnbalancedQuotes {
         /// The index of the edit, from 0.
         index: usize,

@@ -114,8 +114,8 @@ fn expand_document(alloc: Global, document: &RawDocument<'_>) -> Result<String, 
     expand(alloc, document)
 }
 
-// Returns the text of a document with abbreviations for texts that occur in at least `at_least` (and two) fields with these names. Fails
-// only if out of memory.
+// Returns the text of a document with abbreviations for texts that occur in at least `at_least` fields with these names. A number below 2
+// counts as 2. Fails only if out of memory.
 fn collect_texts(
     alloc: Global,
     document: &RawDocument<'_>,

@@ -344,8 +344,8 @@ fn settings_in<R: Files + AllocGlobal>(
 
 /// Returns the settings for the command `reader` from the project of the file `name`. They are in `bibkit.toml` in the folder of
 /// the file, or in the nearest folder above that has such a file. Returns settings of which none is set if there is no such file, or if
-/// the folder of `name` can't be resolved. For `-` the search starts at the current folder. Fails if the file can't be read or has an
-/// error.
+/// the folder of `name` can't be resolved. For `-` the search starts at the current folder. Fails if `bibkit.toml` can't be read or has
+/// an error.
 pub fn project_settings<R: Files + AllocGlobal>(
     rt: &R,
     reader: Reader,

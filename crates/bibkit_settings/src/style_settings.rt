@@ -34,7 +34,7 @@ pub struct StyleSettings<'a> {
     pub aligned: Option<bool>,
     /// Whether a comma follows the last field of an entry.
     pub trailing_comma: Option<bool>,
-    /// The number of blank lines between two entries, or `Some(None)` to keep the text between them.
+    /// The number of blank lines between two entries, or `Some(None)` to keep the white space between them.
     pub blank_lines: Option<Option<usize>>,
     /// The delimiters of literals in values.
     pub delimiters: Option<Delimiters>,

@@ -40,7 +40,7 @@ pub enum Status {
     /// The value is neither a number nor an abbreviation that is a month or is defined before the entry.
     NotBare,
     /// A field or a definition of the text to edit or to add contains a text in quotes whose braces aren't balanced, such as
-    /// `"The {"}Big{"} one"`. BibTeX and Biber end such a text elsewhere, so they parse it and the text after it differently.
+    /// `"The {"}Big{"} one"`. BibTeX and Biber may end such a text elsewhere, and then parse it and the text after it differently.
     UnbalancedQuotes,
 }
 

@@ -87,7 +87,7 @@ fn only_beyond_ascii(c: Option<char>) -> Option<char>
     }
 }
 
-/// Returns a character and a mark as one character beyond ASCII, if NFC has one.
+/// Returns a character and a mark as one character beyond ASCII, if NFC has one. A dotless i or j counts as i or j.
 pub(crate) fn composed(alloc: Global, mark: char, c: char) -> Result<Option<char>, AllocError>
     ensures { IfOk result (λ found. found ≡ spec.composed mark c) }
 {

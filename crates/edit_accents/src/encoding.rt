@@ -242,8 +242,9 @@ fn push_character(
     Ok(())
 }
 
-/// Returns a text with commands for the characters beyond ASCII that have one. Math, addresses, keys, arguments of accents,
-/// escaped characters and characters before a combining character stay the same. The only error is out of memory.
+/// Returns a text with commands for the characters beyond ASCII that have one. Math between dollar signs, addresses, keys, characters
+/// on which a command puts an accent, escaped characters and characters before a combining character stay the same. The only error is
+/// out of memory.
 pub(crate) fn with_commands(alloc: Global, text: &str) -> Result<String, AllocError>
     ensures { IfOk result (λ new. string_bytes new ≡ encode_utf8_all (spec.with_commands (chars text.now))) }
 {

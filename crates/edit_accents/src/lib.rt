@@ -2,8 +2,8 @@
 //!
 //! For characters, a text is cut into *signs* (`signs`): backslashes that begin commands, braces, and plain characters. The signs are
 //! reduced from the last to the first (`decoding`), in place: a command that becomes a character takes the signs after it with it. So an
-//! accent is put on a character that an inner command became, without recursion, and each sign is looked at a bounded number of times. At
-//! last the signs are written (`writing`). The braces around such a character are kept only if a command may take them as an argument.
+//! accent is put on a character that an inner command became, without recursion, and each sign is looked at a bounded number of times.
+//! Then the signs are written (`writing`). The braces around such a character are kept only if a command may take them as an argument.
 //!
 //! For commands, each character of text becomes one (`encoding`) if it is a letter with a command. It also does if its canonical
 //! decomposition is an ASCII letter or such a letter, and the mark of one accent. An i or a j with an accent that programs read in

@@ -200,7 +200,7 @@ fn lent<'p, 's>(
     Ok(lent)
 }
 
-// Returns whether a field with a name is one of another program, whose value also occurs elsewhere.
+// Returns whether a field with a name is one of four fields of other programs, whose values also occur elsewhere.
 fn is_program_field(name: &str) -> bool
     ensures { result ≡ spec.is_program_field name.now }
 {
@@ -325,7 +325,7 @@ fn edits(
 
 /// Returns the text of `document` with the accents and letters beyond ASCII in its entries written in the form `form`. LaTeX
 /// commands become characters, or characters become LaTeX commands. Verbatim fields, fields with keys or keywords, fields of other
-/// programs, math, and addresses and keys in commands stay the same. The only error is out of memory.
+/// programs, math between dollar signs, and addresses and keys in commands stay the same. The only error is out of memory.
 pub fn recode(alloc: Global, document: &RawDocument<'_>, form: Form) -> Result<String, AllocError>
     ensures { IfOk result (λ new. IsRecoded form document.now (string_bytes new)) }
 {

@@ -14,9 +14,9 @@ use std::alloc::{AllocError, Global};
 pub enum Sign {
     /// The backslash that begins a command.
     Command,
-    /// An opening brace.
+    /// An opening brace that no backslash escapes.
     Opening,
-    /// A closing brace.
+    /// A closing brace that no backslash escapes.
     Closing,
     /// Any other character.
     Plain(char),
@@ -33,7 +33,7 @@ pub enum Stretch {
     Text,
     /// Text after the name of an accent, before its argument.
     Accent,
-    /// Math.
+    /// Math between dollar signs.
     Math,
     /// The name of a command, its optional arguments, and the address or the key that is its argument, with the number of open braces. An
     /// optional argument before them counts as one.

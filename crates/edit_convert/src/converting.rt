@@ -149,7 +149,7 @@ fn type_if_named(printed: Option<Printed>, field: &Pair<'_>) -> Option<Printed>
     }
 }
 
-// Adds the edit of a field that keeps its name, if it is replaced.
+// Adds the edit of a field that gets no other name and isn't joined to a date, if it is replaced: of a field `type` or `date`.
 fn push_value_edit(
     edits: &mut Vec<Edit>,
     alloc: Global,
@@ -194,7 +194,7 @@ fn push_field_edit(
     }
 }
 
-// Adds the edit of a field that is kept, with a field `type` before it.
+// Adds the edit that writes a field `type` before a field that is kept.
 fn push_missing_type(
     edits: &mut Vec<Edit>,
     alloc: Global,

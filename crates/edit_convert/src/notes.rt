@@ -295,7 +295,7 @@ fn entry_notes(
 ///
 /// In both dialects, a field has a note if it keeps its name because its entry has a field with the dialect's name for it. For BibLaTeX, a
 /// month has a note if it isn't joined with a year. For BibTeX, a date has a note if it isn't divided, or if it is divided and has a day or
-/// a second side. So has any other field that no standard style reads and that isn't replaced.
+/// a second side. For BibTeX, any other field that no standard style reads and that isn't replaced has a note, too.
 ///
 /// # Errors
 ///

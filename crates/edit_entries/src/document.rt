@@ -89,7 +89,7 @@ impl<'s> RawDocument<'s> {
 
     /// Returns whether a field of an entry or the definition of an abbreviation contains a text in quotes whose braces aren't balanced, as
     /// in `"The {"}Big{"} one"`. BibTeX and Biber end such a text at the first quote outside of braces. This library and bibtool end it
-    /// at the first quote that no backslash escapes. So the end of the text depends on the program, and an edit can break it.
+    /// at the first quote that no backslash escapes. So the end of the text can depend on the program, and an edit can break it.
     pub fn has_unbalanced_quotes(&self) -> bool
         ensures { result ≡ quotes.has_unbalanced_quotes self.now }
     {
@@ -97,19 +97,19 @@ impl<'s> RawDocument<'s> {
             || have_unbalanced_quote(self.text, &self.raw.abbreviations)
     }
 
-    /// Returns the text with the value of a field of the first entry with `key`: each field with `name`, in any ASCII case, gets `value`. A
-    /// text is written in braces, a number or the name of an abbreviation as it is. BibTeX reads the first of several fields with one
-    /// name, Biber and this library the last. A field that has only this value is kept. If the entry has no such field, a new one comes
-    /// before the others, laid out like them.
+    /// Returns the text with a field of the first entry with `key` set: each field with `name`, in any ASCII case, gets `value`. A text is
+    /// written in braces, a number or the name of an abbreviation as it is. BibTeX reads the first of several fields with one name, Biber
+    /// and this library the last. A field that already has this value is kept. If the entry has no such field, a new one comes before the
+    /// others, laid out like them.
     ///
     /// # Errors
     ///
     /// `UnknownKey` if no entry has the key; `NotAName` if the entry has no field with `name`, and `name` can't be that of a new field.
     ///
-    /// The other errors occur only if a field with `name` is missing or has another value. `NotInBraces` if a text can't be written in
-    /// braces, for this library or for BibTeX, which also counts a brace after a backslash. `NotBare` if a value without braces is neither
-    /// a number nor an abbreviation that is a month or is defined before the entry. Abbreviations are compared in any ASCII case, and one
-    /// that begins with a digit is `NotBare`, too.
+    /// `NotInBraces` and `NotBare` occur only if a field with `name` is missing or has another value. `NotInBraces` if a text can't be
+    /// written in braces, for this library or for BibTeX, which also counts a brace after a backslash. `NotBare` if a value without braces
+    /// is neither a number nor an abbreviation that is a month or is defined before the entry. Abbreviations are compared in any ASCII
+    /// case, and one that begins with a digit is `NotBare`, too.
     pub fn set_field(
         &self,
         alloc: Global,
@@ -140,9 +140,10 @@ impl<'s> RawDocument<'s> {
     ///
     /// - A comment is after the comma before the field, and a later field has the same name.
     /// - A comment is after the comma before the field, and the next field or the closing brace is on the line on which the field ends.
-    /// - White space other than a space, tab, line feed, form feed or carriage return, such as a no-break space, is between the key and its
-    ///   comma, or between a comment and the comma or closing brace after it. Or such white space is between one of the two commas and the
-    ///   next comment, field or closing brace, and a comment is before the field.
+    /// - Special white space, such as a no-break space, is between the key and its comma, or between a comment and the comma or closing
+    ///   brace after it. Special means: other than a space, tab, line feed, form feed or carriage return.
+    /// - A comment is before the field, and special white space is between one of the two commas and the next comment, field or closing
+    ///   brace. Or special white space follows the value, with neither a comma after it nor a comment on its line.
     ///
     /// # Errors
     ///
@@ -234,9 +235,9 @@ impl<'s> RawDocument<'s> {
     ///
     /// # Errors
     ///
-    /// `UnknownKey` if no entry has the key `old`. `NotAKey` if `old` is empty, or `new` can't be a new key. `KeyIsThere` if `new` is, in
-    /// any ASCII case, the key of another entry or a name in the field `ids` of an entry. `NotInBraces` if a value that changes can't be
-    /// written in braces.
+    /// `UnknownKey` if no entry has the key `old`. The others occur only if `new` isn't `old`: `NotAKey` if `old` is empty, or `new` can't
+    /// be a new key. `KeyIsThere` if `new` is, in any ASCII case, the key of another entry or a name in the field `ids` of an entry.
+    /// `NotInBraces` if a value that changes can't be written in braces.
     pub fn rename_key(&self, alloc: Global, old: &str, new: &str) -> Result<String, EditError>
         ensures renamed { IfOk result (λ text. IsEdited (KeyRenamed self.now old.now new.now) (string_bytes text)) }
         ensures refused { IfErr result (RenameIsRefused self.now old.now new.now) }

@@ -44,8 +44,8 @@ fn is_blank(text: &str) -> bool
     true
 }
 
-// Returns the number of bytes from the start of a name to its equals sign. The field is the first of these with more than one byte
-// between them.
+// Returns the number of bytes from the start of a field's name to its equals sign. The field is the first of these with more than one
+// byte between its name and the sign. Returns `None` if there is no such field.
 fn wide_column(text: &str, fields: &[Pair<'_>]) -> Option<usize>
     requires { AllByRecursion (IsSignPlaced text.now) (map field_of fields.now) }
     ensures { result ≡ spec.wide_column text.now (map field_of fields.now) }
@@ -59,7 +59,7 @@ fn wide_column(text: &str, fields: &[Pair<'_>]) -> Option<usize>
     None
 }
 
-// Appends some spaces.
+// Appends `count` spaces.
 fn push_spaces(out: &mut String, count: usize) -> Result<(), AllocError>
     ensures { OnOk result (string_bytes out.new ≡ string_bytes out.old ++ replicate count char.space) }
 {

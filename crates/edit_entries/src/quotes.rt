@@ -1,4 +1,4 @@
-//! Texts in quotes whose braces aren't balanced: BibTeX and Biber end them elsewhere than this library.
+//! Texts in quotes whose braces aren't balanced: BibTeX and Biber may end them elsewhere than this library.
 
 ghost use Rattle.std.specs.Prelude.{◌≡◌, map};
 ghost use Rattle.std.specs.List.{list_any};
@@ -11,7 +11,7 @@ use bib_syntax::raw::{Pair, RawChunk, RawEntry};
 use bib_text::spanned::Spanned;
 
 /// Returns whether `piece` is in quotes in `text`, and its braces aren't balanced. BibTeX and Biber, which end a text in quotes at the
-/// first quote outside of braces, end such a piece elsewhere.
+/// first quote outside of braces, may end such a piece elsewhere.
 pub fn is_unbalanced_quote(text: &str, piece: &Spanned<RawChunk<'_>>) -> bool
     ensures { result ≡ spec.is_unbalanced_quote text.now (piece_of piece.now) }
 {

@@ -75,7 +75,7 @@ fn push_line(
     Ok(())
 }
 
-// Returns whether the field on one line, with the comma after it, is longer than the width of the style.
+// Returns whether the field on one line, with a comma after it, is longer than the width of the style.
 fn is_too_long(
     alloc: Global,
     layout: &Layout<'_, '_>,

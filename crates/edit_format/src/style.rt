@@ -33,9 +33,9 @@ pub struct Style<'a> {
     /// names. Fields with the same name, and the other fields, keep their relative order, so the last field of a name is still
     /// the last. An entry that is copied (see `format`) keeps its order.
     pub order: &'a [&'a str],
-    /// Maximum number of characters of a line, with the comma after it, for a field whose value has several pieces. In a longer
-    /// line, each piece except the first begins a new line, with its `#` in the column of the first piece. A value of one piece
-    /// is never broken, since its text is unchanged. With `None`, no line is broken.
+    /// Maximum number of characters of a line, for a field whose value has several pieces. A comma after the field counts, even
+    /// if none is written. In a longer line, each piece except the first begins a new line, with its `#` in the column of the
+    /// first piece. A value of one piece is never broken, since its text is unchanged. With `None`, no line is broken.
     pub width: Option<usize>,
 }
 

@@ -29,8 +29,8 @@ ghost use Rattle.edit_strings.specs.Collected.{AreMadeAbbreviations};
 ghost use Rattle.edit_strings.specs.Expanded.{IsExpanded};
 
 /// States that, if a text is accepted, a formatted text is too, and gives the same bibliography, except for spans and the borders
-/// of chunks. The formatted text is any text that parses to the entries of the old one with the fields in the order of a style,
-/// except for spans and the case of entry types and field names.
+/// of chunks. The formatted text is any text that parses to the entries of the old one, with the fields in the order of a style. Spans
+/// and the case of entry types and field names may differ.
 pub fn formatted_is_alike()
     ensures accepted { (style : Style) (text new : List ℕ) (says : FileReading) (e : ParseError) → IsRawReading text says →
         IsReadAlike (says_in_order style text says) new → IsAcceptedText text → IsErrorOf new e → ⊥ }
@@ -137,7 +137,7 @@ pub fn renamed_keeps_fields()
 {}
 
 /// States that, after entries get new keys, each entry has its new key, or its old one if it gets none. Each reference leads to
-/// the entry that it led to: if a name in a reference field means an entry, the name in its place means the entry with the same
+/// the entry that it led to. If a name in a reference field means an entry, the name in its place means the entry with the same
 /// index. This is about values that are one literal. A name that means no entry isn't covered, since it can be a new key.
 ///
 /// References have a premise: if an entry gets a new key, each earlier entry with the same key gets one too. This is so if, of several

@@ -1,7 +1,7 @@
 //! Laws: the effects of formatting, sorting, expanding, collecting, and edits of entries on the bibliography of a file.
 //!
-//! The file grammar gives the same reading for a formatted text as for the old text, except for spans, the case of entry types
-//! and field names, and the order of fields (`edit_format`). A bibliography depends only on this reading, and on neither spans
+//! By the file grammar, a formatted text has the same reading as the old text (`edit_format`). Only spans, the case of entry types
+//! and field names, and the order of fields may differ. A bibliography depends only on this reading, and on neither spans
 //! nor case. `AlikeFacts` proves this for each definition, from abbreviations to inherited fields, with two readings side by
 //! side. The last of two fields with one name counts, and it is the last in both orders (`ReorderedFacts`).
 //!

@@ -64,7 +64,7 @@ fn push_new<'a, 's>(
     Ok(())
 }
 
-// Adds a field of a parent that `xdata` names, if it is inherited.
+// Offers a field of a parent that `xdata` names to `push_new`, if the field is inherited.
 fn push_passed<'a, 's>(
     gathered: &mut Gathered<'a, 's>,
     alloc: Global,
@@ -79,7 +79,7 @@ fn push_passed<'a, 's>(
     push_new(gathered, alloc, named)
 }
 
-// Adds a field of a parent that `crossref` names under its new name, if it has one.
+// Offers a field of a parent that `crossref` names to `push_new` under its new name, if it has one.
 fn push_renamed<'a, 's>(
     gathered: &mut Gathered<'a, 's>,
     alloc: Global,
@@ -98,7 +98,7 @@ fn push_renamed<'a, 's>(
     push_new(gathered, alloc, Named { name, field })
 }
 
-// Adds a field of a parent that `crossref` names under its own name, if it is inherited so.
+// Offers a field of a parent that `crossref` names to `push_new` under its own name, if it is inherited under it.
 fn push_kept<'a, 's>(
     gathered: &mut Gathered<'a, 's>,
     alloc: Global,
@@ -116,7 +116,7 @@ fn push_kept<'a, 's>(
     push_new(gathered, alloc, named)
 }
 
-// Adds the fields of a parent that `xdata` names.
+// Offers the fields of a parent that `xdata` names, in order (see `push_passed`).
 fn push_all_passed<'a, 's>(
     gathered: &mut Gathered<'a, 's>,
     alloc: Global,
@@ -130,7 +130,7 @@ fn push_all_passed<'a, 's>(
     Ok(())
 }
 
-// Adds the fields of a parent that `crossref` names under their new names.
+// Offers the fields of a parent that `crossref` names under their new names, in order (see `push_renamed`).
 fn push_all_renamed<'a, 's>(
     gathered: &mut Gathered<'a, 's>,
     alloc: Global,
@@ -147,7 +147,7 @@ fn push_all_renamed<'a, 's>(
     Ok(())
 }
 
-// Adds the fields of a parent that `crossref` names under their own names.
+// Offers the fields of a parent that `crossref` names under their own names, in order (see `push_kept`).
 fn push_all_kept<'a, 's>(
     gathered: &mut Gathered<'a, 's>,
     alloc: Global,

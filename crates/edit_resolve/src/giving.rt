@@ -33,7 +33,7 @@ fn give<'a, 's>(
     Ok(())
 }
 
-// Adds the fields of a parent that `xdata` names.
+// Adds the fields of a parent that `xdata` names, as `give` adds each.
 fn give_all<'a, 's>(
     given: &mut BTreeMap<String, Named<'a, 's>>,
     alloc: Global,

@@ -102,7 +102,7 @@ fn is_periodical_part(child: &EntryType) -> bool
     matches!(child, EntryType::Article | EntryType::SuppPeriodical)
 }
 
-// Returns the new names if the test is passed.
+// Returns `titles` if `passes`, otherwise `None`.
 fn titles_if(titles: Titles, passes: bool) -> Option<Titles>
     ensures { result ≡ spec.titles_if titles passes }
 {
@@ -212,7 +212,7 @@ pub(crate) fn name_by_crossref(
     title_name(titles_in(parent, child), name)
 }
 
-// Returns whether a field isn't inherited under its own name if the titles of the parent get new names.
+// Returns whether a field is one of the titles that aren't inherited under their own names if the titles of the parent get new names.
 fn is_own_title(name: &str) -> bool
     ensures { result ≡ is_one_of own_titles name.now }
 {

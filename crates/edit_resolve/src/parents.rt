@@ -91,7 +91,7 @@ fn single_text<'s>(pieces: &[Spanned<RawChunk<'s>>]) -> Option<&'s str>
     }
 }
 
-// Returns the keys in a field; none if the field is no such reference.
+// Returns the keys in a field; none if the field is no such reference, or its value isn't one literal.
 fn field_keys<'s>(alloc: Global, link: Link, field: &Pair<'s>) -> Result<Vec<&'s str>, AllocError>
     ensures { IfOk result (λ keys. text_list keys ≡ spec.field_keys link (field_of field.now)) }
 {

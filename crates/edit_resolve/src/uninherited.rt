@@ -49,7 +49,7 @@ struct Child<'c, 'a, 's> {
     names: BTreeSet<String>,
 }
 
-// Returns whether a field has other names of its entry (`ids`) or references to other entries.
+// Returns whether a field is one of those that link entries and aren't listed: `ids`, `crossref`, `xref` and `xdata`.
 fn is_linking(name: &str) -> bool
     ensures { result ≡ is_one_of linking_fields name.now }
 {

@@ -31,7 +31,7 @@ fn one_text<'s>(pieces: &[Spanned<RawChunk<'s>>]) -> Option<&'s str>
     }
 }
 
-// Returns the key that a field names, if the field is a `crossref`.
+// Returns the key that a field names, if the field is a `crossref` and its value is one literal.
 fn crossref<'s>(field: &Pair<'s>) -> Option<&'s str>
     ensures { option_map (λ key. key.now) result ≡ sorted.crossref (field_of field.now) }
 {
@@ -121,7 +121,7 @@ fn add_child(
     }
 }
 
-// Adds `child` to the row of the index that a field refers to, if it is a `crossref`.
+// Adds `child` to the row of the index that a field refers to, if the field is a `crossref` that names a known key.
 fn add_reference(
     alloc: Global,
     names: &Claims,

@@ -80,8 +80,8 @@ pub(crate) fn rows<'a, 's>(
     Ok(rows)
 }
 
-// Returns the expansion of `pieces`, given the pieces of each definition. All of these lists go from the last piece to the first, and
-// `pieces` is the stack of the pieces that are still to expand.
+// Returns the expansion of `pieces`, given the pieces of each definition. The given lists go from the last piece to the first, and the
+// expansion from the first to the last.
 pub(crate) fn expanded<'a, 's>(
     alloc: Global,
     rows: &[Vec<Indexed<'a, 's>>],

@@ -20,7 +20,7 @@ pub enum Takes {
     WordsOrTextsUnless(&'static str),
     /// An option that may be repeated: a condition on entries.
     Condition,
-    /// An option that may be repeated: two words with an equals sign between them, which help calls by this name.
+    /// An option that may be repeated: two texts with an equals sign between them, which help calls by this name.
     Pair(&'static str),
     /// An option: a pattern of keys.
     Pattern,
