@@ -1,7 +1,7 @@
 //! Runs `cited`: reads the file of a document, with the .aux files that it inputs, and prints the cited entries of .bib files.
 
 use crate::files::SystemFiles;
-use crate::joining::joined;
+use crate::joining::join;
 use crate::stops::{Stop, bytes_of, say};
 use bib_queries::lines::aux_input;
 use bib_queries::sources::{sources_in_aux, sources_in_bcf};
@@ -29,14 +29,14 @@ struct Whole {
 // The files of the system, except that the first call for the file of the document returns its whole text. If `joined` is a text, the first
 // call for another file returns it.
 #[derive(Drop)]
-struct DocumentFiles<'r, 'd, R> {
-    files: SystemFiles<'r, 'r, R>,
+struct DocumentFiles<'r, 'n, 'd, R> {
+    files: SystemFiles<'r, 'n, R>,
     name: &'d str,
     whole: Option<Vec<u8>>,
     joined: Option<Vec<u8>>,
 }
 
-impl<'r, 'd, R: rt::Files + Input + AllocGlobal> Files for DocumentFiles<'r, 'd, R> {
+impl<'r, 'n, 'd, R: rt::Files + Input + AllocGlobal> Files for DocumentFiles<'r, 'n, 'd, R> {
     // Nothing is known of the contents of the system's files.
     ghost reads = { λ old name bytes new. Unit {0} };
 
@@ -209,11 +209,11 @@ fn texts(alloc: Global, names: &[String]) -> Result<Vec<&str>, AllocError> {
 
 // Prints the entries that the document with this whole text cites, and returns the status. The entries are those of the file `name`, or of
 // the text `joined` if there is one.
-fn run_name(
+fn run_name<'a>(
     rt: &HostRuntime,
-    document: &str,
+    document: &'a str,
     whole: String,
-    name: &str,
+    name: &'a str,
     joined: Option<String>,
 ) -> Result<u8, AllocError> {
     let call = Call {
@@ -242,9 +242,9 @@ fn run_names(
     if let [name] = names {
         return run_name(rt, document, whole, name, None);
     }
-    let joined = joined(rt, names)?;
-    let status = run_name(rt, document, whole, "-", Some(joined.text))?;
-    Ok(status.max(joined.status))
+    let database = join(rt, names)?;
+    let status = run_name(rt, document, whole, "-", Some(database.text))?;
+    Ok(status.max(database.status))
 }
 
 // Runs `cited`, and returns the status.

@@ -6,14 +6,14 @@ use std::alloc::AllocError;
 
 /// The texts of files, one after another, and the status of reading them.
 #[derive(Drop)]
-pub struct Joined {
+pub struct Database {
     /// The decoded texts in order, with a line feed after each. A file that can't be read has no text.
     pub text: String,
     /// 2 if a file can't be read, otherwise 0.
     pub status: u8,
 }
 
-impl Joined {
+impl Database {
     // Appends the decoded text of a file, and a line feed.
     fn add(&mut self, rt: &HostRuntime, name: &str) -> Result<(), Stop> {
         let bytes = bytes_of(rt, name)?;
@@ -26,16 +26,16 @@ impl Joined {
 
 /// Returns the texts of files as one text, in which an entry of one file can use the definitions and the entries of the others, as in
 /// BibTeX and Biber. Reports each file that can't be read.
-pub fn joined(rt: &HostRuntime, names: &[&str]) -> Result<Joined, AllocError> {
-    let mut joined = Joined {
+pub fn join(rt: &HostRuntime, names: &[&str]) -> Result<Database, AllocError> {
+    let mut database = Database {
         text: String::new(rt.alloc()),
         status: 0,
     };
     'names: for name in names {
-        if let Err(stop) = joined.add(rt, name) {
+        if let Err(stop) = database.add(rt, name) {
             let stop = stop.unless_out_of_memory()?;
-            joined.status = say(rt, &stop);
+            database.status = say(rt, &stop);
         }
     }
-    Ok(joined)
+    Ok(database)
 }

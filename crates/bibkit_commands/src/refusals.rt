@@ -96,11 +96,11 @@ fn definitions_by_name<'d, 's>(
     alloc: Global,
     definitions: &'d [Pair<'s>],
 ) -> Result<BTreeMap<String, (&'d Pair<'s>, bool)>, AllocError> {
-    let mut by_name = BTreeMap::new(alloc);
+    let mut by_name: BTreeMap<String, (&'d Pair<'s>, bool)> = BTreeMap::new(alloc);
     'definitions: for definition in definitions {
         let name = definition.key.v.to_ascii_lowercase(alloc)?;
         let agree = match by_name.get(name.as_str()) {
-            Some((last, agree)) => *agree && have_same_value(definition, last),
+            Some((last, agree)) => *agree && have_same_value(definition, *last),
             None => true,
         };
         by_name.insert(name, (definition, agree))?;
@@ -118,7 +118,7 @@ fn other_definition<'s>(
     'added: for definition in &added.abbreviations {
         let name = definition.key.v.to_ascii_lowercase(alloc)?;
         if let Some((last, agree)) = by_name.get(name.as_str()) {
-            if !*agree || !have_same_value(definition, last) {
+            if !*agree || !have_same_value(definition, *last) {
                 return Ok(Some(definition.key.v));
             }
         }

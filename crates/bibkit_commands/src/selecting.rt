@@ -2,7 +2,7 @@
 //! conditions.
 
 use crate::edits::{Editing, after_mark, apply};
-use crate::joining::joined;
+use crate::joining::join;
 use crate::stops::{Stop, bytes_of, output_stop, say};
 use bib_queries::excerpts::answer;
 use bib_queries::request::{CitedKeys, Request as Excerpts};
@@ -135,9 +135,9 @@ fn select_joined<K: Sink>(
     names: &[&str],
     output: &mut K,
 ) -> Result<(bool, u8), Stop> {
-    let joined = joined(rt, names)?;
-    let is_found = select_text(rt.alloc(), selections, printed, &joined.text, output)?;
-    Ok((is_found, joined.status))
+    let database = join(rt, names)?;
+    let is_found = select_text(rt.alloc(), selections, printed, &database.text, output)?;
+    Ok((is_found, database.status))
 }
 
 // Prints the selected entries of each file. Returns whether there is one, and the greatest status of the files.
