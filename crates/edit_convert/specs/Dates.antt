@@ -30,7 +30,7 @@ pub record Side : Type 0 where
   pub month : Option Month
   pub day : Option (List ℕ)
 
--- whether a text is a number of `count` digits
+-- whether a text is a number of `count` ASCII digits
 abbrev pub are_digits : ℕ → List ℕ → Bool
 are_digits count text = (length text == count) && list_all is_ascii_digit text
 

@@ -35,9 +35,9 @@ name_change old new f = if has_name old f then FieldChange.renamed new else Fiel
 abbrev pub names_changed : List ℕ → List ℕ → EntryReading → EntryChange
 names_changed old new e = record { kind = None; fields = map (name_change old new) e.fields }
 
--- The change of an entry by an edit. An entry without fields is kept. `Set`: each field with the name gets the value; if there
--- is none, a new field comes first. `Add`: if no field has the name, a new field comes first. `Rename`: each field with the old
--- name gets the new one, unless a field has that already.
+-- The change of an entry by an edit; names match in any ASCII case. An entry without fields is kept. `Set`: each field with the
+-- name gets the value; if there is none, a new field comes first. `Add`: if no field has the name, a new field comes first.
+-- `Rename`: each field with the old name gets the new one, unless a field has that already.
 abbrev pub entry_edited_by : List ℕ → FieldEdit → EntryReading → EntryChange
 entry_edited_by text (Set name value) e =
     if has_named name.now e then values_set name.now (value_of value) e else new_field_first text name.now (value_of value) e.fields

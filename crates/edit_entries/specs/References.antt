@@ -46,8 +46,8 @@ abbrev pub index_in_any_case : List EntryReading → List ℕ → Option ℕ
 index_in_any_case entries name =
     unless_other (map (λ e. e.key.text) entries) (first_position (has_key_word name) entries) (first_position (has_alias name) entries)
 
--- the index of the entry that a name in a field means: the first one with exactly this key. A name in `crossref`, the only one of these
--- fields that BibTeX reads, can also mean an entry by a key in another ASCII case.
+-- the index of the entry that a name in a field means: the first one with exactly this key. A name in `crossref`, the only reference
+-- field that BibTeX reads, can also mean an entry by a key in another ASCII case.
 abbrev pub meant_index : List EntryReading → List ℕ → List ℕ → Option ℕ
 meant_index entries field name =
     first_found (first_position (is_keyed name) entries)

@@ -50,7 +50,8 @@ AddIsRefused definitions at name value DefinitionIsThere = ⊥
 AddIsRefused definitions at name value NoFieldLeft = ⊥
 AddIsRefused definitions at name value OutOfMemory = ⊤
 
--- a value can't be written in an entry in which no field has the name, or one of them has another value. `error` is the error for it
+-- a value can't be written in an entry in which no field has the name, or a field with the name has another value. `error` is the
+-- error for it
 pub record CantBeSetIn (definitions : List FieldReading) (e : EntryReading) (name : List ℕ) (value : SetValue)
     (error : EditError) : Type 0 where
   pub because : error ≡ unfit_error value

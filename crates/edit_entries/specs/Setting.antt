@@ -194,8 +194,8 @@ pub record IsSet (d : Document) (key name : List ℕ) (value : SetValue) : Type 
   pub named : list_any (has_name name) entry.fields ≡ true
   pub same : list_any (has_other_value name value) entry.fields ≡ false
 
--- the value can't be written in the first entry with a key, in which no field has the name, or one of them has another value. `error`
--- is the error for it
+-- the value can't be written in the first entry with a key. In this entry, no field has the name, or a field with the name has another
+-- value. `error` is the error for it
 pub record CantBeSet (d : Document) (key name : List ℕ) (value : SetValue) (error : EditError) : Type 0 where
   pub index : ℕ
   pub entry : EntryReading

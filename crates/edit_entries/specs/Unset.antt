@@ -63,7 +63,7 @@ comma_before text e j f = gap_end text (end_before e j) f.name.start
 abbrev pub comma_after : List ℕ → EntryReading → ℕ → FieldReading → ℕ
 comma_after text e j f = gap_end text f.value.end (field_limit e j)
 
--- whether a comma or a closing brace is there
+-- whether a comma or a closing brace is at `comma_after`
 abbrev pub is_closed : List ℕ → EntryReading → ℕ → FieldReading → Bool
 is_closed text e j f =
     has_byte_at text (comma_after text e j f) char.comma || has_byte_at text (comma_after text e j f) char.close_brace
@@ -89,8 +89,8 @@ comma_end text e j f =
 
 -- ---- a field without a comment before it
 
--- the edit that removes a field without a comment before it, from the comma before it up to and including its own comma. If it has no
--- comma, the edit ends at `own_end`
+-- the edit that removes a field without a comment before it, from after the comma before it up to and including its own comma. If it
+-- has no comma, the edit ends at `own_end`
 abbrev pub line_edit : List ℕ → EntryReading → ℕ → FieldReading → Edit
 line_edit text e j f = record { start = comma_before text e j f + 1; end = comma_end text e j f; bytes = [] }
 
@@ -160,7 +160,7 @@ removals name e index [] = []
 removals name e index (f ∷ rest) = removal name e index f ++ removals name e (suc index) rest
 
 -- the edit that removes a field with the comma after it and no comment of another field. There is one if the commas around it are found
--- and no comment is before it
+-- and no percent sign is between the first of them and the field
 abbrev pub plain_edit : List ℕ → EntryReading → ℕ → FieldReading → Option Edit
 plain_edit text e j f =
     if has_byte_at text (comma_before text e j f) char.comma && has_byte_at text (comma_after text e j f) char.comma

@@ -82,8 +82,9 @@ pub record HasFieldContents (bibliography : Bibliography) (key name text : List 
 abbrev pub linked_names : Names
 linked_names = fields "ids crossref xdata date year month day"
 
--- two bibliographies have the same keys, entry types and names. They have the same fields in each entry, with two exceptions. One field of
--- the entry with a key may differ, and so may entries that lead to this one by the references of `own`, the entries before inheriting.
+-- two bibliographies have the same keys, entry types and names. Each entry has the same styled texts of fields, with two exceptions.
+-- One field of the entry with a key may differ, and so may entries that lead to this one by the references of `own`, the entries
+-- before inheriting.
 pub record AreAlikeExcept (own : List Entry) (one other : Bibliography) (key name : List ℕ) : Type 0 where
   pub index : ℕ
   pub entry : Entry
@@ -97,7 +98,8 @@ pub record AreAlikeExcept (own : List Entry) (one other : Bibliography) (key nam
   pub others : (at : ℕ) → (at ≡ index → ⊥) → (Leads (graph_of own) at index → ⊥)
       → at_index (texts_of_entries one.entries) at ≡ at_index (texts_of_entries other.entries) at
 
--- an entry of a bibliography has a field exactly if it inherits it: `own` are the entries before inheriting
+-- the styled text of a field of an entry is the one that the entry inherits; if it inherits none, the field is missing. `own` are the
+-- entries before inheriting
 pub record IsInherited (own : List Entry) (bibliography : Bibliography) (key name : List ℕ) : Type 0 where
   pub index : ℕ
   pub entry : Entry

@@ -46,8 +46,8 @@ outside_names before (c ∷ cs) = (if is_in_name before c then [] else c ∷ [])
 abbrev pub without_commands : List ℕ → List ℕ
 without_commands cs = outside_names false cs
 
--- the letters, digits and gaps of a text outside of names of LaTeX commands, in lowercase and without accents, by Unicode's
--- compatibility decomposition (NFKD)
+-- the letters and digits of a text outside of names of LaTeX commands, with a space for each character that separates words. They are in
+-- lowercase and without accents, by Unicode's compatibility decomposition (NFKD)
 abbrev pub plain_text : List ℕ → List ℕ
 plain_text text = flat_map sort_character (chars (str_to_lowercase (encode_utf8_all (nfkd (without_commands (chars text))))))
 
