@@ -19,7 +19,7 @@ use Rattle.bib_text.specs.Characters as char
 abbrev pub is_dash : ℕ → Bool
 is_dash c = c == char.hyphen || c == char.en_dash || c == char.em_dash
 
--- decimal digits, at least one, of a number that fits in 32 bits
+-- ASCII decimal digits, at least one, of a number that fits in 32 bits
 pub record IsNumber (digits : List ℕ) (n : ℕ) : Type 0 where
   pub some : 0 < length digits
   pub each : list_all is_ascii_digit digits ≡ true

@@ -39,7 +39,7 @@ abbrev pub month_side : List ℕ → Option Month → Option (List ℕ) → Opti
 month_side year None day = None
 month_side year (Some month) day = Some (record { year = year; month = Some month; day = day })
 
--- the side with these parts: a year in four digits, and perhaps a month and a day in two each
+-- the side with these parts: a year in four ASCII digits, and perhaps a month and a day in two each
 abbrev pub side_of : List (List ℕ) → Option Side
 side_of [] = None
 side_of (year ∷ []) = if are_digits 4 year then Some (record { year = year; month = None; day = None }) else None
@@ -75,8 +75,8 @@ sides_of (from ∷ []) = one_side (side_in from)
 sides_of (from ∷ to ∷ []) = two_sides (side_in from) (side_in to)
 sides_of (from ∷ to ∷ other ∷ rest) = None
 
--- the sides of a date or a range that BibTeX has fields for. It parses as a date, and each side is a year in four digits, perhaps with a
--- month and a day in two each
+-- the sides of a date or a range that BibTeX has fields for. It parses as a date, and each side is a year in four ASCII digits, perhaps
+-- with a month and a day in two each
 abbrev pub date_sides : List ℕ → Option Sides
 date_sides text = if is_some (readable_value (date_of text)) then sides_of (slice_split (λ c. c == char.slash) text) else None
 

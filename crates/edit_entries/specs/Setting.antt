@@ -32,7 +32,7 @@ abbrev pub begins_with_digit : List ℕ → Bool
 begins_with_digit [] = false
 begins_with_digit (b ∷ bs) = is_ascii_digit b
 
--- a text can be the name of a new field, also for BibTeX and Biber, which read no name that begins with a digit
+-- a text can be the name of a new field, also for BibTeX and Biber, which read no name that begins with an ASCII digit
 pub record CanBeNewName (text : List ℕ) : Type 0 where
   pub name : CanBeName text
   pub no_digit : begins_with_digit text ≡ false
@@ -82,8 +82,8 @@ abbrev pub is_defined : List FieldReading → ℕ → List ℕ → Bool
 is_defined definitions at name =
     is_some (month_of_abbreviation name) || list_any (is_defined_before at name) definitions
 
--- a text can be a value without braces at a byte offset. It is a number, or an abbreviation that doesn't begin with a digit, and is a
--- month or defined before the offset
+-- a text can be a value without braces at a byte offset. It is a number, or an abbreviation that doesn't begin with an ASCII digit. The
+-- abbreviation is that of a month, or is defined before the offset
 pub data IsBare (definitions : List FieldReading) (at : ℕ) (text : List ℕ) : Type 0 where
   number : is_bare_number text ≡ true → IsBare definitions at text
   named : CanBeNewName text → is_defined definitions at text ≡ true → IsBare definitions at text

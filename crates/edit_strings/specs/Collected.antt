@@ -102,8 +102,8 @@ first_entry_start (e ∷ es) = e.start
 abbrev pub is_before : ℕ → FieldReading → Bool
 is_before at f = nat_lt f.name.start at
 
--- whether a name can be reused: it isn't a month's abbreviation, has no leading digit, and has one definition in the file, in any ASCII
--- case
+-- whether a name can be reused: it isn't a month's abbreviation, has no leading ASCII digit, and has exactly one definition in the
+-- file, in any ASCII case
 abbrev pub is_reusable_name : FileReading → List ℕ → Bool
 is_reusable_name says name =
     not (is_month name) && not (has_digit_first name) && (count_by (has_name name) says.abbreviations == 1)
