@@ -63,12 +63,12 @@ pub record IsKeptPerson (p : Person) : Type 0 where
   pub no_given_initials : p.given_initials ≡ None
   pub no_use_prefix : p.use_prefix ≡ None
 
--- each of these people is such a person
+-- each of these people meets `IsKeptPerson`
 abbrev pub AllKept : List Person → Type 0
 AllKept [] = Unit {0}
 AllKept (p ∷ people) = IsKeptPerson p × AllKept people
 
--- people that parse from their written form: at least one, and each is such a person
+-- people that parse from their written form: at least one, and each meets `IsKeptPerson`
 pub record ArePeople (people : List Person) : Type 0 where
   pub some : 0 < length people
   pub all : AllKept people

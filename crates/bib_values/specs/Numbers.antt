@@ -17,7 +17,7 @@ is_decimal bs =
     (nat_lt 0 (length (without_leading_sign bs)) && all_ascii_digits (without_leading_sign bs))
     && nat_lt (mag (signed_digits_value 10 bs)) (2 ^ 63)
 
--- the number that a text spells in such digits
+-- the number of a text for which `is_decimal` holds; `None` for any other text
 unfoldable pub decimal_of : List ℕ → Option ℤ
 decimal_of bs = cond (is_decimal bs) (Some (signed_digits_value 10 bs)) None
 

@@ -191,7 +191,7 @@ only_beyond_ascii (Some c) = character_if (is_beyond_ascii c) c
 abbrev pub composed : ℕ → ℕ → Option ℕ
 composed mark c = only_beyond_ascii (only_character (nfc (letter c ∷ mark ∷ [])))
 
--- the same, if there is a character
+-- a character, if there is one, and a mark as one character, as in `composed`
 abbrev pub composed_with : ℕ → Option ℕ → Option ℕ
 composed_with mark None = None
 composed_with mark (Some c) = composed mark c

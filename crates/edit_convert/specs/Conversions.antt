@@ -110,7 +110,7 @@ is_comment_free text f (g ∷ gs) = not (has_percent text f.value.end g.name.sta
 abbrev pub keeps_comments : List ℕ → FieldReading → List FieldReading → Bool
 keeps_comments text f following = not (is_date_part f && list_any is_date_part following) || is_comment_free text f following
 
--- whether this holds for each field
+-- whether `keeps_comments` holds for each of these fields and the fields after it
 abbrev pub keep_comments : List ℕ → List FieldReading → Bool
 keep_comments text [] = true
 keep_comments text (f ∷ fs) = keeps_comments text f fs && keep_comments text fs
@@ -233,7 +233,7 @@ with_field_before_kept new [] = []
 with_field_before_kept new (FieldChange.kept ∷ changes) = FieldChange.preceded new (codes " = ") (char.space ∷ []) ∷ changes
 with_field_before_kept new (change ∷ changes) = change ∷ with_field_before_kept new changes
 
--- the same with a field `type`, if it is missing
+-- these changes, with a new field `type` before the first field that is kept, if the value of a missing `type` is given
 abbrev pub with_missing_type : Option (List ℕ) → List FieldChange → List FieldChange
 with_missing_type None changes = changes
 with_missing_type (Some value) changes = with_field_before_kept (type_field value) changes

@@ -98,7 +98,7 @@ from_names = names_after []
 abbrev pub to_names : SideNames
 to_names = names_after (codes "end")
 
--- all these names
+-- the names of the fields of both sides
 abbrev pub part_names : List (List ℕ)
 part_names = codes "year" ∷ codes "month" ∷ codes "day" ∷ codes "endyear" ∷ codes "endmonth" ∷ codes "endday" ∷ []
 

@@ -83,7 +83,7 @@ renamed_element names element = option_map_or (λ new. between_white new element
 abbrev pub renamed_list : (List ℕ → Option (List ℕ)) → List ℕ → List ℕ
 renamed_list names list = join_by (renamed_element names) (char.comma ∷ []) (elements_of list)
 
--- the same, or `None` if no element gets a new name
+-- a comma list with the new names of its elements, or `None` if no element gets a new name
 abbrev pub renamed_where_listed : (List ℕ → Option (List ℕ)) → List ℕ → Option (List ℕ)
 renamed_where_listed names list = if list_any (is_renamed names) (elements_of list) then Some (renamed_list names list) else None
 

@@ -130,7 +130,7 @@ following_edit text e j f =
     then Some (lines_edit text e j f)
     else None
 
--- the same, if the text after the comma before the field is ASCII white space and then a comment that ends with a line feed
+-- `following_edit`, if the text after the comma before the field is ASCII white space and then a comment that ends with a line feed
 abbrev pub commented_edit : List ℕ → EntryReading → ℕ → FieldReading → Option Edit
 commented_edit text e j f =
     if has_byte_at text (sign_before text e j f) char.percent && has_byte_at text (feed_before text e j f) char.line_feed

@@ -67,7 +67,7 @@ abbrev pub value_keys : Link → Option (List ℕ) → List (List ℕ)
 value_keys link None = []
 value_keys link (Some text) = named_keys link text
 
--- the keys in a field; none if the field is no such reference
+-- the keys in a field if it is this reference, otherwise none
 abbrev pub field_keys : Link → FieldReading → List (List ℕ)
 field_keys link f = if is_word f.name.text (link_name link) then value_keys link (single_text f.value.pieces) else []
 

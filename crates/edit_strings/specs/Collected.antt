@@ -244,7 +244,7 @@ abbrev pub line_reading : List ℕ → List ℕ → FieldReading
 line_reading name text =
     record { name = text_at 0 name; value = record { pieces = literal (text_at 0 text) ∷ []; start = 0; end = 0 } }
 
--- the definitions that such lines parse to, except for spans
+-- the definitions that the lines of `definition_lines` parse to, except for spans
 abbrev pub line_readings : FileReading → List (List ℕ) → List (List ℕ) → List FieldReading
 line_readings says [] texts = []
 line_readings says (name ∷ names) [] = []
