@@ -29,7 +29,7 @@ is_escapable c is_verbatim is_read =
 unfoldable pub is_escaped : Bool → ℕ → Bool
 is_escaped is_verbatim c = is_escapable c is_verbatim true && not (c == char.tilde || c == char.circumflex)
 
--- white space
+-- whether a character is white space
 unfoldable pub is_space : ℕ → Bool
 is_space c = is_whitespace c
 

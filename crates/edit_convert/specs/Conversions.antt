@@ -125,12 +125,12 @@ abbrev pub read_type : EntryType → List FieldReading → Option PrintedType
 read_type kind fields =
     if times_named fields (codes "type") == 1 then type_by_value kind (literal_of (find (has_name (codes "type")) fields)) else None
 
--- the type of BibTeX that is written instead of a field `type`; for BibLaTeX there is none
+-- the type of BibTeX that an entry gets by its field `type`, if there is one; for BibLaTeX there is none
 abbrev pub printed_type : Dialect → EntryType → List FieldReading → Option PrintedType
 printed_type Biblatex kind fields = None
 printed_type Bibtex kind fields = read_type kind fields
 
--- the value of the field `type` that is added to an entry for BibLaTeX, if the type needs one and the entry has no such field
+-- the value of the field `type` to be added to an entry for BibLaTeX, if the type needs one and the entry has no such field
 abbrev pub missing_type : Dialect → EntryType → List FieldReading → Option (List ℕ)
 missing_type Biblatex kind fields = if is_field_there fields (codes "type") then None else type_value kind
 missing_type Bibtex kind fields = None
