@@ -35,7 +35,7 @@ abbrev pub other_names : Dialect → EntryType → List (List ℕ × List ℕ)
 other_names Biblatex kind = biblatex_names
 other_names Bibtex kind = names_in kind
 
--- whether one of some fields has a name, in any ASCII case
+-- whether one of these fields has this name, in any ASCII case
 abbrev pub is_field_there : List FieldReading → List ℕ → Bool
 is_field_there fields name = list_any (has_name name) fields
 
@@ -56,7 +56,7 @@ replaced_names dialect e = free_names e.fields (other_names dialect (entry_type_
 abbrev pub new_field_name : Dialect → EntryReading → FieldReading → Option (List ℕ)
 new_field_name dialect e f = other_name (replaced_names dialect e) f.name.text
 
--- the number of fields with a name, in any ASCII case
+-- the number of fields with this name, in any ASCII case
 abbrev pub times_named : List FieldReading → List ℕ → ℕ
 times_named fields name = length (filter (has_name name) fields)
 

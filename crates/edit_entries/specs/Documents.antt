@@ -54,12 +54,12 @@ abbrev pub last_position : {A : Type 0} → (A → Bool) → List A → Option �
 last_position test [] = None
 last_position test (x ∷ xs) = or_first (test x) (last_position test xs)
 
--- the first entry with a key, and its index
+-- `e` is the first entry with this key, and `k` is its index
 pub record HasEntry (d : Document) (key : List ℕ) (k : ℕ) (e : EntryReading) : Type 0 where
   pub first : first_position (is_keyed key) d.says.entries ≡ Some k
   pub here : slice_get d.says.entries k ≡ Some e
 
--- the last field of an entry with a name, and its index
+-- `f` is the last field of an entry with this name, in any ASCII case, and `j` is its index
 pub record HasField (e : EntryReading) (name : List ℕ) (j : ℕ) (f : FieldReading) : Type 0 where
   pub last : last_position (has_name name) e.fields ≡ Some j
   pub here : slice_get e.fields j ≡ Some f
@@ -161,7 +161,7 @@ field_edit e j f = record { start = f.name.start; end = field_limit e j; bytes =
 abbrev pub have_only : List ℕ → List FieldReading → Bool
 have_only name fields = list_any (has_name name) fields && list_all (has_name name) fields
 
--- the first entry with a key has at least one field, and all its fields have a name
+-- the first entry with this key has at least one field, and each of its fields has this name, in any ASCII case
 pub record HasOnlyFields (d : Document) (key name : List ℕ) : Type 0 where
   pub index : ℕ
   pub entry : EntryReading

@@ -23,7 +23,7 @@ abbrev pub new_field_first : List ℕ → List ℕ → SetValue → List FieldRe
 new_field_first text name value [] = unchanged
 new_field_first text name value (first ∷ others) = field_put text name value first others
 
--- whether an entry has a field with a name, in any ASCII case
+-- whether an entry has a field with this name, in any ASCII case
 abbrev pub has_named : List ℕ → EntryReading → Bool
 has_named name e = list_any (has_name name) e.fields
 

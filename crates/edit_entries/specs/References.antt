@@ -32,11 +32,11 @@ unless_other keys None other = None
 unless_other keys (Some i) None = Some i
 unless_other keys (Some i) (Some j) = if bytes_eq (slice_index_or keys i []) (slice_index_or keys j []) then Some i else None
 
--- whether an entry has a name in its fields `ids`
+-- whether an entry has this name in its fields `ids`
 abbrev pub has_alias : List ℕ → EntryReading → Bool
 has_alias name e = is_listed (aliases_of e.fields) name
 
--- whether an entry has a name as its key, in any ASCII case
+-- whether an entry has this name as its key, in any ASCII case
 abbrev pub has_key_word : List ℕ → EntryReading → Bool
 has_key_word name e = is_word e.key.text name
 

@@ -149,12 +149,12 @@ own_edit text e j f =
 
 -- ---- the fields with a name
 
--- the edit that removes a field of an entry up to the next field or the closing brace, if it has a name
+-- the edit that removes a field of an entry up to the next field or the closing brace, if the field has this name
 abbrev pub removal : List ℕ → EntryReading → ℕ → FieldReading → List Edit
 removal name e index f = if has_name name f then field_edit e index f ∷ [] else []
 
--- the edits that remove each of these fields with a name, up to the next field or the closing brace. The first of these fields has the
--- given index
+-- the edits that remove those of these fields that have this name, each up to the next field or the closing brace. The first of these
+-- fields has the given index
 abbrev pub removals : List ℕ → EntryReading → ℕ → List FieldReading → List Edit
 removals name e index [] = []
 removals name e index (f ∷ rest) = removal name e index f ++ removals name e (suc index) rest
@@ -180,8 +180,8 @@ with_edit None more = None
 with_edit (Some edit) None = None
 with_edit (Some edit) (Some edits) = Some (edit ∷ edits)
 
--- the edits that remove each of these fields with a name and no comment of another field, if there is one for each of them. The first of
--- these fields has the given index
+-- the edits that remove those of these fields that have this name, and no comment of another field, if there is one for each of them.
+-- The first of these fields has the given index
 abbrev pub own_edits : List ℕ → List ℕ → EntryReading → ℕ → List FieldReading → Option (List Edit)
 own_edits text name e index [] = Some []
 own_edits text name e index (f ∷ rest) =
@@ -189,19 +189,19 @@ own_edits text name e index (f ∷ rest) =
     then with_edit (edit_before (list_any (has_name name) rest) text e index f) (own_edits text name e (suc index) rest)
     else own_edits text name e (suc index) rest
 
--- these edits, or those that remove each field with a name up to the next field or the closing brace
+-- these edits, or else those that remove each field with this name up to the next field or the closing brace
 abbrev pub or_removals : List ℕ → EntryReading → Option (List Edit) → List Edit
 or_removals name e None = removals name e 0 e.fields
 or_removals name e (Some edits) = edits
 
--- the edits that unset the fields of an entry with a name. Each of them is removed without a comment of another field, if there are edits
--- that do it. Otherwise each is removed up to the next field or the closing brace.
+-- the edits that unset the fields with this name in an entry. Each of them is removed without a comment of another field, if there are
+-- edits that do it. Otherwise each is removed up to the next field or the closing brace.
 abbrev pub unset_edits : List ℕ → List ℕ → EntryReading → List Edit
 unset_edits text name e = or_removals name e (own_edits text name e 0 e.fields)
 
 -- ---- the outcome
 
--- an entry without its fields with a name
+-- an entry without its fields with this name, in any ASCII case
 abbrev pub without_named : List ℕ → EntryReading → EntryReading
 without_named name e = record e { fields = filter (λ f. not (has_name name f)) e.fields }
 

@@ -51,7 +51,7 @@ pub record AreSet (own others : List Entry) (key name text : List ℕ) : Type 0 
   pub differ : DifferInField own others index name (Some atoms)
   pub is : differ.entry.key ≡ key
 
--- `others` differ from `own` as `DifferInField` states: the entry with a key has no field with a name
+-- `others` differ from `own` as `DifferInField` states: the entry with this key has no field with this name
 pub record AreUnset (own others : List Entry) (key name : List ℕ) : Type 0 where
   pub index : ℕ
   pub differ : DifferInField own others index name None
@@ -64,8 +64,8 @@ pub record AreUnset (own others : List Entry) (key name : List ℕ) : Type 0 whe
 abbrev pub lost_names : Names
 lost_names = fields "xdata month day"
 
--- a bibliography has exactly one entry with a key, and its field of this name has the contents of a text. The key points to this entry, or
--- to a later one that has it as an alias in `ids`
+-- a bibliography has exactly one entry with this key, and its field of this name has the contents of this text. The key points to this
+-- entry, or to a later one that has it as an alias in `ids`
 pub record HasFieldContents (bibliography : Bibliography) (key name text : List ℕ) : Type 0 where
   pub index : ℕ
   pub entry : Entry
