@@ -137,7 +137,7 @@ pub data EntryRemoved (d : Document) (key : List ℕ) : Document → Type 0 wher
   removed : {k at : ℕ} {e : EntryReading} → HasEntry d key k e
       → Longest is_whitespace (place d.text (e.end + 1)) (place d.text at) → EntryRemoved d key (entry_removed d k e at)
 
--- the conditions under which removing an entry is refused
+-- for each error, the condition under which removing an entry may be refused with it
 abbrev pub EntryIsRefused : Document → List ℕ → EditError → Type 0
 EntryIsRefused d key UnknownKey = first_position (is_keyed key) d.says.entries ≡ None
 EntryIsRefused d key KeyIsThere = ⊥
@@ -168,7 +168,7 @@ pub record HasOnlyFields (d : Document) (key name : List ℕ) : Type 0 where
   pub has : HasEntry d key index entry
   pub only : have_only name entry.fields ≡ true
 
--- the conditions under which unsetting a field is refused
+-- for each error, the condition under which unsetting a field may be refused with it
 abbrev pub UnsetIsRefused : Document → List ℕ → List ℕ → EditError → Type 0
 UnsetIsRefused d key name UnknownKey = first_position (is_keyed key) d.says.entries ≡ None
 UnsetIsRefused d key name KeyIsThere = ⊥
@@ -224,7 +224,7 @@ pub data EntriesAdded (d more : Document) : Document → Type 0 where
       → AgreeOnDefinitions d.says.abbreviations more.says.abbreviations
       → EntriesAdded d more (joined_documents d more)
 
--- the conditions under which adding a document is refused
+-- for each error, the condition under which adding a document may be refused with it
 abbrev pub EntriesAreRefused : Document → Document → EditError → Type 0
 EntriesAreRefused d more UnknownKey = ⊥
 EntriesAreRefused d more KeyIsThere = SharesNoName d more → ⊥

@@ -78,7 +78,7 @@ pub record CantBeEdited (d : Document) (selected : List ℕ → Bool) (edit : Fi
   pub because : IsValueError edit error
   pub unfit : HasFitValue d.says.abbreviations (first_start selected (length d.text) d.says.entries) edit → ⊥
 
--- the condition under which the edit of a field in the entries with selected keys is refused with this error
+-- for each error, the condition under which the edit of a field in the entries with selected keys may be refused with it
 abbrev pub FieldEditIsRefused : Document → (List ℕ → Bool) → FieldEdit → EditError → Type 0
 FieldEditIsRefused d selected edit UnknownKey = ⊥
 FieldEditIsRefused d selected edit KeyIsThere = ⊥

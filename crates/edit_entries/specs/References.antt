@@ -186,7 +186,7 @@ pub record CantBeWritten (d : Document) (keys : ℕ → Option (List ℕ)) : Typ
   pub can : CanGetKeys d.says.entries keys
   pub cant : AllByRecursion CanBeMade (key_renaming keys d.says.entries) → ⊥
 
--- the conditions under which giving entries new keys is refused
+-- for each error, the condition under which giving entries new keys may be refused with it
 abbrev pub KeysAreRefused : Document → (ℕ → Option (List ℕ)) → EditError → Type 0
 KeysAreRefused d keys UnknownKey = ⊥
 KeysAreRefused d keys KeyIsThere = IsNewKeyTaken d.says.entries keys
@@ -215,7 +215,7 @@ pub data KeyRenamed (d : Document) (old new : List ℕ) : Document → Type 0 wh
   renamed : {k : ℕ} {e : EntryReading} {after : Document} → HasEntry d old k e → bytes_eq old new ≡ false
       → KeysRenamed d (only k new) after → KeyRenamed d old new after
 
--- the first entry with a key is refused another key
+-- giving the first entry with the key `old` another key, `new`, may be refused with this error
 pub record IsKeyRefused (d : Document) (old new : List ℕ) (error : EditError) : Type 0 where
   pub index : ℕ
   pub entry : EntryReading
@@ -223,7 +223,7 @@ pub record IsKeyRefused (d : Document) (old new : List ℕ) (error : EditError) 
   pub other : bytes_eq old new ≡ false
   pub refused : KeysAreRefused d (only index new) error
 
--- the conditions under which renaming a key is refused
+-- for each error, the condition under which renaming a key may be refused with it
 abbrev pub RenameIsRefused : Document → List ℕ → List ℕ → EditError → Type 0
 RenameIsRefused d old new UnknownKey = first_position (is_keyed old) d.says.entries ≡ None
 RenameIsRefused d old new KeyIsThere = IsKeyRefused d old new KeyIsThere

@@ -32,7 +32,7 @@ pub record FieldsUnset (d : Document) (selected : List ℕ → Bool) (name : Lis
   pub text : after.text ≡ edited_all (flat_map (unset_if_selected selected d.text name) d.says.entries) d.text
   pub alike : placeless after.says ≡ placeless (record d.says { entries = map (without_if_selected selected name) d.says.entries })
 
--- the conditions under which unsetting a field of entries is refused
+-- for each error, the condition under which unsetting a field of entries may be refused with it
 abbrev pub UnsettingIsRefused : Document → (List ℕ → Bool) → List ℕ → EditError → Type 0
 UnsettingIsRefused d selected name UnknownKey = ⊥
 UnsettingIsRefused d selected name KeyIsThere = ⊥

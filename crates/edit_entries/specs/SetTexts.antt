@@ -38,7 +38,7 @@ pub record IsUnfit (definitions : List FieldReading) (at : ℕ) (value : SetValu
   pub because : error ≡ unfit_error value
   pub unfit : IsWritableAt definitions at value → ⊥
 
--- the conditions under which a new field is refused
+-- for each error, the condition under which a new field may be refused with it
 abbrev pub AddIsRefused : List FieldReading → ℕ → List ℕ → SetValue → EditError → Type 0
 AddIsRefused definitions at name value UnknownKey = ⊥
 AddIsRefused definitions at name value KeyIsThere = ⊥
@@ -58,7 +58,7 @@ pub record CantBeSetIn (definitions : List FieldReading) (e : EntryReading) (nam
   pub unfit : IsWritableAt definitions e.start value → ⊥
   pub new : list_any (has_name name) e.fields ≡ true → list_any (has_other_value name value) e.fields ≡ true
 
--- the conditions under which setting a field of an entry is refused
+-- for each error, the condition under which setting a field of an entry may be refused with it
 abbrev pub SetTextIsRefused : List FieldReading → EntryReading → List ℕ → SetValue → EditError → Type 0
 SetTextIsRefused definitions e name value UnknownKey = ⊥
 SetTextIsRefused definitions e name value KeyIsThere = ⊥

@@ -204,7 +204,7 @@ pub record CantBeSet (d : Document) (key name : List ℕ) (value : SetValue) (er
   pub unfit : IsWritableAt d.says.abbreviations entry.start value → ⊥
   pub new : IsSet d key name value → ⊥
 
--- the conditions under which setting a field is refused
+-- for each error, the condition under which setting a field may be refused with it
 abbrev pub SetIsRefused : Document → List ℕ → List ℕ → SetValue → EditError → Type 0
 SetIsRefused d key name value UnknownKey = first_position (is_keyed key) d.says.entries ≡ None
 SetIsRefused d key name value KeyIsThere = ⊥

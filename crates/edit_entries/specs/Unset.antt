@@ -205,8 +205,8 @@ unset_edits text name e = or_removals name e (own_edits text name e 0 e.fields)
 abbrev pub without_named : List ℕ → EntryReading → EntryReading
 without_named name e = record e { fields = filter (λ f. not (has_name name f)) e.fields }
 
--- the document after a field is unset in an entry, which also has a field with another name. Each field with the name is removed. The
--- reading is as it was except for these fields and byte offsets.
+-- the document after a field is unset in the first entry with this key. Each field with the name is removed, and the entry doesn't lose
+-- all its fields. The reading is as it was except for these fields and byte offsets.
 pub data FieldUnset (d : Document) (key name : List ℕ) : Document → Type 0 where
   unset : {k : ℕ} {e : EntryReading} {after : Document} → HasEntry d key k e → have_only name e.fields ≡ false
       → after.text ≡ edited_all (unset_edits d.text name e) d.text
