@@ -36,7 +36,7 @@ abbrev pub AreCutShort : {K : Type 0} → (K → List ℕ → Bool → K → Typ
 AreCutShort hands_over old texts new Refused = IsOneRefused hands_over old texts new
 AreCutShort hands_over old texts new OutOfMemory = AreSomeTaken hands_over old texts new
 
--- the calls to the sink for a list of texts: if `result` is Ok, the sink took all texts, and otherwise the calls ended early
+-- the calls to the sink for a list of texts: if `result` is Ok, the sink took all texts, and otherwise it didn't (`AreCutShort`)
 abbrev pub AreHandedOver : {K U : Type 0} → (K → List ℕ → Bool → K → Type 0) → K → List (List ℕ) → K → Result U WriteError → Type 0
 AreHandedOver hands_over old texts new result =
     MatchResult result (λ _. AreTaken hands_over old texts new) (AreCutShort hands_over old texts new)

@@ -75,8 +75,9 @@ stretch_after_text c rest =
     else if c == char.backslash && begins_accent rest then Accent
     else Text
 
--- the stretch after a character of the name or the arguments of a command with an address or a key, with `depth` open braces. A bracket
--- before the braces begins an optional argument, which counts as a brace up to its closing bracket.
+-- the stretch after a character of the name or the arguments of a command with an address or a key, with `depth` open braces. An opening
+-- bracket before the braces begins an optional argument and counts as a brace. If one brace or bracket is open, a closing bracket closes
+-- it, and the arguments go on.
 abbrev pub stretch_after_address : ℕ → ℕ → Stretch
 stretch_after_address depth c =
     if c == char.open_brace then Address (suc depth)
