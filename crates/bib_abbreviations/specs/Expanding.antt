@@ -93,7 +93,7 @@ Takes definitions is_verbatim old new piece (Some frame) = (p : Part) × (piece 
 
 -- ---- for an expansion
 
--- the memo is right
+-- the memo is right, as `IsSound` states, for the definitions of an expansion
 abbrev pub IsSoundFor : Expansion → Memo → List (List ℕ) → Type 0
 IsSoundFor expansion memo path = IsSound (known_to expansion) expansion.is_verbatim memo path
 
@@ -109,7 +109,7 @@ PiecesSay expansion pieces atoms = Evaluates (known_to expansion) expansion.is_v
 abbrev pub AddsPieces : Expansion → Memo → Memo → List Piece → Type 0
 AddsPieces expansion old new pieces = Expands (known_to expansion) expansion.is_verbatim old.values.items new.values.items pieces
 
--- a piece was taken
+-- a piece was taken, as `Takes` states, with the definitions of an expansion
 abbrev pub IsTaken : Expansion → Memo → Memo → Piece → Option Frame → Type 0
 IsTaken expansion old new piece frame = Takes (known_to expansion) expansion.is_verbatim old new piece frame
 

@@ -71,7 +71,8 @@ joined_parts [] parts = parts
 joined_parts (piece ∷ []) parts = onto (piece ∷ []) parts
 joined_parts (piece ∷ next ∷ more) parts = (piece ∷ []) ∷ joined_parts (next ∷ more) parts
 
--- the parts of a list that is cut at such separators; no chunks are one empty part
+-- the parts of a list that is cut at separators, with the arguments of `pieces`; without chunks, the list has one empty
+-- part
 abbrev pub list_parts : ℕ → (List ℕ → List (List ℕ)) → List (Spanned Chunk) → List (List (Spanned Chunk))
 list_parts width between [] = [] ∷ []
 list_parts width between (c ∷ rest) = joined_parts (pieces width between c.v c.span) (list_parts width between rest)

@@ -40,7 +40,7 @@ pub record IsAnd (text following : List ℕ) : Type 0 where
   pub word : text ≡ codes "and" ++ following
   pub space : begins_with_space (chars following) ≡ true
 
--- a text isn't the word `and` followed by white space
+-- a text doesn't begin with the word `and` and then white space
 abbrev pub NoAnd : List ℕ → Type 0
 NoAnd text = (following : List ℕ) → IsAnd text following → ⊥
 

@@ -19,7 +19,7 @@ IsSettledAtom is_verbatim (Atom.math text) =
 abbrev pub is_pair : ℕ → ℕ → Bool
 is_pair c d = (c == char.space && d == char.space) || (c == char.hyphen && d == char.hyphen)
 
--- whether the parser merges two neighbouring atoms: such a pair of normal characters, or of verbatim ones
+-- whether the parser merges two neighbouring atoms: two spaces or two hyphens that are both normal or both verbatim
 abbrev pub runs_together : Atom → Atom → Bool
 runs_together (Atom.normal c) (Atom.normal d) = is_pair c d
 runs_together (Atom.verbatim c) (Atom.verbatim d) = is_pair c d

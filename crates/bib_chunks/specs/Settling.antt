@@ -56,7 +56,7 @@ abbrev pub ContinuesIn : Bool → Before → List Atom → Before → List Atom 
 ContinuesIn is_verbatim before atoms after more =
     (rest : List Atom) → AreSettledAfter is_verbatim before (atoms ++ rest) ↔ AreSettledAfter is_verbatim after (more ++ rest)
 
--- the same in verbatim fields and in others
+-- `ContinuesIn` holds in verbatim fields and in others
 abbrev pub Continues : Before → List Atom → Before → List Atom → Type 0
 Continues before atoms after more = (is_verbatim : Bool) → ContinuesIn is_verbatim before atoms after more
 

@@ -29,7 +29,7 @@ is_escapable c is_verbatim is_read =
 unfoldable pub is_escaped : Bool → ℕ → Bool
 is_escaped is_verbatim c = is_escapable c is_verbatim true && not (c == char.tilde || c == char.circumflex)
 
--- white space
+-- whether a character is white space
 unfoldable pub is_space : ℕ → Bool
 is_space c = is_whitespace c
 
@@ -241,7 +241,7 @@ IsUnread kind = (kind ≡ UnexpectedEof) ⊎ (kind ≡ Unexpected ClosingBrace)
 abbrev pub LiesBetween : ℕ → ℕ → ParseError → Type 0
 LiesBetween low high e = (low ≤ e.span.start) × (e.span.start ≤ e.span.end) × (e.span.end ≤ high)
 
--- out of memory, or an error whose span is between two byte offsets in this way
+-- out of memory, or an error whose span is between two byte offsets, as `LiesBetween` states
 abbrev pub StaysBetween : ℕ → ℕ → ParseError → Type 0
 StaysBetween low high e = (e ≡ out_of_memory) ⊎ LiesBetween low high e
 

@@ -63,7 +63,7 @@ digit text i = slice_index text i - char.zero
 unfoldable pub first_year : List ℕ → ℕ
 first_year text = 1000 * digit text 0 + 100 * digit text 1 + 10 * digit text 2 + digit text 3
 
--- whether a text is four digits, `-2` and one more byte: ISO 8601-2 has the seasons 21 to 24 there
+-- whether a text is four ASCII digits, `-2` and one more byte: ISO 8601-2 has the seasons 21 to 24 there
 unfoldable pub is_season_text : List ℕ → Bool
 is_season_text text =
     (length text == 7) && (list_all is_ascii_digit (take 4 text) && ((slice_index text 4 == char.hyphen) && (digit text 5 == 2)))
@@ -100,7 +100,7 @@ read_or_unread None text = unread text
 abbrev pub month_and_year : Option Value → Value → List ℕ
 month_and_year month year = joined (codes " ") (shown_field month) (text year)
 
--- a text without the hyphen before it, if it has one
+-- a text without the hyphen at its start, if it has one
 abbrev pub without_hyphen : List ℕ → List ℕ
 without_hyphen [] = []
 without_hyphen (b ∷ rest) = if b == char.hyphen then rest else b ∷ rest

@@ -25,7 +25,7 @@ archive_field entry = field_or entry (codes "eprinttype") (codes "archiveprefix"
 unfoldable pub archive_of : Entry → List ℕ
 archive_of entry = archive_name (archive_field entry)
 
--- the identifier in that archive
+-- the text of the field `eprint`: the identifier in the archive
 unfoldable pub eprint_of : Entry → List ℕ
 eprint_of entry = shown_field (field entry (codes "eprint"))
 

@@ -32,7 +32,7 @@ unfoldable pub name_members : Name → Members
 name_members (Literal text) = put (codes "literal") (string text) no_members
 name_members (Parts p) = parts_members p
 
--- a name
+-- the JSON of a name
 unfoldable pub name_json : Name → Data
 name_json name = object (name_members name)
 
@@ -100,6 +100,6 @@ with_variables (field ∷ fields) members = with_variables fields (with_variable
 unfoldable pub head_members : Item → Members
 head_members work = put (codes "type") (string (item_type_name work.kind)) (put (codes "id") (string work.id) no_members)
 
--- an item
+-- the JSON of an item
 unfoldable pub json_of : Item → Data
 json_of work = object (with_variables work.fields (head_members work))

@@ -27,13 +27,13 @@ reading (Ok a) = says a
 reading (Err (Specified reason)) = error (error_kind_of reason)
 reading (Err (Unspecified reason)) = unread
 
--- the same for a part, with the rest of the text
+-- the result of a private function that parses a part as a reading, with the rest of the text
 abbrev pub part_reading : {A : Type 0} → Result (A × Bor (List ℕ)) ReadError → Parsed A
 part_reading (Ok p) = says (p.0, p.1.now)
 part_reading (Err (Specified reason)) = error (error_kind_of reason)
 part_reading (Err (Unspecified reason)) = unread
 
--- the same for the rest of a text only
+-- the result of a private function that returns only the rest of a text, as a reading
 abbrev pub rest : Result (Bor (List ℕ)) ReadError → Reading (List ℕ)
 rest (Ok text) = says text.now
 rest (Err (Specified reason)) = error (error_kind_of reason)

@@ -13,7 +13,7 @@ use Rattle.bib_dates.specs.declared.date.Time.{Time}
 use Rattle.bib_dates.specs.declared.date.TimeOffset.{TimeOffset}
 use Rattle.bib_dates.specs.declared.date.TimeOffset.TheVariants.{Utc, Offset}
 
--- whether a day has such a time
+-- whether a day has a time with this hour, minute and second: 23:59:59 is the last one
 abbrev pub is_clock : ℕ → ℕ → ℕ → Bool
 is_clock hour minute second = not (nat_lt 23 hour) && (not (nat_lt 59 minute) && not (nat_lt 59 second))
 

@@ -24,7 +24,7 @@ after_run test text = drop (prefix_len test text) text
 abbrev pub lies : ℕ → ℕ → ℕ → Bool
 lies low high n = not (nat_lt n low) && not (nat_lt high n)
 
--- a number of `low` to `high` digits after white space, with no digit after them
+-- a number of `low` to `high` ASCII digits after white space, with no ASCII digit after them
 unfoldable pub number : ℕ → ℕ → List ℕ → Parsed ℕ
 number low high text =
     let here = trim_start text in
@@ -70,7 +70,7 @@ with_sign is_minus n = if is_minus then neg_ℤ (pos n) else pos n
 abbrev pub of_century : ℤ → ℤ
 of_century y = if is_lt (int_cmp y (pos 50)) then y +ℤ pos 2000 else y +ℤ pos 1900
 
--- a year of two or four digits after white space, with an optional sign, which white space may follow
+-- a year of two or four ASCII digits after white space, with an optional sign, which white space may follow
 unfoldable pub year : List ℕ → Parsed ℤ
 year text =
     let here = sign (trim_start text) in

@@ -65,7 +65,7 @@ with_era has_sign is_minus n text =
     else if stands (codes "BC") text then of_era has_sign n (pos 1 -ℤ pos n) (after_word (codes "BC") text)
     else says (with_sign is_minus n)
 
--- the year field: an optional sign, one to four digits, and an optional era. Other text may come after them, as in
+-- the year field: an optional sign, one to four ASCII digits, and an optional era. Other text may come after them, as in
 -- `with_era`
 unfoldable pub year_field : List ℕ → Reading ℤ
 year_field text =
@@ -112,7 +112,7 @@ abbrev pub reported_day : Option ℕ → Reading (Option ℕ)
 reported_day (Some day) = says (Some day)
 reported_day None = error DayOutOfRange
 
--- the day after a month: digits after a gap; without a gap there is no day
+-- the day after a month: ASCII digits after a gap; without a gap there is no day
 unfoldable pub day_after : List ℕ → Reading (Option ℕ)
 day_after text =
     let here = after_gap text in
@@ -127,7 +127,7 @@ day_place month following = record {
   end = length month - length (after_run is_ascii_digit (after_gap following));
 }
 
--- a day from 1 to 31 in a text of digits only; the error is `DayOutOfRange` only for another number of at most 255
+-- a day from 1 to 31 in a text of ASCII digits only; the error is `DayOutOfRange` only for another number of at most 255
 unfoldable pub only_day : List ℕ → Reading (Option ℕ)
 only_day text =
     if length (after_run is_ascii_digit text) == 0

@@ -30,7 +30,8 @@ pub record GetsEitherValue {V : Type 0} (type : Ghosts V) (entry : Entry) (name 
 pub record GetsChunks (entry : Entry) (name : List ℕ) (result : Result (Bor Value) RetrievalError) : Type 0 where
   pub chunks : AreChunksOf (by_name.get entry.fields name) name result
 
--- the same for the field of the first name, or else of the second; the error contains the first name
+-- `result` contains the chunks of the field of the first name, or else of the second. If both are missing, the error contains
+-- the first name, or is out of memory
 pub record GetsEitherChunks (entry : Entry) (name other : List ℕ) (result : Result (Bor Value) RetrievalError) : Type 0 where
   pub chunks : AreChunksOf (field_or entry name other) name result
 

@@ -69,11 +69,11 @@ content_source uses_prefix field name (content.Date date) = date_source date
 abbrev pub language_field : List ℕ → List ℕ
 language_field tag = if length (language_name tag) == 0 then codes "language" else codes "langid"
 
--- the value of that field: BibLaTeX's name of the language, or else the tag
+-- the value of the field for a language with this tag: BibLaTeX's name of the language, or else the tag
 abbrev pub language_text : List ℕ → List ℕ
 language_text tag = if length (language_name tag) == 0 then tag else language_name tag
 
--- the line of that field
+-- the line of the field for a language with this tag
 abbrev pub language_line : List ℕ → List ℕ
 language_line tag = entry_field_line (language_field tag) (plain_value (language_field tag) (language_text tag))
 

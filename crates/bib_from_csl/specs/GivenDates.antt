@@ -44,7 +44,7 @@ day_of_numbers (year ∷ month ∷ []) = of_month (whole_number year) (small_cou
 day_of_numbers (year ∷ month ∷ day ∷ []) = of_day (whole_number year) (small_count month) (small_count day)
 day_of_numbers (year ∷ month ∷ day ∷ more ∷ rest) = None
 
--- the date of a value that is such an array
+-- the date of a value that is an array of one to three numbers, as in `day_of_numbers`
 abbrev pub day_in : Json → Option DateParts
 day_in j = option_and_then day_of_numbers (array_elements j)
 

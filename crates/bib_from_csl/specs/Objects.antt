@@ -6,7 +6,7 @@ use Rattle.json.specs.Json.{Json, Items, no_items, item, Members, no_members, me
 use Rattle.json.specs.Find.{as_array, as_object, as_str, as_number, get}
 use Rattle.bib_values.specs.Numbers.{decimal_of}
 
--- items one after another
+-- the elements of an array as a list
 abbrev pub listed_items : Items → List Json
 listed_items no_items = []
 listed_items (item j js) = j ∷ listed_items js

@@ -188,7 +188,7 @@ beside_field name =
     else if bytes_eq name (codes "organizer") then codes "editorctype"
     else []
 
--- the value of that additional field, or nothing
+-- the value of the additional field (`beside_field`), or nothing
 unfoldable pub beside_text : List ℕ → List ℕ
 beside_text name =
     if bytes_eq name (codes "PMID") then codes "pubmed"

@@ -38,11 +38,11 @@ is_plain_word word = not (length word == 0) && (not (bytes_eq word (codes "and")
 abbrev pub words_in : List ℕ → List (List ℕ)
 words_in text = slice_split (λ b. b == char.space) text
 
--- whether a text consists of such words with single spaces between them
+-- whether a text consists of words for which `is_plain_word` holds, with single spaces between them
 abbrev pub are_plain_words : List ℕ → Bool
 are_plain_words text = list_all is_plain_word (words_in text)
 
--- whether a text is empty or consists of such words
+-- whether a text is empty, or `are_plain_words` holds for it
 abbrev pub is_nothing_or_words : List ℕ → Bool
 is_nothing_or_words text = (length text == 0) || are_plain_words text
 

@@ -19,7 +19,7 @@ abbrev pub gathered_text_in : List (Bor (List ℕ) × Bor (List (Spanned Chunk))
 gathered_text_in gathered name =
     option_map (λ chunks. styled chunks.now) (lookup (tree.is_at (λ key. slice_cmp nat_cmp name key.now)) gathered)
 
--- the same for the map of the collected fields
+-- the styled text of the collected field of a name, in the map of the collected fields
 abbrev pub gathered_text : BTreeMap (Bor (List ℕ)) (Bor (List (Spanned Chunk))) → List ℕ → Option (List Atom)
 gathered_text gathered name = gathered_text_in gathered.entries name
 

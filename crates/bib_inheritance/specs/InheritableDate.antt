@@ -23,8 +23,8 @@ use Rattle.bib_inheritance.specs.EntryTexts.{EntryTexts, FieldTexts, first_some,
 abbrev pub written_date : List ℕ → List Atom
 written_date text = map Atom.normal (chars text)
 
--- the date of an entry. It has none (`undated`), or it has a date with this styled text (`dated`). It is `unreadable` if
--- there is no field `date`, and the year, the month and the day can't be parsed
+-- the date of an entry. It has none (`undated`), or it has a date with this styled text (`dated`). It is `unreadable` if the
+-- entry has `year` but no `date`, and its year, month and day can't be parsed
 pub data InheritableDate : Type 0 where
   undated : InheritableDate
   unreadable : InheritableDate

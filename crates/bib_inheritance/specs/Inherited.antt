@@ -35,13 +35,13 @@ main_titles =
     ∷ (codes "maintitleaddon", fields "titleaddon") ∷ []
 
 -- for some names, the fields with the same meaning, in order of preference. An entry offers the first of them that it has,
--- unless it offers one of the titles above
+-- unless its type has a title for the name (`title_for`)
 abbrev pub same_meaning : List (List ℕ × Names)
 same_meaning =
     (codes "address", fields "address location") ∷ (codes "institution", fields "institution school")
     ∷ (codes "school", fields "school institution") ∷ (codes "journaltitle", fields "journaltitle journal") ∷ []
 
--- the title that an entry of a type offers for a name, if the name is one of those above
+-- the title that an entry of a type offers for a name, if the tables of titles for its type contain the name
 abbrev pub title_for : EntryType → List ℕ → Option Names
 title_for entry_type name =
     first_some (if is_periodical entry_type then value_named journal_titles name else None)

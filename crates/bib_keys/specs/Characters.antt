@@ -12,7 +12,7 @@ is_in_keys c =
     is_ascii_alphanumeric c
     || (c == char.plus || c == char.hyphen || c == char.point || c == char.slash || c == char.colon || c == char.underscore)
 
--- BibTeX, Biber and bibtool read the text as a key: it isn't empty, has only such characters, and no two hyphens in a row
+-- BibTeX, Biber and bibtool read the text as a key: it isn't empty, `is_in_keys` holds for each byte, and no two hyphens are in a row
 pub record CanServeAsKey (text : List ℕ) : Type 0 where
   pub some : 0 < length text
   pub characters : list_all is_in_keys text ≡ true

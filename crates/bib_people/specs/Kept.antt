@@ -42,15 +42,15 @@ abbrev pub spaced : List (List ℕ) → List ℕ
 spaced [] = []
 spaced (word ∷ words) = word ++ after_words words
 
--- a text consists of such words, separated by single spaces
+-- a text consists of words that meet `is_kept_word`, separated by single spaces
 pub record AreWords (test : ℕ → Bool) (text : List ℕ) : Type 0 where
   pub words : List (List ℕ)
   pub kept : list_all (is_kept_word test) words ≡ true
   pub spell : text ≡ spaced words
 
--- a person that parses from its written form. Its four parts consist of such words. Each word of the family name begins
--- in upper case, and each word of the prefix in lower case. It has a family name and a given name, and no optional
--- part.
+-- a person that parses from its written form. Its four parts consist of words of ASCII letters, points and hyphens other
+-- than `and`. Each word of the family name begins in upper case, and each word of the prefix in lower case. It has a family
+-- name and a given name, and no optional part.
 pub record IsKeptPerson (p : Person) : Type 0 where
   pub name : AreWords is_capital_letter p.name
   pub given_name : AreWords is_name_byte p.given_name
@@ -63,12 +63,12 @@ pub record IsKeptPerson (p : Person) : Type 0 where
   pub no_given_initials : p.given_initials ≡ None
   pub no_use_prefix : p.use_prefix ≡ None
 
--- each of these people is such a person
+-- each of these people meets `IsKeptPerson`
 abbrev pub AllKept : List Person → Type 0
 AllKept [] = Unit {0}
 AllKept (p ∷ people) = IsKeptPerson p × AllKept people
 
--- people that parse from their written form: at least one, and each is such a person
+-- people that parse from their written form: at least one, and each meets `IsKeptPerson`
 pub record ArePeople (people : List Person) : Type 0 where
   pub some : 0 < length people
   pub all : AllKept people

@@ -132,7 +132,7 @@ abbrev pub before_comma_person : List Word → List ℕ → List ℕ → Person
 before_comma_person words given suffix = cut_person (before_comma words) words given suffix
 
 -- the person of a name with a comma. `first` is the chunks before the first comma. `second` is the chunks of the given name:
--- those after the first comma, or after the second one if there are two commas.
+-- those after the second comma if there is one, otherwise those after the first.
 abbrev pub with_comma : List (Spanned Chunk) → List (Spanned Chunk) → List ℕ → Person
 with_comma first second suffix =
     if formats_to_nothing second then at_last_space (encode_utf8_all (formatted_chars first)) suffix

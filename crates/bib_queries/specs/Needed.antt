@@ -17,11 +17,11 @@ is_listed names name = list_any (λ one. bytes_eq one name) names
 abbrev pub node_at : List Node → ℕ → Node
 node_at nodes index = slice_index_or nodes index (record { names = []; references = [] })
 
--- whether the node at an index has a name
+-- whether the node at an index has this name
 abbrev pub HasName : List Node → ℕ → List ℕ → Type 0
 HasName nodes index name = is_listed (node_at nodes index).names name ≡ true
 
--- whether the node at an index refers to a name
+-- whether the node at an index refers to this name
 abbrev pub RefersTo : List Node → ℕ → List ℕ → Type 0
 RefersTo nodes index name = is_listed (node_at nodes index).references name ≡ true
 

@@ -44,7 +44,7 @@ issued_from (Some first) date = given_line (codes "PY") (signed_decimal first.ye
 abbrev pub issued_date : ItemDate → List ℕ
 issued_date date = issued_from (first_date date.parts) date
 
--- the text of a date of access: that of the first of its dates, or the text of a date that isn't parsed
+-- the text of a date of access: that of `first`, or the text of a date that isn't parsed
 abbrev pub access_text : Option DateParts → ItemDate → List ℕ
 access_text None date = unparsed date
 access_text (Some first) date = slashed_day first

@@ -144,7 +144,7 @@ contents_part entry =
 
 -- ---- records
 
--- the type
+-- the line with the type of the record
 unfoldable pub type_part : Entry → List ℕ
 type_part entry = ris_line (codes "TY") (ris_type entry.entry_type (field entry (codes "entrysubtype")))
 

@@ -100,7 +100,7 @@ question_at the_year placed = option_map compares_year (comparison_at placed)
 abbrev pub text_reading : Operator → ℕ → List ℕ → TextReading
 text_reading operator at text = record { operator = operator; text = text; at = at }
 
--- the test made of a question and a text, or `None` if the question is about a year and the text is no decimal number
+-- the test made of a question and a text, or `None` if the question is about a year and the text is no number by `decimal_of`
 abbrev pub answer_reading : QuestionReading → ℕ → List ℕ → Option TestReading
 answer_reading is_type at text = Some (of_type text)
 answer_reading is_other_type at text = Some (of_other_type text)

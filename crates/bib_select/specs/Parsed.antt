@@ -13,7 +13,7 @@ use Rattle.bib_select.specs.declared.errors.SelectionError.TheVariants.{Malforme
 use Rattle.bib_select.specs.declared.errors.SelectionErrorKind.TheVariants.{Regex, UnclosedQuote}
 use Rattle.bib_select.specs.declared.selection.Selection.{Selection}
 
--- all tokens of a text
+-- the segment with all tokens of a text
 abbrev pub whole_text : List ℕ → List Placed → Segment
 whole_text text tokens = record { tokens = tokens; end = length text }
 

@@ -22,7 +22,7 @@ use Rattle.bib_select.specs.declared.terms.Subject.TheVariants as subjects
 use Rattle.bib_select.specs.declared.terms.Question.{Question}
 use Rattle.bib_select.specs.declared.terms.Question.TheVariants as questions
 
--- a token
+-- a token of the code as one of the definitions
 abbrev pub token_of : Token → spec.Token
 token_of (Word text) = token.word text.now
 token_of (Quoted text) = token.quoted text.now
@@ -32,7 +32,7 @@ token_of (Sign text) = token.sign text.now
 abbrev pub placed_of : Placed → spec.Placed
 placed_of placed = record { token = token_of placed.token; at = placed.at }
 
--- consecutive tokens
+-- a segment of the code as one of the definitions
 abbrev pub segment_of : Segment → segments.Segment
 segment_of s = record { tokens = map placed_of s.tokens.now; end = s.end }
 

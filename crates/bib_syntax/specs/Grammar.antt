@@ -43,7 +43,7 @@ pub record Identifier (mode : Mode) (u : Place) (name : Part) (v : Place) : Type
   pub rest : Chars mode is_id_continue second v
   pub reading : name ≡ part u v
 
--- a number: a digit, and then zero or more digits and at most one point
+-- a number: an ASCII digit, and then zero or more ASCII digits and at most one point
 pub data Number (mode : Mode) : Place → Place → Type 0 where
   whole : {u v w : Place} {c : ℕ} → CharAt u c v → is_ascii_digit c ≡ true → Chars mode is_ascii_digit v w
       → Ends mode (λ d. d == char.point) w → Number mode u w
@@ -75,7 +75,7 @@ pub record Braced (u : Place) (content : Part) (v : Place) : Type 0 where
   pub closes : CharAt following char.close_brace v
   pub reading : content ≡ part inside following
 
--- no digit is at `u`; a piece that begins with a digit is a number
+-- no ASCII digit is at `u`; a piece that begins with an ASCII digit is a number
 abbrev pub NoDigit : Place → Type 0
 NoDigit u = (c : ℕ) (v : Place) → CharAt u c v → is_ascii_digit c ≡ true → ⊥
 

@@ -72,7 +72,7 @@ pub data Recovered (keeps_parts : Bool) : Place → FileReading → List Skipped
 abbrev pub IsRecovery : List ℕ → FileReading → List SkippedBlock → Type 0
 IsRecovery text says errors = Recovered false (place text 0) says errors
 
--- the same, but `says` also has the complete parts of the skipped blocks
+-- as in `IsRecovery`, but `says` also has the complete parts of the skipped blocks
 abbrev pub IsFullRecovery : List ℕ → FileReading → List SkippedBlock → Type 0
 IsFullRecovery text says errors = Recovered true (place text 0) says errors
 

@@ -69,7 +69,8 @@ pub data FieldFails : Place → ParseErrorKind → Place → Type 0 where
       → White longest x y → ElementsFails y kind z → FieldFails u kind z
 
 -- Fields up to the closing brace of their block fail after zero or more fields, each with a comma after it, in four cases. The
--- next field fails. Neither a comma nor the brace follows that field. Neither a name nor the brace occurs. The text ends.
+-- next field fails. Neither a comma nor the brace follows that field. Instead of a field or the brace, another character
+-- occurs, or the text ends.
 pub data FieldsFails : Place → ParseErrorKind → Place → Type 0 where
   first : {u v : Place} {kind : ParseErrorKind} → FieldFails u kind v → FieldsFails u kind v
   more : {u v w x y z : Place} {f : FieldReading} {kind : ParseErrorKind} → Field longest u f v → Gap longest v w → CharAt w char.comma x

@@ -11,7 +11,7 @@ use Rattle.bib_tables.specs.declared.type_error.TypeErrorKind.TheVariants.{OutOf
 abbrev pub IsRefusal : {M : Type 0} → Option M → (TypeErrorKind → Type 0) → TypeError → Type 0
 IsRefusal read may_refuse e = (e ≡ no_memory) ⊎ ((e.kind ≢ OutOfMemory) × (read ≡ None) × may_refuse e.kind)
 
--- the result is a value whose meaning is `read`, or an error as above
+-- the result is a value whose meaning is `read`, or an error for which `IsRefusal` holds
 abbrev pub IsReadAs : {V M : Type 0} → (V → M) → Option M → (TypeErrorKind → Type 0) → Result V TypeError → Type 0
 IsReadAs meaning read may_refuse (Ok v) = read ≡ Some (meaning v)
 IsReadAs meaning read may_refuse (Err e) = IsRefusal read may_refuse e

@@ -23,7 +23,7 @@ strings_written texts = joined_by (codes ",") (map (λ t. alone (Normal t)) text
 abbrev pub is_plain_in_list : ℕ → Bool
 is_plain_in_list c = not (c == char.comma) && not (is_break c)
 
--- a UTF-8 text of such characters
+-- a UTF-8 text without commas and line breaks
 pub record IsPlain (text : List ℕ) : Type 0 where
   pub utf8 : IsUtf8 text
   pub plain : list_all is_plain_in_list (chars text) ≡ true

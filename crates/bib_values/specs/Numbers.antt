@@ -11,13 +11,13 @@ use Rattle.bib_chunks.specs.declared.chunk.Chunk.TheVariants.{Normal}
 use Rattle.bib_chunks.specs.Values.{Value, text, alone}
 use Rattle.bib_values.specs.Roman.{roman_of}
 
--- whether a text is the decimal digits, with or without a sign, of a number that fits in 64 bits
+-- whether a text is the ASCII decimal digits, with or without a sign, of a number that fits in a signed 64-bit integer
 abbrev pub is_decimal : List ℕ → Bool
 is_decimal bs =
     (nat_lt 0 (length (without_leading_sign bs)) && all_ascii_digits (without_leading_sign bs))
     && nat_lt (mag (signed_digits_value 10 bs)) (2 ^ 63)
 
--- the number that a text spells in such digits
+-- the number of a text for which `is_decimal` holds; `None` for any other text
 unfoldable pub decimal_of : List ℕ → Option ℤ
 decimal_of bs = cond (is_decimal bs) (Some (signed_digits_value 10 bs)) None
 

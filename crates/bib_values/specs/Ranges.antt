@@ -19,7 +19,7 @@ use Rattle.bib_text.specs.Characters as char
 abbrev pub is_dash : ℕ → Bool
 is_dash c = c == char.hyphen || c == char.en_dash || c == char.em_dash
 
--- decimal digits, at least one, of a number that fits in 32 bits
+-- ASCII decimal digits, at least one, of a number that fits in 32 bits
 pub record IsNumber (digits : List ℕ) (n : ℕ) : Type 0 where
   pub some : 0 < length digits
   pub each : list_all is_ascii_digit digits ≡ true
@@ -120,7 +120,7 @@ range_text range = (decimal range.start ++ codes "-") ++ decimal range.end
 abbrev pub range_written : Range ℕ → Value
 range_written range = alone (Normal (range_text range))
 
--- how ranges are written: as a comma list of such texts
+-- how ranges are written: as a comma list of the texts by `range_text`
 abbrev pub ranges_written : List (Range ℕ) → Value
 ranges_written ranges = strings_written (map range_text ranges)
 
@@ -128,6 +128,6 @@ ranges_written ranges = strings_written (map range_text ranges)
 abbrev pub RangeKept : Range ℕ → Type 0
 RangeKept range = (range.start < 2 ^ 32) × (range.end < 2 ^ 32)
 
--- the lists of ranges that parse from their written form: at least one range, and each is such a range
+-- the lists of ranges that parse from their written form: at least one range, and the ends of each fit in 32 bits
 abbrev pub RangesKept : List (Range ℕ) → Type 0
 RangesKept ranges = (0 < length ranges) × AllByRecursion RangeKept ranges

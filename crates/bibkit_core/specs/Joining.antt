@@ -5,8 +5,8 @@ use Rattle.bib_source.specs.declared.positions.Position.{Position}
 use Rattle.bibkit_core.specs.Objects.{element}
 use Rattle.bibkit_core.specs.Sarif.{Rule, rule_object}
 
--- the position of the end of two texts, one after the other, from that of the first text and that of the second by itself; its line and
--- column are less than 2 ^ 64
+-- the position of the end of two texts, one after the other, from that of the first text and that of the second by itself; a sum is at
+-- most 2 ^ 64 - 1
 abbrev pub joined_position : Position → Position → Position
 joined_position first second =
     record {

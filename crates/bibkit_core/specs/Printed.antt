@@ -39,7 +39,7 @@ is_clean tally = (tally.errors == 0) && (tally.warnings == 0)
 abbrev pub has_no_finding : Tally → Bool
 has_no_finding tally = is_clean tally && (tally.infos == 0)
 
--- whether there are findings for which `lint` has the status 1: findings of at least this severity, or never
+-- whether there are findings for which `lint` has the status 1: those of at least the severity of the setting; with `Never`, none
 abbrev pub has_failing : FailOn → Tally → Bool
 has_failing fail_on.Error tally = not (tally.errors == 0)
 has_failing fail_on.Warning tally = not (is_clean tally)

@@ -40,8 +40,8 @@ pub record IsTaskAnswer {F T : Type 0} (reads : F → List ℕ → Option (List 
   pub text_is : text ≡ begins task ++ (texts ++ last)
   pub status_is : status ≡ (if are_read then end_status else 2)
 
--- an output of a task, with its status if it is whole: an empty text, or the texts before the files and for the first of them, or the
--- whole output
+-- an output of a task, with its status if it is whole: an empty text, or the text before the files and those for some files from the
+-- first on, or the whole output
 pub data IsTaskPrinted {F T : Type 0} (reads : F → List ℕ → Option (List ℕ) → F → Type 0) (begins : T → List ℕ)
     (prints : T → List ℕ → List ℕ → List ℕ → T → Type 0)
     (ends : T → List ℕ → ℕ → Type 0) (files : F) (task : T) (names : List (List ℕ)) : List ℕ → Option ℕ → Type 0 where

@@ -60,7 +60,7 @@ before_slash text = before_first (λ b. b == char.slash) text
 abbrev pub is_number : List ℕ → Bool
 is_number text = not (length text == 0) && list_all is_ascii_digit text
 
--- the text before the first hyphen or slash (or the whole text without one) if it is one or more digits, otherwise `None`
+-- the text before the first hyphen or slash (or the whole text without one) if it is one or more ASCII digits, otherwise `None`
 abbrev pub leading_year : List ℕ → Option (List ℕ)
 leading_year text = let year = before_slash (before_hyphen text) in if is_number year then Some year else None
 

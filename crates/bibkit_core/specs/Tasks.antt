@@ -50,7 +50,7 @@ abbrev pub in_file : Style → List ℕ → List ℕ → List ℕ
 in_file Checkstyle name text = file_element name text
 in_file _ name text = text
 
--- the status of `lint`: 1 if there are findings of the severities that the setting names, otherwise 0
+-- the status of `lint`: 1 if there are findings of at least the severity of the setting (with `Never`, none count), otherwise 0
 abbrev pub lint_status : FailOn → Tally → ℕ
 lint_status fail_on tally = if has_failing fail_on tally then 1 else 0
 

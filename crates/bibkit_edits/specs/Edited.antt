@@ -48,7 +48,7 @@ pub record IsDocumentOf (text : List ℕ) (d : Document) : Type 0 where
   pub same : d.text ≡ text
   pub read : IsDocument d
 
--- `after` is the document `d` with a line end and the document of `text`, with the line ends of `d`, after it
+-- `after` is the document `d`, followed by a line end and the document of `text` with line ends by `with_line_ends_of`
 pub record TextAdded (d : Document) (text : List ℕ) (after : Document) : Type 0 where
   pub more : Document
   pub read : IsDocumentOf (with_line_ends_of d.text text) more
@@ -150,7 +150,7 @@ pub data AreMade : List Edit → List ℕ → List ℕ → Type 0 where
   next : {edit : Edit} {rest : List Edit} {text new : List ℕ} (between : List ℕ) → IsMade edit text between
       → AreMade rest between new → AreMade (edit ∷ rest) text new
 
--- adding the document of `text`, with the line ends of `d`, to the document `d` may be refused with the error `why`
+-- adding the document of `text`, with line ends by `with_line_ends_of`, to the document `d` may be refused with the error `why`
 pub record TextIsRefused (d : Document) (text : List ℕ) (why : EditError) : Type 0 where
   pub more : Document
   pub read : IsDocumentOf (with_line_ends_of d.text text) more
@@ -179,7 +179,7 @@ abbrev pub MeetsReferenceCycle : Edit → Document → ℕ → Type 0
 MeetsReferenceCycle Resolve d entry = ResolveIsRefused d (resolve_error.Cycle entry)
 MeetsReferenceCycle _ d entry = ⊥
 
--- the edit of the text `file` adds the text `added`, which has the line ends of `file`
+-- the edit of the text `file` adds the text `added`, whose line ends are those by `with_line_ends_of`
 abbrev pub AddsText : Edit → List ℕ → List ℕ → Type 0
 AddsText (Add text) file added = added ≡ with_line_ends_of file text.now
 AddsText _ file added = ⊥

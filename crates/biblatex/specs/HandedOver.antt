@@ -31,12 +31,12 @@ pub record AreSomeTaken {K : Type 0} (hands_over : K → List ℕ → Bool → K
   pub parts : texts ≡ before ++ text ∷ after
   pub taken : AreTaken hands_over old before new
 
--- not all texts were passed to the sink: either it refused one, or memory ran out before one, by the returned error
+-- the sink didn't take all texts: either it refused one, or memory ran out before one, by the returned error
 abbrev pub AreCutShort : {K : Type 0} → (K → List ℕ → Bool → K → Type 0) → K → List (List ℕ) → K → WriteError → Type 0
 AreCutShort hands_over old texts new Refused = IsOneRefused hands_over old texts new
 AreCutShort hands_over old texts new OutOfMemory = AreSomeTaken hands_over old texts new
 
--- the calls to the sink for a list of texts: if `result` is Ok, the sink took all texts, and otherwise the calls ended early
+-- the calls to the sink for a list of texts: if `result` is Ok, the sink took all texts, and otherwise it didn't (`AreCutShort`)
 abbrev pub AreHandedOver : {K U : Type 0} → (K → List ℕ → Bool → K → Type 0) → K → List (List ℕ) → K → Result U WriteError → Type 0
 AreHandedOver hands_over old texts new result =
     MatchResult result (λ _. AreTaken hands_over old texts new) (AreCutShort hands_over old texts new)

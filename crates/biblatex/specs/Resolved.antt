@@ -64,13 +64,13 @@ pub data IsFirstErrorOf (says : FileReading) (e : ParseError) : Type 0 where
       → ((earlier : ℕ) → earlier < index → has_bad_date (texts_of_entries own) (graph_of own) values earlier ≡ false)
       → IsDateError own (graph_of own) values index e → IsFirstErrorOf says e
 
--- an error of a date: a `ResolutionError` with a kind that dates have
+-- an error of a date: a `ResolutionError` with the kind of a date error
 pub record IsOfDate (e : ParseError) : Type 0 where
   pub kind : TypeErrorKind
   pub is : e.kind ≡ ResolutionError kind
   pub of_dates : IsDateKind kind
 
 -- two errors of a file agree: they have the same kind and span. For a literal that can't be parsed, the span is left open.
--- For a date, the span and the choice among the kinds of dates are left open
+-- For a date, the span and the choice among the kinds of date errors are left open
 abbrev pub AreOneErrorOf : ParseError → ParseError → Type 0
 AreOneErrorOf e f = AreOneError e f ⊎ (IsOfDate e × IsOfDate f)

@@ -29,7 +29,7 @@ address_words =
 abbrev pub begins_address_word : List ℕ → Bool
 begins_address_word text = list_any (starts_with eqb text) address_words
 
--- whether the letters at the start of the text after a backslash, the name of a command, contain one of these words
+-- whether the ASCII letters at the start of the text after a backslash, the name of a command, contain one of these words
 abbrev pub begins_address : List ℕ → Bool
 begins_address [] = false
 begins_address (c ∷ cs) = is_ascii_alphabetic c && (begins_address_word (c ∷ cs) || begins_address cs)
@@ -75,8 +75,9 @@ stretch_after_text c rest =
     else if c == char.backslash && begins_accent rest then Accent
     else Text
 
--- the stretch after a character of the name or the arguments of a command with an address or a key, with `depth` open braces. A bracket
--- before the braces begins an optional argument, which counts as a brace up to its closing bracket.
+-- the stretch after a character of the name or the arguments of a command with an address or a key, with `depth` open braces. An opening
+-- bracket before the braces begins an optional argument and counts as a brace. If one brace or bracket is open, a closing bracket closes
+-- it, and the arguments go on.
 abbrev pub stretch_after_address : ℕ → ℕ → Stretch
 stretch_after_address depth c =
     if c == char.open_brace then Address (suc depth)
@@ -137,7 +138,7 @@ abbrev pub before_others : Option ℕ → List ℕ → List ℕ
 before_others None cs = []
 before_others (Some c) cs = c ∷ cs
 
--- the letters at the start of signs
+-- the ASCII letters at the start of signs
 abbrev pub leading_letters : List Sign → List ℕ
 leading_letters [] = []
 leading_letters (s ∷ ss) = before_others (letter_of s) (leading_letters ss)
@@ -152,7 +153,7 @@ abbrev pub white_count : List Sign → ℕ
 white_count [] = 0
 white_count (s ∷ ss) = if is_white s then suc (white_count ss) else 0
 
--- the name of a command before these signs, as TeX reads it: letters, or one other character
+-- the name of a command before these signs, as TeX reads it: ASCII letters, or one other character
 abbrev pub name_in_signs : List Sign → List ℕ
 name_in_signs [] = []
 name_in_signs (Plain c ∷ rest) = if is_ascii_alphabetic c then c ∷ leading_letters rest else c ∷ []
@@ -191,7 +192,7 @@ only_beyond_ascii (Some c) = character_if (is_beyond_ascii c) c
 abbrev pub composed : ℕ → ℕ → Option ℕ
 composed mark c = only_beyond_ascii (only_character (nfc (letter c ∷ mark ∷ [])))
 
--- the same, if there is a character
+-- a character, if there is one, and a mark as one character, as in `composed`
 abbrev pub composed_with : ℕ → Option ℕ → Option ℕ
 composed_with mark None = None
 composed_with mark (Some c) = composed mark c

@@ -47,7 +47,7 @@ text_fits quoted false depth (c ∷ cs) =
 abbrev pub is_neutral : Bool → ℕ → Bool
 is_neutral quoted c = not (c == char.open_brace) && not (c == char.close_brace) && not (quoted && c == char.quote)
 
--- the same of signs
+-- the condition `text_fits`, for signs; composed and grouped characters must be beyond ASCII
 abbrev pub fit : Bool → Bool → ℕ → List Sign → Bool
 fit quoted is_escaped depth [] = not is_escaped && depth == 0
 fit quoted true depth (Plain c ∷ ss) = fit quoted false depth ss

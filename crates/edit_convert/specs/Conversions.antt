@@ -35,7 +35,7 @@ abbrev pub other_names : Dialect → EntryType → List (List ℕ × List ℕ)
 other_names Biblatex kind = biblatex_names
 other_names Bibtex kind = names_in kind
 
--- whether one of some fields has a name, in any ASCII case
+-- whether one of these fields has this name, in any ASCII case
 abbrev pub is_field_there : List FieldReading → List ℕ → Bool
 is_field_there fields name = list_any (has_name name) fields
 
@@ -56,7 +56,7 @@ replaced_names dialect e = free_names e.fields (other_names dialect (entry_type_
 abbrev pub new_field_name : Dialect → EntryReading → FieldReading → Option (List ℕ)
 new_field_name dialect e f = other_name (replaced_names dialect e) f.name.text
 
--- the number of fields with a name, in any ASCII case
+-- the number of fields with this name, in any ASCII case
 abbrev pub times_named : List FieldReading → List ℕ → ℕ
 times_named fields name = length (filter (has_name name) fields)
 
@@ -110,7 +110,7 @@ is_comment_free text f (g ∷ gs) = not (has_percent text f.value.end g.name.sta
 abbrev pub keeps_comments : List ℕ → FieldReading → List FieldReading → Bool
 keeps_comments text f following = not (is_date_part f && list_any is_date_part following) || is_comment_free text f following
 
--- whether this holds for each field
+-- whether `keeps_comments` holds for each of these fields and the fields after it
 abbrev pub keep_comments : List ℕ → List FieldReading → Bool
 keep_comments text [] = true
 keep_comments text (f ∷ fs) = keeps_comments text f fs && keep_comments text fs
@@ -125,12 +125,12 @@ abbrev pub read_type : EntryType → List FieldReading → Option PrintedType
 read_type kind fields =
     if times_named fields (codes "type") == 1 then type_by_value kind (literal_of (find (has_name (codes "type")) fields)) else None
 
--- the type of BibTeX that is written instead of a field `type`; for BibLaTeX there is none
+-- the type of BibTeX that an entry gets by its field `type`, if there is one; for BibLaTeX there is none
 abbrev pub printed_type : Dialect → EntryType → List FieldReading → Option PrintedType
 printed_type Biblatex kind fields = None
 printed_type Bibtex kind fields = read_type kind fields
 
--- the value of the field `type` that is added to an entry for BibLaTeX, if the type needs one and the entry has no such field
+-- the value of the field `type` to be added to an entry for BibLaTeX, if the type needs one and the entry has no such field
 abbrev pub missing_type : Dialect → EntryType → List FieldReading → Option (List ℕ)
 missing_type Biblatex kind fields = if is_field_there fields (codes "type") then None else type_value kind
 missing_type Bibtex kind fields = None
@@ -233,7 +233,7 @@ with_field_before_kept new [] = []
 with_field_before_kept new (FieldChange.kept ∷ changes) = FieldChange.preceded new (codes " = ") (char.space ∷ []) ∷ changes
 with_field_before_kept new (change ∷ changes) = change ∷ with_field_before_kept new changes
 
--- the same with a field `type`, if it is missing
+-- these changes, with a new field `type` before the first field that is kept, if the value of a missing `type` is given
 abbrev pub with_missing_type : Option (List ℕ) → List FieldChange → List FieldChange
 with_missing_type None changes = changes
 with_missing_type (Some value) changes = with_field_before_kept (type_field value) changes

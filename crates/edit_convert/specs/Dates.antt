@@ -30,7 +30,7 @@ pub record Side : Type 0 where
   pub month : Option Month
   pub day : Option (List ℕ)
 
--- whether a text is a number of `count` digits
+-- whether a text is a number of `count` ASCII digits
 abbrev pub are_digits : ℕ → List ℕ → Bool
 are_digits count text = (length text == count) && list_all is_ascii_digit text
 
@@ -39,7 +39,7 @@ abbrev pub month_side : List ℕ → Option Month → Option (List ℕ) → Opti
 month_side year None day = None
 month_side year (Some month) day = Some (record { year = year; month = Some month; day = day })
 
--- the side with these parts: a year in four digits, and perhaps a month and a day in two each
+-- the side with these parts: a year in four ASCII digits, and perhaps a month and a day in two each
 abbrev pub side_of : List (List ℕ) → Option Side
 side_of [] = None
 side_of (year ∷ []) = if are_digits 4 year then Some (record { year = year; month = None; day = None }) else None
@@ -75,8 +75,8 @@ sides_of (from ∷ []) = one_side (side_in from)
 sides_of (from ∷ to ∷ []) = two_sides (side_in from) (side_in to)
 sides_of (from ∷ to ∷ other ∷ rest) = None
 
--- the sides of a date or a range that BibTeX has fields for. It parses as a date, and each side is a year in four digits, perhaps with a
--- month and a day in two each
+-- the sides of a date or a range that BibTeX has fields for. It parses as a date, and each side is a year in four ASCII digits, perhaps
+-- with a month and a day in two each
 abbrev pub date_sides : List ℕ → Option Sides
 date_sides text = if is_some (readable_value (date_of text)) then sides_of (slice_split (λ c. c == char.slash) text) else None
 
@@ -98,7 +98,7 @@ from_names = names_after []
 abbrev pub to_names : SideNames
 to_names = names_after (codes "end")
 
--- all these names
+-- the names of the fields of both sides
 abbrev pub part_names : List (List ℕ)
 part_names = codes "year" ∷ codes "month" ∷ codes "day" ∷ codes "endyear" ∷ codes "endmonth" ∷ codes "endday" ∷ []
 

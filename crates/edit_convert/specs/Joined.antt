@@ -13,15 +13,15 @@ use Rattle.bib_dates.specs.ThreeFields.{three_fields_of}
 use Rattle.bib_dates.specs.Written.{datetime_text, first_side}
 use Rattle.edit_convert.specs.Dates.{are_digits}
 
--- whether a text is a number of one or two digits
+-- whether a text is a number of one or two ASCII digits
 abbrev pub is_short_number : List ℕ → Bool
 is_short_number text = are_digits 1 text || are_digits 2 text
 
--- whether a text is a number of one or two digits, or consists of ASCII letters only, as the name of a month does
+-- whether a text is a number of one or two ASCII digits, or has only ASCII letters, as the name of a month does; it may be empty
 abbrev pub is_month_alone : List ℕ → Bool
 is_month_alone text = is_short_number text || list_all is_ascii_alphabetic text
 
--- whether there is no day, or the day is a number of one or two digits
+-- whether there is no day, or the day is a number of one or two ASCII digits
 abbrev pub is_day_alone : Option (List ℕ) → Bool
 is_day_alone None = true
 is_day_alone (Some text) = is_short_number text
@@ -33,8 +33,8 @@ month_date_text (Some d) =
     if is_some (first_side d.value).month && is_some (readable_value (date_of (datetime_text (first_side d.value))))
     then Some (datetime_text (first_side d.value)) else None
 
--- the text of the date that a year, a month and perhaps a day are parsed as. `None` if the year isn't four digits, if the month
--- names no month, if the day isn't one or two digits, or if they are no date
+-- the text of the date that a year, a month and perhaps a day are parsed as. `None` if the year isn't four ASCII digits, if the
+-- month names no month, if the day isn't one or two ASCII digits, or if they are no date
 abbrev pub joined_text : List ℕ → List ℕ → Option (List ℕ) → Option (List ℕ)
 joined_text year month day =
     if are_digits 4 year && (is_month_alone month && is_day_alone day)

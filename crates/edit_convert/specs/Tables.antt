@@ -44,7 +44,7 @@ replacement_by changes f =
     (other_name (lent_names changes.names.items) f.name.text) (type_if_named (printed_of changes.printed) f)
     (date_if_divided changes.divides f)
 
--- the same, except that no date is divided
+-- the replacement of a field as in `replacement_by`, except that no date is divided
 abbrev pub replacement_by_one : Changes → FieldReading → Option Replacement
 replacement_by_one changes f =
     first_replacement changes.defines (date_if_part (option_map string_bytes changes.joined) f)

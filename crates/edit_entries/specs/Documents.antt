@@ -54,12 +54,12 @@ abbrev pub last_position : {A : Type 0} → (A → Bool) → List A → Option �
 last_position test [] = None
 last_position test (x ∷ xs) = or_first (test x) (last_position test xs)
 
--- the first entry with a key, and its index
+-- `e` is the first entry with this key, and `k` is its index
 pub record HasEntry (d : Document) (key : List ℕ) (k : ℕ) (e : EntryReading) : Type 0 where
   pub first : first_position (is_keyed key) d.says.entries ≡ Some k
   pub here : slice_get d.says.entries k ≡ Some e
 
--- the last field of an entry with a name, and its index
+-- `f` is the last field of an entry with this name, in any ASCII case, and `j` is its index
 pub record HasField (e : EntryReading) (name : List ℕ) (j : ℕ) (f : FieldReading) : Type 0 where
   pub last : last_position (has_name name) e.fields ≡ Some j
   pub here : slice_get e.fields j ≡ Some f
@@ -137,7 +137,7 @@ pub data EntryRemoved (d : Document) (key : List ℕ) : Document → Type 0 wher
   removed : {k at : ℕ} {e : EntryReading} → HasEntry d key k e
       → Longest is_whitespace (place d.text (e.end + 1)) (place d.text at) → EntryRemoved d key (entry_removed d k e at)
 
--- the conditions under which removing an entry is refused
+-- for each error, the condition under which removing an entry may be refused with it
 abbrev pub EntryIsRefused : Document → List ℕ → EditError → Type 0
 EntryIsRefused d key UnknownKey = first_position (is_keyed key) d.says.entries ≡ None
 EntryIsRefused d key KeyIsThere = ⊥
@@ -161,14 +161,14 @@ field_edit e j f = record { start = f.name.start; end = field_limit e j; bytes =
 abbrev pub have_only : List ℕ → List FieldReading → Bool
 have_only name fields = list_any (has_name name) fields && list_all (has_name name) fields
 
--- the first entry with a key has at least one field, and all its fields have a name
+-- the first entry with this key has at least one field, and each of its fields has this name, in any ASCII case
 pub record HasOnlyFields (d : Document) (key name : List ℕ) : Type 0 where
   pub index : ℕ
   pub entry : EntryReading
   pub has : HasEntry d key index entry
   pub only : have_only name entry.fields ≡ true
 
--- the conditions under which unsetting a field is refused
+-- for each error, the condition under which unsetting a field may be refused with it
 abbrev pub UnsetIsRefused : Document → List ℕ → List ℕ → EditError → Type 0
 UnsetIsRefused d key name UnknownKey = first_position (is_keyed key) d.says.entries ≡ None
 UnsetIsRefused d key name KeyIsThere = ⊥
@@ -224,7 +224,7 @@ pub data EntriesAdded (d more : Document) : Document → Type 0 where
       → AgreeOnDefinitions d.says.abbreviations more.says.abbreviations
       → EntriesAdded d more (joined_documents d more)
 
--- the conditions under which adding a document is refused
+-- for each error, the condition under which adding a document may be refused with it
 abbrev pub EntriesAreRefused : Document → Document → EditError → Type 0
 EntriesAreRefused d more UnknownKey = ⊥
 EntriesAreRefused d more KeyIsThere = SharesNoName d more → ⊥

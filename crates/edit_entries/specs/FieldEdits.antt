@@ -23,7 +23,7 @@ abbrev pub new_field_first : List ℕ → List ℕ → SetValue → List FieldRe
 new_field_first text name value [] = unchanged
 new_field_first text name value (first ∷ others) = field_put text name value first others
 
--- whether an entry has a field with a name, in any ASCII case
+-- whether an entry has a field with this name, in any ASCII case
 abbrev pub has_named : List ℕ → EntryReading → Bool
 has_named name e = list_any (has_name name) e.fields
 
@@ -35,9 +35,9 @@ name_change old new f = if has_name old f then FieldChange.renamed new else Fiel
 abbrev pub names_changed : List ℕ → List ℕ → EntryReading → EntryChange
 names_changed old new e = record { kind = None; fields = map (name_change old new) e.fields }
 
--- The change of an entry by an edit. An entry without fields is kept. `Set`: each field with the name gets the value; if there
--- is none, a new field comes first. `Add`: if no field has the name, a new field comes first. `Rename`: each field with the old
--- name gets the new one, unless a field has that already.
+-- The change of an entry by an edit; names match in any ASCII case. An entry without fields is kept. `Set`: each field with the
+-- name gets the value; if there is none, a new field comes first. `Add`: if no field has the name, a new field comes first.
+-- `Rename`: each field with the old name gets the new one, unless a field has that already.
 abbrev pub entry_edited_by : List ℕ → FieldEdit → EntryReading → EntryChange
 entry_edited_by text (Set name value) e =
     if has_named name.now e then values_set name.now (value_of value) e else new_field_first text name.now (value_of value) e.fields
@@ -78,7 +78,7 @@ pub record CantBeEdited (d : Document) (selected : List ℕ → Bool) (edit : Fi
   pub because : IsValueError edit error
   pub unfit : HasFitValue d.says.abbreviations (first_start selected (length d.text) d.says.entries) edit → ⊥
 
--- the condition under which the edit of a field in the entries with selected keys is refused with this error
+-- for each error, the condition under which the edit of a field in the entries with selected keys may be refused with it
 abbrev pub FieldEditIsRefused : Document → (List ℕ → Bool) → FieldEdit → EditError → Type 0
 FieldEditIsRefused d selected edit UnknownKey = ⊥
 FieldEditIsRefused d selected edit KeyIsThere = ⊥

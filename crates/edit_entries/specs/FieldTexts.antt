@@ -28,7 +28,7 @@ pub record IsUnfitEdit (definitions : List FieldReading) (at : ℕ) (edit : Fiel
   pub because : IsValueError edit error
   pub unfit : HasFitValue definitions at edit → ⊥
 
--- the conditions under which the text of an edit at a byte offset is refused
+-- for each error, the condition under which the text of an edit at a byte offset may be refused with it
 abbrev pub EditTextIsRefused : List FieldReading → ℕ → FieldEdit → EditError → Type 0
 EditTextIsRefused definitions at edit UnknownKey = ⊥
 EditTextIsRefused definitions at edit KeyIsThere = ⊥

@@ -41,8 +41,8 @@ abbrev pub padding_or : Option ℕ → List ℕ → List ℕ → List ℕ
 padding_or (Some column) name white = name_padding column name
 padding_or None name white = white
 
--- the white space before the equals sign of a new field before these. If one of them has more than one byte there, spaces end at the
--- column of the first such field; there is at least one. Otherwise the white space is as in the first field
+-- the text between the name of a new field before these and its equals sign. If one of them has more than one byte there, it is spaces
+-- up to the column of the equals sign of the first such field, but at least one. Otherwise it is that of the first field
 abbrev pub new_before_sign : List ℕ → List ℕ → FieldReading → List FieldReading → List ℕ
 new_before_sign text name first fields = padding_or (wide_column text fields) name (before_equals text first)
 

@@ -17,7 +17,7 @@ line_end_of text =
 abbrev pub with_return : ℕ → ℕ → List ℕ
 with_return before c = if c == char.line_feed && not (before == char.carriage_return) then char.carriage_return ∷ c ∷ [] else c ∷ []
 
--- the same for each character of a list; the first one is after `before`
+-- the characters of a list, each as in `with_return`; the first one is after `before`
 abbrev pub with_returns : ℕ → List ℕ → List ℕ
 with_returns before [] = []
 with_returns before (c ∷ cs) = with_return before c ++ with_returns c cs

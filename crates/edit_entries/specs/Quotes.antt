@@ -15,15 +15,15 @@ abbrev pub is_unbalanced_quote : List ℕ → Piece → Bool
 is_unbalanced_quote text (literal p) = has_byte_at text (p.start - 1) char.quote && not (is_balanced p.text)
 is_unbalanced_quote text (abbreviation p) = false
 
--- whether a field contains such a piece
+-- whether a field contains a piece in quotes whose braces aren't balanced
 abbrev pub has_unbalanced_quote : List ℕ → FieldReading → Bool
 has_unbalanced_quote text f = list_any (is_unbalanced_quote text) f.value.pieces
 
--- whether an entry contains such a field
+-- whether an entry contains a piece in quotes whose braces aren't balanced
 abbrev pub contains_unbalanced_quote : List ℕ → EntryReading → Bool
 contains_unbalanced_quote text e = list_any (has_unbalanced_quote text) e.fields
 
--- whether an entry of a document contains such a field, or the definition of an abbreviation is one
+-- whether an entry, or the definition of an abbreviation, in a document contains a piece in quotes whose braces aren't balanced
 abbrev pub has_unbalanced_quotes : Document → Bool
 has_unbalanced_quotes d =
     list_any (contains_unbalanced_quote d.text) d.says.entries || list_any (has_unbalanced_quote d.text) d.says.abbreviations

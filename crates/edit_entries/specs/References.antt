@@ -32,11 +32,11 @@ unless_other keys None other = None
 unless_other keys (Some i) None = Some i
 unless_other keys (Some i) (Some j) = if bytes_eq (slice_index_or keys i []) (slice_index_or keys j []) then Some i else None
 
--- whether an entry has a name in its fields `ids`
+-- whether an entry has this name in its fields `ids`
 abbrev pub has_alias : List ℕ → EntryReading → Bool
 has_alias name e = is_listed (aliases_of e.fields) name
 
--- whether an entry has a name as its key, in any ASCII case
+-- whether an entry has this name as its key, in any ASCII case
 abbrev pub has_key_word : List ℕ → EntryReading → Bool
 has_key_word name e = is_word e.key.text name
 
@@ -46,8 +46,8 @@ abbrev pub index_in_any_case : List EntryReading → List ℕ → Option ℕ
 index_in_any_case entries name =
     unless_other (map (λ e. e.key.text) entries) (first_position (has_key_word name) entries) (first_position (has_alias name) entries)
 
--- the index of the entry that a name in a field means: the first one with exactly this key. A name in `crossref`, the only one of these
--- fields that BibTeX reads, can also mean an entry by a key in another ASCII case.
+-- the index of the entry that a name in a field means: the first one with exactly this key. A name in `crossref`, the only reference
+-- field that BibTeX reads, can also mean an entry by a key in another ASCII case.
 abbrev pub meant_index : List EntryReading → List ℕ → List ℕ → Option ℕ
 meant_index entries field name =
     first_found (first_position (is_keyed name) entries)
@@ -83,7 +83,7 @@ renamed_element names element = option_map_or (λ new. between_white new element
 abbrev pub renamed_list : (List ℕ → Option (List ℕ)) → List ℕ → List ℕ
 renamed_list names list = join_by (renamed_element names) (char.comma ∷ []) (elements_of list)
 
--- the same, or `None` if no element gets a new name
+-- a comma list with the new names of its elements, or `None` if no element gets a new name
 abbrev pub renamed_where_listed : (List ℕ → Option (List ℕ)) → List ℕ → Option (List ℕ)
 renamed_where_listed names list = if list_any (is_renamed names) (elements_of list) then Some (renamed_list names list) else None
 
@@ -186,7 +186,7 @@ pub record CantBeWritten (d : Document) (keys : ℕ → Option (List ℕ)) : Typ
   pub can : CanGetKeys d.says.entries keys
   pub cant : AllByRecursion CanBeMade (key_renaming keys d.says.entries) → ⊥
 
--- the conditions under which giving entries new keys is refused
+-- for each error, the condition under which giving entries new keys may be refused with it
 abbrev pub KeysAreRefused : Document → (ℕ → Option (List ℕ)) → EditError → Type 0
 KeysAreRefused d keys UnknownKey = ⊥
 KeysAreRefused d keys KeyIsThere = IsNewKeyTaken d.says.entries keys
@@ -215,7 +215,7 @@ pub data KeyRenamed (d : Document) (old new : List ℕ) : Document → Type 0 wh
   renamed : {k : ℕ} {e : EntryReading} {after : Document} → HasEntry d old k e → bytes_eq old new ≡ false
       → KeysRenamed d (only k new) after → KeyRenamed d old new after
 
--- the first entry with a key is refused another key
+-- giving the first entry with the key `old` another key, `new`, may be refused with this error
 pub record IsKeyRefused (d : Document) (old new : List ℕ) (error : EditError) : Type 0 where
   pub index : ℕ
   pub entry : EntryReading
@@ -223,7 +223,7 @@ pub record IsKeyRefused (d : Document) (old new : List ℕ) (error : EditError) 
   pub other : bytes_eq old new ≡ false
   pub refused : KeysAreRefused d (only index new) error
 
--- the conditions under which renaming a key is refused
+-- for each error, the condition under which renaming a key may be refused with it
 abbrev pub RenameIsRefused : Document → List ℕ → List ℕ → EditError → Type 0
 RenameIsRefused d old new UnknownKey = first_position (is_keyed old) d.says.entries ≡ None
 RenameIsRefused d old new KeyIsThere = IsKeyRefused d old new KeyIsThere

@@ -17,11 +17,11 @@ use Rattle.edit_entries.specs.declared.errors.EditError.TheVariants.{UnknownKey,
 abbrev pub unset_if_selected : (List ℕ → Bool) → List ℕ → List ℕ → EntryReading → List Edit
 unset_if_selected selected text name e = if selected e.key.text then unset_edits text name e else []
 
--- an entry without its fields with a name, if its key is selected
+-- an entry without its fields with this name, if its key is selected
 abbrev pub without_if_selected : (List ℕ → Bool) → List ℕ → EntryReading → EntryReading
 without_if_selected selected name e = if selected e.key.text then without_named name e else e
 
--- whether the key of an entry is selected, it has at least one field, and all its fields have a name
+-- whether the key of an entry is selected, the entry has at least one field, and each of its fields has this name, in any ASCII case
 abbrev pub would_be_empty : (List ℕ → Bool) → List ℕ → EntryReading → Bool
 would_be_empty selected name e = selected e.key.text && have_only name e.fields
 
@@ -32,7 +32,7 @@ pub record FieldsUnset (d : Document) (selected : List ℕ → Bool) (name : Lis
   pub text : after.text ≡ edited_all (flat_map (unset_if_selected selected d.text name) d.says.entries) d.text
   pub alike : placeless after.says ≡ placeless (record d.says { entries = map (without_if_selected selected name) d.says.entries })
 
--- the conditions under which unsetting a field of entries is refused
+-- for each error, the condition under which unsetting a field of entries may be refused with it
 abbrev pub UnsettingIsRefused : Document → (List ℕ → Bool) → List ℕ → EditError → Type 0
 UnsettingIsRefused d selected name UnknownKey = ⊥
 UnsettingIsRefused d selected name KeyIsThere = ⊥

@@ -38,7 +38,7 @@ pub record IsUnfit (definitions : List FieldReading) (at : ℕ) (value : SetValu
   pub because : error ≡ unfit_error value
   pub unfit : IsWritableAt definitions at value → ⊥
 
--- the conditions under which a new field is refused
+-- for each error, the condition under which a new field may be refused with it
 abbrev pub AddIsRefused : List FieldReading → ℕ → List ℕ → SetValue → EditError → Type 0
 AddIsRefused definitions at name value UnknownKey = ⊥
 AddIsRefused definitions at name value KeyIsThere = ⊥
@@ -50,14 +50,15 @@ AddIsRefused definitions at name value DefinitionIsThere = ⊥
 AddIsRefused definitions at name value NoFieldLeft = ⊥
 AddIsRefused definitions at name value OutOfMemory = ⊤
 
--- a value can't be written in an entry in which no field has the name, or one of them has another value. `error` is the error for it
+-- a value can't be written in an entry in which no field has the name, or a field with the name has another value. `error` is the
+-- error for it
 pub record CantBeSetIn (definitions : List FieldReading) (e : EntryReading) (name : List ℕ) (value : SetValue)
     (error : EditError) : Type 0 where
   pub because : error ≡ unfit_error value
   pub unfit : IsWritableAt definitions e.start value → ⊥
   pub new : list_any (has_name name) e.fields ≡ true → list_any (has_other_value name value) e.fields ≡ true
 
--- the conditions under which setting a field of an entry is refused
+-- for each error, the condition under which setting a field of an entry may be refused with it
 abbrev pub SetTextIsRefused : List FieldReading → EntryReading → List ℕ → SetValue → EditError → Type 0
 SetTextIsRefused definitions e name value UnknownKey = ⊥
 SetTextIsRefused definitions e name value KeyIsThere = ⊥

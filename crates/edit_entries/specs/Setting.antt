@@ -32,7 +32,7 @@ abbrev pub begins_with_digit : List ℕ → Bool
 begins_with_digit [] = false
 begins_with_digit (b ∷ bs) = is_ascii_digit b
 
--- a text can be the name of a new field, also for BibTeX and Biber, which read no name that begins with a digit
+-- a text can be the name of a new field, also for BibTeX and Biber, which read no name that begins with an ASCII digit
 pub record CanBeNewName (text : List ℕ) : Type 0 where
   pub name : CanBeName text
   pub no_digit : begins_with_digit text ≡ false
@@ -72,7 +72,7 @@ is_same_value (SetValue.bare_text text) [] = false
 is_same_value (SetValue.bare_text text) (p ∷ []) = is_bare_piece text p
 is_same_value (SetValue.bare_text text) (p ∷ other ∷ rest) = false
 
--- whether a definition has a name, in any ASCII case, and begins before a byte offset
+-- whether a definition has this name, in any ASCII case, and begins before this byte offset
 abbrev pub is_defined_before : ℕ → List ℕ → FieldReading → Bool
 is_defined_before at name f = has_name name f && nat_lt f.name.start at
 
@@ -82,8 +82,8 @@ abbrev pub is_defined : List FieldReading → ℕ → List ℕ → Bool
 is_defined definitions at name =
     is_some (month_of_abbreviation name) || list_any (is_defined_before at name) definitions
 
--- a text can be a value without braces at a byte offset. It is a number, or an abbreviation that doesn't begin with a digit, and is a
--- month or defined before the offset
+-- a text can be a value without braces at a byte offset. It is a number, or an abbreviation that doesn't begin with an ASCII digit. The
+-- abbreviation is that of a month, or is defined before the offset
 pub data IsBare (definitions : List FieldReading) (at : ℕ) (text : List ℕ) : Type 0 where
   number : is_bare_number text ≡ true → IsBare definitions at text
   named : CanBeNewName text → is_defined definitions at text ≡ true → IsBare definitions at text
@@ -98,18 +98,18 @@ abbrev pub unfit_error : SetValue → EditError
 unfit_error (SetValue.plain_text text) = NotInBraces
 unfit_error (SetValue.bare_text text) = NotBare
 
--- whether a field has a name, in any ASCII case, and another value than this one
+-- whether a field has this name, in any ASCII case, and another value than this one
 abbrev pub has_other_value : List ℕ → SetValue → FieldReading → Bool
 has_other_value name value f = has_name name f && not (is_same_value value f.value.pieces)
 
 -- ---- the change
 
--- the change of a field that gets a value if it has a name
+-- the change of a field that gets this value if it has this name and another value
 abbrev pub set_change : List ℕ → SetValue → FieldReading → FieldChange
 set_change name value f = if has_other_value name value f then FieldChange.valued (new_value value) else FieldChange.kept
 
--- the change of an entry in which each field with a name gets a value. BibTeX reads the first of these fields, Biber and this library
--- the last
+-- the change of an entry in which each field with this name gets this value. BibTeX reads the first of these fields, Biber and this
+-- library the last
 abbrev pub values_set : List ℕ → SetValue → EntryReading → EntryChange
 values_set name value e = record { kind = None; fields = map (set_change name value) e.fields }
 
@@ -117,7 +117,7 @@ values_set name value e = record { kind = None; fields = map (set_change name va
 abbrev pub white_before : List ℕ → ℕ → List ℕ
 white_before text at = drop (at - suffix_len is_ascii_whitespace (take at text)) (take at text)
 
--- a new field with a value
+-- a new field with this name and this value
 abbrev pub field_with_value : List ℕ → SetValue → NewField
 field_with_value name value = record { name = name; value = new_value value }
 
@@ -163,8 +163,8 @@ pub record IsFirstAdded (d : Document) (k : ℕ) (e : EntryReading) (name : List
 
 -- ---- the outcome
 
--- the outcome of setting a field of the first entry with a key. A value that the entry doesn't have yet can be written in it, and a new
--- field can have the name.
+-- the outcome of setting a field of the first entry with this key. A value that the entry doesn't have yet can be written in it, and a
+-- new field can have the name.
 pub data FieldSet (d : Document) (key name : List ℕ) (value : SetValue) : Document → Type 0 where
   changed : {k : ℕ} {e : EntryReading} {after : Document} → HasEntry d key k e → list_any (has_name name) e.fields ≡ true
       → (list_any (has_other_value name value) e.fields ≡ true → IsWritableAt d.says.abbreviations e.start value)
@@ -176,7 +176,7 @@ pub data FieldSet (d : Document) (key name : List ℕ) (value : SetValue) : Docu
   only : {k : ℕ} {e : EntryReading} {after : Document} → HasEntry d key k e → e.fields ≡ [] → CanBeNewName name
       → IsWritableAt d.says.abbreviations e.start value → IsFirstAdded d k e name value after → FieldSet d key name value after
 
--- the last field with a name, of the first entry with a key, has a value
+-- in the first entry with this key, the last field with this name has this value
 pub record HasValue (d : Document) (key name : List ℕ) (value : SetValue) : Type 0 where
   pub index : ℕ
   pub entry : EntryReading
@@ -186,7 +186,7 @@ pub record HasValue (d : Document) (key name : List ℕ) (value : SetValue) : Ty
   pub named : HasField entry name at field
   pub is : is_same_value value field.value.pieces ≡ true
 
--- the first entry with a key has a field with a name, and each such field has this value
+-- the first entry with this key has a field with this name, and each of its fields with the name has this value
 pub record IsSet (d : Document) (key name : List ℕ) (value : SetValue) : Type 0 where
   pub index : ℕ
   pub entry : EntryReading
@@ -194,8 +194,8 @@ pub record IsSet (d : Document) (key name : List ℕ) (value : SetValue) : Type 
   pub named : list_any (has_name name) entry.fields ≡ true
   pub same : list_any (has_other_value name value) entry.fields ≡ false
 
--- the value can't be written in the first entry with a key, in which no field has the name, or one of them has another value. `error`
--- is the error for it
+-- the value can't be written in the first entry with this key. In this entry, no field has the name, or a field with the name has
+-- another value. `error` is the error for it
 pub record CantBeSet (d : Document) (key name : List ℕ) (value : SetValue) (error : EditError) : Type 0 where
   pub index : ℕ
   pub entry : EntryReading
@@ -204,7 +204,7 @@ pub record CantBeSet (d : Document) (key name : List ℕ) (value : SetValue) (er
   pub unfit : IsWritableAt d.says.abbreviations entry.start value → ⊥
   pub new : IsSet d key name value → ⊥
 
--- the conditions under which setting a field is refused
+-- for each error, the condition under which setting a field may be refused with it
 abbrev pub SetIsRefused : Document → List ℕ → List ℕ → SetValue → EditError → Type 0
 SetIsRefused d key name value UnknownKey = first_position (is_keyed key) d.says.entries ≡ None
 SetIsRefused d key name value KeyIsThere = ⊥

@@ -63,7 +63,7 @@ comma_before text e j f = gap_end text (end_before e j) f.name.start
 abbrev pub comma_after : List ℕ → EntryReading → ℕ → FieldReading → ℕ
 comma_after text e j f = gap_end text f.value.end (field_limit e j)
 
--- whether a comma or a closing brace is there
+-- whether a comma or a closing brace is at `comma_after`
 abbrev pub is_closed : List ℕ → EntryReading → ℕ → FieldReading → Bool
 is_closed text e j f =
     has_byte_at text (comma_after text e j f) char.comma || has_byte_at text (comma_after text e j f) char.close_brace
@@ -89,8 +89,8 @@ comma_end text e j f =
 
 -- ---- a field without a comment before it
 
--- the edit that removes a field without a comment before it, from the comma before it up to and including its own comma. If it has no
--- comma, the edit ends at `own_end`
+-- the edit that removes a field without a comment before it, from after the comma before it up to and including its own comma. If it
+-- has no comma, the edit ends at `own_end`
 abbrev pub line_edit : List ℕ → EntryReading → ℕ → FieldReading → Edit
 line_edit text e j f = record { start = comma_before text e j f + 1; end = comma_end text e j f; bytes = [] }
 
@@ -130,7 +130,7 @@ following_edit text e j f =
     then Some (lines_edit text e j f)
     else None
 
--- the same, if the text after the comma before the field is ASCII white space and then a comment that ends with a line feed
+-- `following_edit`, if the text after the comma before the field is ASCII white space and then a comment that ends with a line feed
 abbrev pub commented_edit : List ℕ → EntryReading → ℕ → FieldReading → Option Edit
 commented_edit text e j f =
     if has_byte_at text (sign_before text e j f) char.percent && has_byte_at text (feed_before text e j f) char.line_feed
@@ -149,18 +149,18 @@ own_edit text e j f =
 
 -- ---- the fields with a name
 
--- the edit that removes a field of an entry up to the next field or the closing brace, if it has a name
+-- the edit that removes a field of an entry up to the next field or the closing brace, if the field has this name
 abbrev pub removal : List ℕ → EntryReading → ℕ → FieldReading → List Edit
 removal name e index f = if has_name name f then field_edit e index f ∷ [] else []
 
--- the edits that remove each of these fields with a name, up to the next field or the closing brace. The first of these fields has the
--- given index
+-- the edits that remove those of these fields that have this name, each up to the next field or the closing brace. The first of these
+-- fields has the given index
 abbrev pub removals : List ℕ → EntryReading → ℕ → List FieldReading → List Edit
 removals name e index [] = []
 removals name e index (f ∷ rest) = removal name e index f ++ removals name e (suc index) rest
 
 -- the edit that removes a field with the comma after it and no comment of another field. There is one if the commas around it are found
--- and no comment is before it
+-- and no percent sign is between the first of them and the field
 abbrev pub plain_edit : List ℕ → EntryReading → ℕ → FieldReading → Option Edit
 plain_edit text e j f =
     if has_byte_at text (comma_before text e j f) char.comma && has_byte_at text (comma_after text e j f) char.comma
@@ -180,8 +180,8 @@ with_edit None more = None
 with_edit (Some edit) None = None
 with_edit (Some edit) (Some edits) = Some (edit ∷ edits)
 
--- the edits that remove each of these fields with a name and no comment of another field, if there is one for each of them. The first of
--- these fields has the given index
+-- the edits that remove those of these fields that have this name, and no comment of another field, if there is one for each of them.
+-- The first of these fields has the given index
 abbrev pub own_edits : List ℕ → List ℕ → EntryReading → ℕ → List FieldReading → Option (List Edit)
 own_edits text name e index [] = Some []
 own_edits text name e index (f ∷ rest) =
@@ -189,24 +189,24 @@ own_edits text name e index (f ∷ rest) =
     then with_edit (edit_before (list_any (has_name name) rest) text e index f) (own_edits text name e (suc index) rest)
     else own_edits text name e (suc index) rest
 
--- these edits, or those that remove each field with a name up to the next field or the closing brace
+-- these edits, or else those that remove each field with this name up to the next field or the closing brace
 abbrev pub or_removals : List ℕ → EntryReading → Option (List Edit) → List Edit
 or_removals name e None = removals name e 0 e.fields
 or_removals name e (Some edits) = edits
 
--- the edits that unset the fields of an entry with a name. Each of them is removed without a comment of another field, if there are edits
--- that do it. Otherwise each is removed up to the next field or the closing brace.
+-- the edits that unset the fields with this name in an entry. Each of them is removed without a comment of another field, if there are
+-- edits that do it. Otherwise each is removed up to the next field or the closing brace.
 abbrev pub unset_edits : List ℕ → List ℕ → EntryReading → List Edit
 unset_edits text name e = or_removals name e (own_edits text name e 0 e.fields)
 
 -- ---- the outcome
 
--- an entry without its fields with a name
+-- an entry without its fields with this name, in any ASCII case
 abbrev pub without_named : List ℕ → EntryReading → EntryReading
 without_named name e = record e { fields = filter (λ f. not (has_name name f)) e.fields }
 
--- the document after a field is unset in an entry, which also has a field with another name. Each field with the name is removed. The
--- reading is as it was except for these fields and byte offsets.
+-- the document after a field is unset in the first entry with this key. Each field with the name is removed, and the entry doesn't lose
+-- all its fields. The reading is as it was except for these fields and byte offsets.
 pub data FieldUnset (d : Document) (key name : List ℕ) : Document → Type 0 where
   unset : {k : ℕ} {e : EntryReading} {after : Document} → HasEntry d key k e → have_only name e.fields ≡ false
       → after.text ≡ edited_all (unset_edits d.text name e) d.text

@@ -111,7 +111,7 @@ abbrev pub is_unbalanced : Piece → Bool
 is_unbalanced (literal p) = not (is_balanced p.text)
 is_unbalanced (abbreviation p) = false
 
--- whether a field has such a piece
+-- whether a field has a literal whose braces aren't balanced
 abbrev pub has_unbalanced : FieldReading → Bool
 has_unbalanced f = list_any is_unbalanced f.value.pieces
 

@@ -51,7 +51,7 @@ pub record AreSet (own others : List Entry) (key name text : List ℕ) : Type 0 
   pub differ : DifferInField own others index name (Some atoms)
   pub is : differ.entry.key ≡ key
 
--- `others` differ from `own` as `DifferInField` states: the entry with a key has no field with a name
+-- `others` differ from `own` as `DifferInField` states: the entry with this key has no field with this name
 pub record AreUnset (own others : List Entry) (key name : List ℕ) : Type 0 where
   pub index : ℕ
   pub differ : DifferInField own others index name None
@@ -64,8 +64,8 @@ pub record AreUnset (own others : List Entry) (key name : List ℕ) : Type 0 whe
 abbrev pub lost_names : Names
 lost_names = fields "xdata month day"
 
--- a bibliography has exactly one entry with a key, and its field of this name has the contents of a text. The key points to this entry, or
--- to a later one that has it as an alias in `ids`
+-- a bibliography has exactly one entry with this key, and its field of this name has the contents of this text. The key points to this
+-- entry, or to a later one that has it as an alias in `ids`
 pub record HasFieldContents (bibliography : Bibliography) (key name text : List ℕ) : Type 0 where
   pub index : ℕ
   pub entry : Entry
@@ -82,8 +82,9 @@ pub record HasFieldContents (bibliography : Bibliography) (key name text : List 
 abbrev pub linked_names : Names
 linked_names = fields "ids crossref xdata date year month day"
 
--- two bibliographies have the same keys, entry types and names. They have the same fields in each entry, with two exceptions. One field of
--- the entry with a key may differ, and so may entries that lead to this one by the references of `own`, the entries before inheriting.
+-- two bibliographies have the same keys, entry types and names. Each entry has the same styled texts of fields, with two exceptions.
+-- One field of the entry with a key may differ, and so may entries that lead to this one by the references of `own`, the entries
+-- before inheriting.
 pub record AreAlikeExcept (own : List Entry) (one other : Bibliography) (key name : List ℕ) : Type 0 where
   pub index : ℕ
   pub entry : Entry
@@ -97,7 +98,8 @@ pub record AreAlikeExcept (own : List Entry) (one other : Bibliography) (key nam
   pub others : (at : ℕ) → (at ≡ index → ⊥) → (Leads (graph_of own) at index → ⊥)
       → at_index (texts_of_entries one.entries) at ≡ at_index (texts_of_entries other.entries) at
 
--- an entry of a bibliography has a field exactly if it inherits it: `own` are the entries before inheriting
+-- the styled text of a field of an entry is the one that the entry inherits; if it inherits none, the field is missing. `own` are the
+-- entries before inheriting
 pub record IsInherited (own : List Entry) (bibliography : Bibliography) (key name : List ℕ) : Type 0 where
   pub index : ℕ
   pub entry : Entry

@@ -14,7 +14,8 @@ use Rattle.edit_entries.specs.References.{elements_of, meant_index}
 
 -- ---- entries before inheriting
 
--- an entry is another one with the same or a new key, the same type, and the same own fields, except for reference fields
+-- an entry is another one with the same or a new key, the same type, and the same styled texts of its own fields, except for
+-- reference fields
 pub record IsKeyRenamed (keys : ℕ → Option (List ℕ)) (one other : Entry) : Type 0 where
   pub key : (other.key ≡ one.key) ⊎ ((index : ℕ) × (keys index ≡ Some other.key))
   pub kind : other.entry_type ≡ one.entry_type
@@ -34,7 +35,8 @@ MeansSameEntry entries others field element new =
     (index : ℕ) → meant_index entries field (trim element) ≡ Some index → meant_index others field (trim new) ≡ Some index
 
 -- the field `one` of `entries` and the field `other` of `others` have the same name. If they are reference fields and the value of `one` is
--- one literal, the value of `other` is one with as many elements, and each means the entry at the same index.
+-- one literal, so is the value of `other`, with as many elements. If an element of `one` means an entry, the element of `other` means the
+-- entry at the same index.
 pub record HasSameReferences (entries others : List EntryReading) (one other : FieldReading) : Type 0 where
   pub name : other.name.text ≡ one.name.text
   pub value : (p : Part) → is_reference_field one.name.text ≡ true → one.value.pieces ≡ literal p ∷ []

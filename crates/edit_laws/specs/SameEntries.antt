@@ -1,5 +1,5 @@
 -- Meaning: words of public contracts.
--- Bibliographies with the same entries in any order.
+-- Bibliographies whose entries have the same keys, types and styled texts of fields, in any order.
 use Rattle.std.specs.Prelude.{◌≡◌, ℕ, List, map, option_map}
 use Rattle.std.specs.List.Sorted.{IsPermutation}
 use Rattle.bib_entry.specs.declared.entry.Entry.{Entry}
@@ -16,7 +16,8 @@ described e = (e.key, texts_of_entry e)
 abbrev pub AreClaimsDistinct : List Entry → Type 0
 AreClaimsDistinct own = (name : List ℕ) (i j : ℕ) → ClaimsAt own i name → ClaimsAt own j name → i ≡ j
 
--- two bibliographies have the same entries, in any order, and each name points to the same entry in both
+-- two bibliographies have the same entries, in any order, and each name points to the same entry in both. Entries are compared by
+-- `described`
 pub record HaveSameEntries (one other : Bibliography) : Type 0 where
   pub entries : IsPermutation (map described one.entries) (map described other.entries)
   pub names : (name : List ℕ) → option_map described (entry_of one name) ≡ option_map described (entry_of other name)

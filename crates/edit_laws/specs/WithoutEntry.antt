@@ -15,7 +15,7 @@ IsUnreferenced own key =
     (index : ℕ) (entry : Entry) → slice_get own index ≡ Some entry → entry.key ≡ key → (at : ℕ)
     → Contains (refs_of (graph_of own) at) index → ⊥
 
--- the entries `others` have the keys, types and own fields of `own`, without the entry with a key
+-- the entries `others` have the keys, types and styled texts of fields of `own`, without the entry with a key
 pub record AreWithout (own others : List Entry) (key : List ℕ) : Type 0 where
   pub index : ℕ
   pub entry : Entry
@@ -24,8 +24,8 @@ pub record AreWithout (own others : List Entry) (key : List ℕ) : Type 0 where
   pub keys : map (λ e. e.key) others ≡ remove (map (λ e. e.key) own) index
   pub texts : texts_of_entries others ≡ remove (texts_of_entries own) index
 
--- the bibliography `other` is `one` without the entry with a key. A name that didn't point to this entry points to the entry that
--- it pointed to.
+-- the bibliography `other` has the keys, types and styled texts of fields of `one`, without the entry with a key. A name that didn't
+-- point to this entry points to the entry that it pointed to.
 pub record IsBibliographyWithout (one other : Bibliography) (key : List ℕ) : Type 0 where
   pub index : ℕ
   pub entry : Entry

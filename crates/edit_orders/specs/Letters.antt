@@ -14,7 +14,7 @@ abbrev pub separates_words : ℕ → Bool
 separates_words c = is_whitespace c || (c == char.slash || (c == char.hyphen || (c == char.en_dash || c == char.em_dash)))
 
 -- the letters that a lowercase letter is sorted as, in UTF-8. The eight letters ß æ œ ð đ ħ ł ø don't decompose, but Unicode's default
--- collation doesn't distinguish them from these letters at its first level. Any other letter, and each digit, is sorted as itself.
+-- collation doesn't distinguish them from these letters at its first level. Any other character is sorted as itself.
 abbrev pub sort_letters : ℕ → List ℕ
 sort_letters c =
     if c == 0xDF then codes "ss"
@@ -27,8 +27,8 @@ sort_letters c =
     else if c == 0xF8 then codes "o"
     else encode_utf8 c
 
--- a character of a decomposed text in lowercase, in UTF-8: a letter or a digit, a space if it separates words, and nothing otherwise.
--- Punctuation and the marks of accents become nothing
+-- a character of a decomposed text in lowercase, in UTF-8: an alphabetic or numeric one as in `sort_letters`, a space if it separates
+-- words, and nothing otherwise. Punctuation and the marks of accents become nothing
 abbrev pub sort_character : ℕ → List ℕ
 sort_character c = if separates_words c then char.space ∷ [] else if is_alphabetic c || is_numeric c then sort_letters c else []
 
@@ -46,8 +46,8 @@ outside_names before (c ∷ cs) = (if is_in_name before c then [] else c ∷ [])
 abbrev pub without_commands : List ℕ → List ℕ
 without_commands cs = outside_names false cs
 
--- the letters, digits and gaps of a text outside of names of LaTeX commands, in lowercase and without accents, by Unicode's
--- compatibility decomposition (NFKD)
+-- the alphabetic and numeric characters of a text outside of names of LaTeX commands, with a space for each character that separates
+-- words. They are in lowercase and without accents, by Unicode's compatibility decomposition (NFKD)
 abbrev pub plain_text : List ℕ → List ℕ
 plain_text text = flat_map sort_character (chars (str_to_lowercase (encode_utf8_all (nfkd (without_commands (chars text))))))
 

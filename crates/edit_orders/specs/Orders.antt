@@ -13,7 +13,7 @@ use Rattle.edit_orders.specs.declared.order.Property.{Property}
 use Rattle.edit_orders.specs.declared.order.Property.TheVariants as property
 use Rattle.edit_orders.specs.declared.order.SortBy.{SortBy}
 
--- the property of a name
+-- the property with this name, or `None`
 abbrev pub property_named : List ℕ → Option Property
 property_named name =
     if bytes_eq name (codes "key") then Some property.Key else if bytes_eq name (codes "year") then Some property.Year else

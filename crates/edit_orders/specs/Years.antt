@@ -28,7 +28,7 @@ counted is_before [] = None
 counted is_before (d ∷ ds) =
     Some (if is_before then most - min (digits_value 10 (d ∷ ds)) most else most + min (digits_value 10 (d ∷ ds)) most)
 
--- the year in a text: the first digits in a row, before year 0 if the text before them is a hyphen
+-- the year in a text: the first ASCII digits in a row, before year 0 if the text before them is a hyphen
 abbrev pub year_by_digits : List ℕ → Option ℕ
 year_by_digits text = counted (bytes_eq (before_digits text) (codes "-")) (first_digits text)
 

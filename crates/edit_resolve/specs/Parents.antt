@@ -57,7 +57,7 @@ abbrev pub link_name : Link → List ℕ
 link_name Crossref = codes "crossref"
 link_name Xdata = codes "xdata"
 
--- the keys in the text of a reference: `crossref` has one key, and `xdata` a list of keys with commas between them
+-- the keys in the text of a reference: `crossref` has at most one key, and `xdata` a list of keys with commas between them
 abbrev pub named_keys : Link → List ℕ → List (List ℕ)
 named_keys Crossref text = name_if_filled (trim text)
 named_keys Xdata text = comma_parts text
@@ -67,7 +67,7 @@ abbrev pub value_keys : Link → Option (List ℕ) → List (List ℕ)
 value_keys link None = []
 value_keys link (Some text) = named_keys link text
 
--- the keys in a field; none if the field is no such reference
+-- the keys in a field if it is this reference, otherwise none
 abbrev pub field_keys : Link → FieldReading → List (List ℕ)
 field_keys link f = if is_word f.name.text (link_name link) then value_keys link (single_text f.value.pieces) else []
 
@@ -83,8 +83,8 @@ field_parents entries link f = map (parent link) (filter_map (parent_index entri
 abbrev pub linked : List EntryReading → Link → List FieldReading → List Parent
 linked entries link fields = flat_map (field_parents entries link) fields
 
--- the parents of an entry: those of `xdata`, and then those of `crossref`, each from the last to the first. Biber takes a field from the
--- last one that has it
+-- the parents of an entry: those of `xdata`, and then those of `crossref`, each from the last to the first. In this order, Biber takes
+-- a field from the first one that has it
 abbrev pub parents : List EntryReading → EntryReading → List Parent
 parents entries e = reverse (linked entries Crossref e.fields ++ linked entries Xdata e.fields)
 

@@ -159,6 +159,6 @@ abbrev pub IsResolveError : List EntryReading → ResolveError → Type 0
 IsResolveError entries (Cycle index) = IsFirstOnCycle (parent_graph entries) index
 IsResolveError entries OutOfMemory = ⊤
 
--- the conditions under which resolving a document is refused
+-- for each error, the condition under which resolving a document may be refused with it
 abbrev pub ResolveIsRefused : Document → ResolveError → Type 0
 ResolveIsRefused d e = IsResolveError d.says.entries e

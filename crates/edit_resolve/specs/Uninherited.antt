@@ -12,7 +12,7 @@ use Rattle.edit_resolve.specs.declared.parents.Link.{Link}
 use Rattle.edit_resolve.specs.declared.parents.Link.TheVariants.{Crossref, Xdata}
 use Rattle.edit_resolve.specs.declared.parents.Parent.{Parent}
 
--- the fields with other names of their entry (`ids`) or with references to other entries
+-- the field with other names of its entry (`ids`), and the reference fields `crossref`, `xref` and `xdata`
 abbrev pub linking_fields : List (List ℕ)
 linking_fields = codes "ids" ∷ codes "crossref" ∷ codes "xref" ∷ codes "xdata" ∷ []
 

@@ -102,8 +102,8 @@ first_entry_start (e ∷ es) = e.start
 abbrev pub is_before : ℕ → FieldReading → Bool
 is_before at f = nat_lt f.name.start at
 
--- whether a name can be reused: it isn't a month's abbreviation, has no leading digit, and has one definition in the file, in any ASCII
--- case
+-- whether a name can be reused: it isn't a month's abbreviation, has no leading ASCII digit, and has exactly one definition in the
+-- file, in any ASCII case
 abbrev pub is_reusable_name : FileReading → List ℕ → Bool
 is_reusable_name says name =
     not (is_month name) && not (has_digit_first name) && (count_by (has_name name) says.abbreviations == 1)
@@ -132,7 +132,7 @@ first_letters count word = encode_utf8_all (map to_ascii_lowercase (take count (
 abbrev pub initials : List ℕ → List ℕ
 initials text = flat_map (first_letters 1) (slice_split is_whitespace (chars text))
 
--- the letters from which the name of a text is made: the first 8 of its only word, or the first of each word
+-- the ASCII letters from which the name of a text is made: the first 8 of its only word, or the first of each word
 abbrev pub name_letters : List ℕ → List ℕ
 name_letters text = cond (list_any is_whitespace (chars (trim text))) (initials text) (first_letters 8 (chars text))
 
@@ -178,8 +178,8 @@ pub data AreNames (says : FileReading) : List (List ℕ) → List (List ℕ) →
 abbrev pub is_longer_than_name : List ℕ → Bool
 is_longer_than_name text = nat_lt (length (letters_or_s (name_letters text))) (length (chars text))
 
--- a text can be collected: it occurs at least `least` times in a list of texts. It has a known name or is longer than its new name. It can
--- be written between braces, also for BibTeX, which counts a brace after a backslash.
+-- a text can be collected: it occurs at least `least` times in a list of texts. It has a known name, or is longer than its new name
+-- without a number. It can be written between braces, also for BibTeX, which counts a brace after a backslash.
 pub record CanBeCollected (known : List ℕ → Option (List ℕ)) (least : ℕ) (texts : List (List ℕ)) (text : List ℕ) : Type 0 where
   pub often : least ≤ times_of text texts
   pub shortened : (is_some (known text) || is_longer_than_name text) ≡ true
@@ -239,12 +239,12 @@ definition_lines says line_end (name ∷ names) [] = []
 definition_lines says line_end (name ∷ names) (text ∷ texts) =
     cond (is_some (known_name says text)) [] (string_line line_end name text) ++ definition_lines says line_end names texts
 
--- the definition of a name as a text, without spans
+-- the definition of a name as a text, except for spans
 abbrev pub line_reading : List ℕ → List ℕ → FieldReading
 line_reading name text =
     record { name = text_at 0 name; value = record { pieces = literal (text_at 0 text) ∷ []; start = 0; end = 0 } }
 
--- the definitions that such lines parse to, without spans
+-- the definitions that the lines of `definition_lines` parse to, except for spans
 abbrev pub line_readings : FileReading → List (List ℕ) → List (List ℕ) → List FieldReading
 line_readings says [] texts = []
 line_readings says (name ∷ names) [] = []

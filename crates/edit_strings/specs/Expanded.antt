@@ -124,6 +124,6 @@ abbrev pub IsExpandError : List FieldReading → ExpandError → Type 0
 IsExpandError definitions (EarlyUse index) = IsFirstEarlyUse definitions index
 IsExpandError definitions OutOfMemory = Unit {0}
 
--- the conditions under which the expansion of a document fails
+-- for each error, the condition under which the expansion of a document may fail with it
 abbrev pub ExpandIsRefused : Document → ExpandError → Type 0
 ExpandIsRefused d e = IsExpandError d.says.abbreviations e

@@ -22,8 +22,8 @@ expansion_text pieces = flat_map expanded_text pieces
 abbrev pub is_joined_reference : FieldReading → Bool
 is_joined_reference f = is_reference_field f.name.text && not (is_some (single_text (elements f)))
 
--- the first key in such a field that refers to an entry with a new key. `written` is the expansion of the value, and `names` returns the
--- new key for a key in a field
+-- the first key in a field that refers to an entry with a new key, if the field is a reference whose value isn't one literal. `written`
+-- is the expansion of the value, and `names` returns the new key for a key in a field
 abbrev pub left_name : (List ℕ → List ℕ → Option (List ℕ)) → FieldReading → List Piece → Option (List ℕ)
 left_name names f written =
     if is_joined_reference f then first_renamed (names f.name.text) (expansion_text written) else None
@@ -34,7 +34,7 @@ pub record Left : Type 0 where
   pub field : FieldReading
   pub name : List ℕ
 
--- the reference in a field, if it has such a key
+-- the reference in a field as a list: it stays if there is a first key in it that refers to an entry with a new key
 abbrev pub left_at : EntryReading → FieldReading → Option (List ℕ) → List Left
 left_at e f None = []
 left_at e f (Some name) = record { entry = e; field = f; name = name } ∷ []
