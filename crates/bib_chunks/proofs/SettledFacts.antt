@@ -35,7 +35,7 @@ settled_step b before last c all cs may so_far v rest = (
   λ settled. (so_far v rest).1 (settled_anywhere v b c may.0, may.1, settled),
 )
 
--- a character that may not occur there makes every text after it unsettled
+-- if a character of a text may not occur at its place, no text that begins with this text is settled
 pub settled_stuck : (b : Bool) (before last : Before) (c : ℕ) (all cs : List ℕ)
     → (MayFollow last (character_atom b c) → ⊥) → Continues before (text_atoms b all) last (text_atoms b (c ∷ cs))
     → IsUnsettledAfter before (text_atoms b all)

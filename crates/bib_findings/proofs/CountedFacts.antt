@@ -18,7 +18,7 @@ use Rattle.bib_findings.proofs.ListFacts.{any_of_map}
 abbrev firsts_after : List FieldReading → List FieldReading → List FieldReading
 firsts_after = each_after if_first
 
--- a count with one field more if the field has its name
+-- a field and its count; if `g` has the name of the field, the count is one more, at most the greatest that is counted
 abbrev pub raised : FieldReading → FieldReading × ℕ → FieldReading × ℕ
 raised g c = (c.0, cond (have_one_name c.0 g) (one_field_more c.1) c.1)
 

@@ -28,11 +28,11 @@ counted_names = map (λ c. lowercase_name (field_of c.first.now))
 abbrev pub count_of : List FieldReading → FieldReading → FieldReading × ℕ
 count_of fields f = (f, min (count_by (have_one_name f) fields) most_counted)
 
--- a count with one field more
+-- a count with one field more, at most the greatest that is counted
 abbrev pub one_field_more : ℕ → ℕ
 one_field_more count = min (count + 1) most_counted
 
--- the first field with each name, and the number of fields with this name
+-- the first field with each name, and the number of fields with this name, at most the greatest that is counted
 abbrev pub counts : List FieldReading → List (FieldReading × ℕ)
 counts fields = map (count_of fields) (first_fields fields)
 

@@ -89,7 +89,7 @@ fn reference_finding(
     })
 }
 
-// Appends a finding for each of these keys of a field that isn't empty and that no kept entry has.
+// Appends a finding for each key of `keys` that isn't empty and that no kept entry has. `field` is the field that refers to these keys.
 fn add_unknown(
     alloc: Global,
     found: &mut Vec<Finding>,

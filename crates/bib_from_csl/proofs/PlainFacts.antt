@@ -321,7 +321,7 @@ person_is uses p k =
     ∙ plain_line k.prefix.words k.family.words k.suffix.words k.given_name.words k.prefix.kept (family_words uses p k)
     k.suffix.kept (given_words uses p k)
 
--- the text of an unchanged normal chunk, with or without empty chunks around it
+-- if decoding, `flowing` and encoding leave `t` unchanged, its normal chunk has the text `t`, with or without empty chunks around it
 shown_normal : (t : List ℕ) (before following : Bool) → chars t ≡ t → flowing false t ≡ t → encode_utf8_all t ≡ t
     → text (padded before following (Normal t)) ≡ t
 unfolding chars

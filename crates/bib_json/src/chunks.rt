@@ -54,7 +54,7 @@ fn chunk_value(alloc: Global, chunk: &Spanned<Chunk>) -> Result<Value, AllocErro
     Ok(Value::from(members))
 }
 
-/// Returns the chunks of a field.
+/// Returns the JSON array of the chunks of a field.
 pub(crate) fn chunks_value(alloc: Global, chunks: ChunksRef<'_>) -> Result<Value, AllocError>
     ensures { IfOk result (λ value. view value ≡ spec.chunks_json chunks.now) }
 {

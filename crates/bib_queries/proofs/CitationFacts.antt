@@ -85,7 +85,7 @@ or_then true false = refl
 or_then false true = refl
 or_then false false = refl
 
--- some of these elements or one more defines a set with a name exactly if the last one does, or one of the others
+-- one of these elements and one more defines the set with a name exactly if the last one defines it, or one of the others does
 pub listed_more : (pieces : List (Bor (List ℕ))) (piece : Bor (List ℕ)) (key : List ℕ) (some more : Bool)
     → more ≡ (is_listed (set_name piece.now) key || some)
     → some ≡ is_listed (flat_map set_name (map (λ p. p.now) pieces)) key

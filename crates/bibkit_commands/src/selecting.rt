@@ -221,7 +221,7 @@ fn with_text<'e>(value: &FieldValue<'_>, text: &'e str) -> FieldValue<'e> {
     }
 }
 
-// Adds an edit of a field of the entries with these keys. It is `edit` with the texts `first` and `second`, which are those of `edit`.
+// Adds `edit` for the entries with these keys. `first` and `second` are the texts of `edit`, as `texts_of` returns them.
 fn push_edit<'e>(
     edits: &mut Vec<Edit<'e>>,
     keys: &'e [&'e str],
@@ -247,7 +247,7 @@ fn push_edit<'e>(
     Ok(())
 }
 
-// Adds an edit of the entries with these keys. It is `change` with the texts `first` and `second`, which are those of `change`.
+// Adds `change` for the entries with these keys. `first` and `second` are the texts of `change`, as `texts_of_change` returns them.
 fn push_change<'e>(
     edits: &mut Vec<Edit<'e>>,
     keys: &'e [&'e str],

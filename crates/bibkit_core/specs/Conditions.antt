@@ -71,8 +71,9 @@ is_in_block entries at block = begins_one entries block.span.start && (nat_le bl
 abbrev pub is_in_one : List SkippedBlock → List EntryReading → ℕ → Bool
 is_in_one skipped entries at = list_any (is_in at) entries || list_any (is_in_block entries at) skipped
 
--- the place of a finding with this code that begins at an offset. A syntax error has the place of the byte before it, because the error of
--- a block without an end is at the start of the next block. So has text after an entry, because it begins where the entry ends.
+-- the place of a finding with this code that begins at an offset. For a syntax error, it is the byte before the offset, because the error
+-- of a block without an end is at the start of the next block. For `StrayField`, it is that byte too, because the finding begins at the
+-- end of its entry. At offset 0, it is 0.
 abbrev pub finding_place : Code → ℕ → ℕ
 finding_place Syntax start = start - 1
 finding_place StrayField start = start - 1

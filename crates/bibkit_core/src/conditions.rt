@@ -252,8 +252,8 @@ fn cover_blocks(
     Ok(())
 }
 
-// Returns, for each offset, whether it is in one of these entries, some of which may be the complete parts of these skipped blocks. Offsets
-// beyond the list are in none.
+// Returns, for each offset, whether it is in one of these entries, or in one of these skipped blocks that begins where one of the entries
+// does. Offsets beyond the list are in none.
 fn covered_with(
     alloc: Global,
     skipped: &[SkippedBlock],

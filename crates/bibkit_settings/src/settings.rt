@@ -152,7 +152,7 @@ pub fn fail_on_named(name: &str) -> Option<FailOn>
 /// The settings of `lint`. Each is `None` if it isn't set.
 #[derive(Drop)]
 pub struct Settings {
-    /// The codes to report.
+    /// The codes to report. If the list is empty, all codes except the ignored ones are reported.
     pub only: Option<Vec<Code>>,
     /// The codes not to report.
     pub ignored: Option<Vec<Code>>,

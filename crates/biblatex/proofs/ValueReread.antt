@@ -307,7 +307,7 @@ apart_rest : (a : Atom) (atoms : List Atom) → AreApart (a ∷ atoms) → AreAp
 apart_rest a [] apart = tt
 apart_rest a (b ∷ rest) apart = apart.1
 
--- the output for the text of a chunk, before that for other chunks, parses as the characters of the text
+-- the output for settled text, before that for other chunks that parses back, parses as the characters of the text and those chunks
 read_text : (v o : Bool) (cs : List ℕ) (chunks : List (Spanned Chunk))
     → AllByRecursion (IsSettledAtom v) (map (character (depth_of o)) cs ++ styled chunks)
     → AreApart (map (character (depth_of o)) cs ++ styled chunks)
@@ -361,7 +361,7 @@ apart_after o [] atoms apart = apart
 apart_after o (c ∷ cs) atoms apart =
     apart_after o cs atoms (apart_rest (character (depth_of o) c) (map (character (depth_of o)) cs ++ atoms) apart)
 
--- the output for a chunk, before that for other chunks, parses as the atoms of the chunk
+-- the output for a settled chunk, before that for other chunks that parses back, parses as the atoms of the chunk and those chunks
 read_chunk : (v o : Bool) (chunk : Chunk) (rest : List (Spanned Chunk))
     → AllByRecursion (IsSettledAtom v) (atoms_of chunk ++ styled rest) → AreApart (atoms_of chunk ++ styled rest)
     →

@@ -36,7 +36,7 @@ wide_column text (f ∷ fs) = if nat_lt 1 (length (before_equals text f)) then S
 abbrev pub name_padding : ℕ → List ℕ → List ℕ
 name_padding column name = replicate (max 1 (column - length name)) char.space
 
--- the white space from the end of a name to a column, if there is one, or else this white space
+-- for a column, the spaces from the end of `name` to it, at least one; without a column, the text `white`
 abbrev pub padding_or : Option ℕ → List ℕ → List ℕ → List ℕ
 padding_or (Some column) name white = name_padding column name
 padding_or None name white = white

@@ -71,7 +71,7 @@ reaches_alike are alike (reaches.through {name = name} {next = next} {definition
     let also = are.some name definition d in
     reaches.through (reaches_alike are alike before) also.1 (holds_name next also.2 held)
 
--- pieces that are alike to readable ones are readable
+-- if definitions are alike, pieces that are alike to readable ones are readable too
 pub readable_alike : {one other : Definitions} {is_verbatim : Bool} {ps qs : List Piece} → DefineAlike one other
     → Alike ps qs → IsReadable one is_verbatim ps → IsReadable other is_verbatim qs
 readable_alike {one} {other} {is_verbatim} {ps} {qs} both alike read = record {

@@ -94,7 +94,7 @@ parts_placeless [] = refl
 parts_placeless (literal p ∷ ps) = ap (λ l. comma_parts p.text ++ l) (parts_placeless ps)
 parts_placeless (abbreviation p ∷ ps) = parts_placeless ps
 
--- a field with new names in its references has the same names as a field `ids` before and after
+-- new names in the references of a field don't change the names that it lists as a field `ids`
 aliases_kept : (names : List ℕ → List ℕ → Option (List ℕ)) (f h : FieldReading) → HasNewNames names f h → aliases_in h ≡ aliases_in f
 aliases_kept names f h n =
     by_name (is_word f.name.text (codes "ids")) refl

@@ -42,7 +42,7 @@ zip_into S f [] (b ∷ ys) all = absurd all
 zip_into S f (a ∷ xs) [] all = absurd all
 zip_into S f (a ∷ xs) (b ∷ ys) all = (all.0, zip_into S f xs ys all.1)
 
--- each element is related to its own image
+-- each element is related to its own image if a property implies this and all elements have it
 pub zip_own : {A B : Type 0} (P : A → Type 0) (R : A → B → Type 0) (f : A → B) (xs : List A) → ((x : A) → P x → R x (f x))
     → AllByRecursion P xs → AllZip R xs (map f xs)
 zip_own P R f [] own all = tt

@@ -194,7 +194,7 @@ module _ {said tells : FileReading} {k : ℕ} {e changed : EntryReading} (is : I
       (at.4.reordered.found name)
       (field_alike at.4.ordered changed.fields name at.4.fields)) none ((texts_of_entry_are at.1 at.3).fields name)
 
-  -- the own entries of both readings are the same, except that the field `name` of the entry at `k` has this text or is missing
+  -- the own entries `others` differ from `own` as `DifferInField` states, if no field of the changed entry except `name` differs
   pub differ_at : (own others : List Entry) (name : List ℕ) (text : Option (List Atom)) → AreOwn said own → AreOwn tells others
       → ((other : List ℕ) → bytes_eq other name ≡ false → field_in changed.fields other ≡ field_in e.fields other)
       → HasText old_definitions (field_in changed.fields name) text → DifferInField own others k name text

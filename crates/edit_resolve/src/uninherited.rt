@@ -127,7 +127,7 @@ fn lacking_names<'a, 's>(
     Ok(names)
 }
 
-// Appends the fields of a parent with these names, if there is a name.
+// Appends one `UninheritedFields` with these names of fields of `parent`. Does nothing if there are no names.
 fn push_fields<'a, 's>(
     found: &mut Vec<UninheritedFields<'a, 's>>,
     entry: &'a Spanned<RawEntry<'s>>,

@@ -90,7 +90,7 @@ indexed_back items = reverse (map indexed_of items)
 abbrev pub rows_of : List (Vec Indexed) → List (List IndexedPiece)
 rows_of rows = map (λ row. indexed_back row.items) rows
 
--- the pieces of the definition at an index, at its place
+-- the pieces of the definition at an index. Each name has the index of its last earlier definition, in any ASCII case, if there is one.
 abbrev pub row_at : List FieldReading → ℕ → List IndexedPiece
 row_at definitions i = map (with_index (index_before definitions i)) (elements_at definitions i)
 

@@ -11,7 +11,7 @@ use Rattle.bib_syntax.specs.OpenBraces.ClosesOpen.{last}
 use Rattle.edit_entries.proofs.braces.parts.Goals as goal
 use Rattle.edit_entries.proofs.braces.parts.Goals.{After-eat_while}
 
--- the longest run of plain characters is at the start of a turn
+-- the longest run of plain characters is at the start of a loop iteration
 run : (c : After-eat_while) → Longest is_plain c.parts.s c.eat_while.new.self
 run c = c.eat_while.ensures.longest is_plain (λ x r post. post)
 

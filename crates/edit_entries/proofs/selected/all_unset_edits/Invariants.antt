@@ -7,7 +7,7 @@ use Rattle.edit_entries.specs.FieldTexts.{HaveFieldsPlaced}
 use Rattle.edit_entries.specs.Selected.{unset_if_selected}
 use Rattle.edit_entries.proofs.selected.all_unset_edits.Given as goal
 
--- the edits of the entries that are left are those that are still to be added
+-- the edits so far and those of the entries still to visit make the edits of all entries
 abbrev pub invariant-entries : goal.invariant-entries
 invariant-entries l = record {
   added : map edit_of l.edits.items
