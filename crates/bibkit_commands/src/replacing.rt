@@ -51,16 +51,20 @@ fn none_open() -> io::Result<()> {
     Err(io::Error::from(ErrorKind::InvalidInput))
 }
 
-impl<'r, 'b, R: Files + AllocGlobal> SystemFolder<'r, 'b, R> {
-    // Renames the file `from` to `to`. Fails if `to` doesn't have the bytes `old`.
-    fn replace_old(&mut self, from: &str, to: &str) -> io::Result<()> {
-        let now = fs::read(self.rt, to)?;
-        if now.as_slice() == self.old {
-            return fs::rename(self.rt, from, to);
-        }
-        self.is_changed = true;
-        Err(io::Error::from(ErrorKind::InvalidInput))
+// Renames the file `from` to `to`. If `to` doesn't have the bytes `old`, stores that in `is_changed`, and fails.
+fn rename_over<R: Files + AllocGlobal>(
+    rt: &R,
+    old: &[u8],
+    is_changed: &mut bool,
+    from: &str,
+    to: &str,
+) -> io::Result<()> {
+    let now = fs::read(rt, to)?;
+    if now.as_slice() == old {
+        return fs::rename(rt, from, to);
     }
+    *is_changed = true;
+    Err(io::Error::from(ErrorKind::InvalidInput))
 }
 
 impl<'r, 'b, R: Files + AllocGlobal> Folder for SystemFolder<'r, 'b, R> {
@@ -106,7 +110,7 @@ impl<'r, 'b, R: Files + AllocGlobal> Folder for SystemFolder<'r, 'b, R> {
     }
 
     fn rename(&mut self, from: &str, to: &str) -> io::Result<()> {
-        let answer = self.replace_old(from, to);
+        let answer = rename_over(self.rt, self.old, &mut self.is_changed, from, to);
         count(&mut self.failures, &answer);
         answer
     }
