@@ -123,7 +123,7 @@ fine_renaming keys names index (e ∷ es) =
     (fine_fields keys names e.fields)) (fine_renaming keys names (suc index) es)
 
 module _ (keys : ℕ → Option (List ℕ)) where
-  -- changes that give new keys and change reference fields keep everything else
+  -- changes that give new keys and change reference fields keep the rest of the entries, and the definitions
   changed_kept : {d after : Document} {changes : List Change} → Changed d changes after → AllByRecursion (IsFine keys) changes
       → IsFileKept keys d.says after.says
   changed_kept {d} Changed.none fine = record {
