@@ -52,7 +52,7 @@ style_made style d new is alike = record {
   read = alike.read;
 }
 
--- a sorted text that parses like the sorted document is an outcome of `Sort`
+-- a text sorted by the places of an order, which parses like the sorted document, is an outcome of `Sort`
 pub order_made : (order : Order) (d : Document) (places new : List ℕ) → ArePlacesIn (order_parts order) d.says places
     → IsSortedText d places new → IsReadSorted d places new → IsEdited (IsInOrder order d) new
 order_made order d places new placed is read = record {
@@ -105,7 +105,7 @@ resolution_made d new made = record {
   read = made.read.read;
 }
 
--- a text with an edit of a field of some entries is an outcome of `Fields`
+-- if the name and the value of an edit can be written, a text with this edit of a field of some entries is an outcome of `Fields`
 pub fields_made : (keys : List (List ℕ)) (edit : FieldEdit) (set : BTreeSet (Bor (List ℕ))) (d : Document) (new : List ℕ)
     → ((key : List ℕ) → is_in_set set key ≡ is_listed keys key) → CanBeNewName (edit_name edit)
     → HasFitValue d.says.abbreviations (first_start (is_in_set set) (length d.text) d.says.entries) edit
@@ -117,7 +117,7 @@ fields_made keys edit set d new has name value made = record {
   read = made.read.read;
 }
 
--- a text that a call returns is an outcome of `Fields`, if it has an edit of a field of some entries
+-- if a call that succeeds returns a text with an edit that can be written, the text is an outcome of `Fields`
 pub all_fields_made : {S E : Type 0} (bytes : S → List ℕ) (r : Result S E) (keys : List (List ℕ)) (edit : FieldEdit)
     (set : BTreeSet (Bor (List ℕ))) (d : Document)
     → ((key : List ℕ) → is_in_set set key ≡ is_listed keys key) → OnOk r (CanBeNewName (edit_name edit))
@@ -149,7 +149,7 @@ removal_made keys set d new has made = record {
   read = made.read;
 }
 
--- the same entries would be empty by two tests that select the same keys
+-- two tests that select the same keys agree on whether an entry would be empty
 empty_same : (one other : List ℕ → Bool) (name : List ℕ) (es : List EntryReading) → ((key : List ℕ) → one key ≡ other key)
     → list_any (would_be_empty one name) es ≡ list_any (would_be_empty other name) es
 empty_same one other name [] same = refl

@@ -1,4 +1,4 @@
--- The command for a character becomes this character again.
+-- The command for a character becomes the NFC of this character again.
 use Rattle.std.proofs.Common.{◌≡◌, ℕ, ◌+◌, ◌<◌, Bool, true, false, cond, List, [], ◌∷◌, ◌++◌, length, drop, refl, sym, ap, ◌∙◌, subst, Option, Some, None, arith}
 use Rattle.std.specs.Prelude.{◌==◌, ◌&&◌, ◌||◌, not, nat_lt, IfSome}
 use Rattle.std.specs.Char.{is_ascii_alphabetic, is_whitespace}

@@ -1,4 +1,4 @@
--- As many taken names as numbers: if each number from 2 on, up to a bound, makes a taken name, there are as many taken names.
+-- As many taken names as numbers: if each number from 2 on, up to a bound, makes a taken name, there are at least as many taken names.
 use Rattle.std.proofs.Common.{◌≡◌, ℕ, zero, suc, ◌+◌, ◌<◌, ◌≤◌, ◌^◌, ◌||◌, Bool, true, false, cond, List, [], ◌∷◌, ◌++◌, length, map, refl, sym, ap, ◌∙◌, subst, arith}
 use Rattle.std.specs.Prelude.{String, bytes_eq, string_bytes}
 use Rattle.std.specs.BTreeSet.{btree_set_len, contains_text}
