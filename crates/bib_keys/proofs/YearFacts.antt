@@ -46,7 +46,7 @@ year_skipped text i within begins = rw (add-one) (of text i within begins) where
   of (c ∷ l) zero h b = ap (λ t. cond t (take 4 (c ∷ l)) (four_digits l)) b
   of (c ∷ l) (suc k) h b = of l k (omega arith) b
 
--- the offset after a year is a character boundary
+-- in a UTF-8 text, the offset after a year is a character boundary
 pub year_ends : (text : List ℕ) (i : ℕ) → IsUtf8 text → begins_with_year (drop i text) ≡ true → IsCharBoundary text (i + 4)
 year_ends text i utf8 begins =
     let long : 4 ≤ length (drop i text) = long_enough (drop i text) begins in

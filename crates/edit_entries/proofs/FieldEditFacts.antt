@@ -1,4 +1,4 @@
--- An edit of a field of several entries at once can be made.
+-- An edit of a field of several entries at once: when its changes can be made.
 use Rattle.std.proofs.Common.{◌≡◌, ℕ, length, Result, Ok, Err, Bool, true, false, cond, List, [], ◌∷◌, ◌++◌, map, refl, sym, ap, ◌∙◌, subst, append-nil}
 use Rattle.std.specs.Borrow.{Bor}
 use Rattle.std.specs.BTreeSet.{BTreeSet}

@@ -21,7 +21,7 @@ use Rattle.edit_entries.proofs.MadeFacts.{of_entries}
 use Rattle.edit_entries.proofs.RemovalFacts.{begins, field_cut_out, unnamed, with_fields}
 use Rattle.edit_entries.proofs.UnsetFacts.{field_cut}
 
--- the edit `own_edit` removes a field
+-- if `own_edit` returns an edit for a field, this edit removes the field
 own_removed : (d : Document) (k : ℕ) (e : EntryReading) (j : ℕ) (f : FieldReading) (edit : Edit) → IsDocument d
     → slice_get d.says.entries k ≡ Some e → slice_get e.fields j ≡ Some f → IsTrimmed d.text f → own_edit d.text e j f ≡ Some edit
     → LineRemoved d k e j f (comma_before d.text e j f + 1) edit

@@ -1,4 +1,4 @@
--- A field in a new layout parses to the same field.
+-- A field in a new layout parses to the old field, except for spans and the case of its name.
 use Rattle.std.proofs.Common.{◌≡◌, ℕ, zero, suc, ◌-◌, ◌≤◌, Bool, true, false, List, [], ◌∷◌, ◌++◌, length, map, codes, refl, sym, ap, ◌∙◌, subst, arith, append_assoc}
 use Rattle.std.specs.Prelude.{◌==◌, ◌&&◌, bytes_eq, cond, max, nat_lt, replicate}
 use Rattle.std.specs.Char.{is_ascii_whitespace, is_whitespace}
