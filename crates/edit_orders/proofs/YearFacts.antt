@@ -49,13 +49,13 @@ year_is text before rest digits n is front back run =
     ap₂ (λ b ds. counted (bytes_eq b (codes "-")) ds) (sym (front ∙ ap (λ k. take k text) is))
     (ap (λ t. take (prefix_len is_ascii_digit t) t) from ∙ sym run)
 
--- after only a hyphen, the number of the digits, at most `most`, counts the years before year 0; -0 is year 0
+-- after only a hyphen, the number that the digits write, at most `most`, counts the years before year 0; -0 is year 0
 pub year_before : (text before digits : List ℕ) (k : ℕ) → year_by_digits text ≡ counted (bytes_eq before (codes "-")) digits
     → bytes_eq before (codes "-") ≡ true → 0 < length digits → k ≡ min (digits_value 10 digits) most → Some (most - k) ≡ year_by_digits text
 year_before text before digits k is hyphen some same =
     sym (is ∙ ap (λ b. counted b digits) hyphen ∙ counted_some true digits some ∙ ap (λ m. Some (most - m)) (sym same))
 
--- if the digits aren't after only a hyphen, their number, at most `most`, counts the years from year 0
+-- if the digits aren't after only a hyphen, the number that they write, at most `most`, counts the years from year 0
 pub year_after : (text before digits : List ℕ) (k : ℕ) → year_by_digits text ≡ counted (bytes_eq before (codes "-")) digits
     → bytes_eq before (codes "-") ≡ false → 0 < length digits → k ≡ min (digits_value 10 digits) most
     → Some (most + k) ≡ year_by_digits text
