@@ -54,7 +54,7 @@ first_space {u} {v} (suc n) rest s = record {
   no_point = refl;
 }
 
--- a field parses from its output, a comma and its line, in another text
+-- the output for a field, a comma and its line or lines, parses to the field in another text
 pub record FieldRead (line_end : List ℕ) (style : Style) (text : List ℕ) (width : ℕ) (f : FieldReading) (u v : Place) : Type 0 where
   pub after : Place
   pub start : Place
