@@ -52,7 +52,7 @@ nothing : (first : Option EntryReading) → option_map key_text first ≡ None �
 nothing None none = refl
 nothing (Some e) none = absurd (let clash : Some (key_text e) ≡ None = none in cc)
 
--- an entry whose key an earlier one has changes no first key
+-- an entry whose key an earlier one has, in any ASCII case, changes no first key
 pub keys_same : (firsts : List ℕ → Option (Bor (List ℕ))) (earlier : List EntryReading) (said : EntryReading) (text : List ℕ)
     → AreFirstKeys firsts earlier → option_map (λ key. key.now) (firsts (lowercase_key said)) ≡ Some text
     → AreFirstKeys firsts (earlier ++ said ∷ [])
@@ -67,7 +67,7 @@ keys_same firsts earlier said text are known name =
     ))
     ∙ ap (option_map key_text) (sym (find_more test earlier said))
 
--- storing a key that no earlier entry has extends the first keys by the key of its entry
+-- storing a key that no earlier entry has, in any ASCII case, extends the first keys by it
 pub keys_more : (old new : List ℕ → Option (Bor (List ℕ))) (earlier : List EntryReading) (said : EntryReading) (key : Bor (List ℕ))
     (stored : List ℕ) → stored ≡ lowercase_key said → key.now ≡ key_text said → AreFirstKeys old earlier → old stored ≡ None
     → ((name : List ℕ) → new name ≡ update bytes_eq old stored (Some key) name) → AreFirstKeys new (earlier ++ said ∷ [])
@@ -102,7 +102,7 @@ keys_more old new earlier said key stored is text_is are none updates name =
         (ap (λ b. option_map key_text (or_other (find test earlier) (cond b (Some said) None))) other
         ∙ ap (option_map key_text) (or_none (find test earlier)))
 
--- the finding of an entry whose key an earlier one has
+-- an entry whose key an earlier one has, in any ASCII case, has a finding with the first such key
 pub case_found : (firsts : List ℕ → Option (Bor (List ℕ))) (earlier : List EntryReading) (said : EntryReading) (text : List ℕ)
     → AreFirstKeys firsts earlier → option_map (λ key. key.now) (firsts (lowercase_key said)) ≡ Some text
     → case_after earlier said ≡ case_finding said text ∷ []
@@ -112,7 +112,7 @@ case_found firsts earlier said text are known = by (find (have_one_key said) ear
   by None is = absurd (let clash : None ≡ Some text = is in cc)
   by (Some e) is = ap (λ t. case_finding said t ∷ []) (let same : e.key.text ≡ text = cc in same)
 
--- an entry whose key no earlier one has, has no finding
+-- an entry whose key no earlier one has, in any ASCII case, has no finding
 pub case_none : (firsts : List ℕ → Option (Bor (List ℕ))) (earlier : List EntryReading) (said : EntryReading)
     → AreFirstKeys firsts earlier → firsts (lowercase_key said) ≡ None → case_after earlier said ≡ []
 case_none firsts earlier said are none =

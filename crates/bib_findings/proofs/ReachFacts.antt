@@ -19,7 +19,7 @@ steps_left [] graph = 0
 steps_left (mark ∷ marks) [] = 0
 steps_left (mark ∷ marks) (row ∷ graph) = cond mark 0 (suc (length row)) + steps_left marks graph
 
--- marking an index without a mark lowers them by 1 and the number of its references
+-- marking an index without a mark lowers the steps that are left by 1 and the number of its references
 pub steps_less : (marks : List Bool) (graph : Graph) (index : ℕ) → length marks ≡ length graph → index < length marks
     → get_or marks index false ≡ false
     → steps_left (set marks index true) graph + suc (length (refs_of graph index)) ≡ steps_left marks graph

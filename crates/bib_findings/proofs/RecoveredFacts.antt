@@ -61,7 +61,7 @@ pub within_of : (said : List EntryReading) (origins indices : List ℕ) (n : ℕ
 within_of said origins indices n within are count =
     subst (λ m. All (λ index. index < m) indices) count (subst (λ l. All (λ index. index < length said) l) (sym are) within)
 
--- the findings of a recovered file are those for equal lists
+-- equal lists have the same findings of a recovered file
 pub findings_of : (skipped skipped' : List SkippedBlock) (lacking lacking' : List Bool) (errors errors' : List ParseError)
     (said said' : List EntryReading) (origins origins' : List ℕ) (entries entries' : List Entry)
     (between found : List Finding)
@@ -76,7 +76,7 @@ findings_of skipped skipped' lacking lacking' errors errors' said said' origins 
     (subst (λ x. AreFindingsIn skipped' x errors said origins entries between found) b
     (subst (λ x. AreFindingsIn x lacking errors said origins entries between found) a are)))))
 
--- the findings between entries are those for equal lists
+-- equal lists have the same findings between entries
 pub between_of : (text : List ℕ) (skipped skipped' : List SkippedBlock) (names : ByText ℕ) (said said' : List EntryReading)
     (origins origins' : List ℕ) (own own' : List Entry) (found : List Finding) → skipped ≡ skipped' → said ≡ said'
     → origins ≡ origins' → own ≡ own'
@@ -86,7 +86,7 @@ between_of text skipped skipped' names said said' origins origins' own own' foun
     (subst (λ x. AreBetween text skipped' names said' x own found) c
     (subst (λ x. AreBetween text skipped' names x origins own found) b (subst (λ x. AreBetween text x names said origins own found) a are)))
 
--- the flags of entries of which fields may be lost are those for equal lists
+-- equal lists have the same flags of entries of which fields may be lost
 pub lacking_same : (skipped skipped' : List SkippedBlock) (names : ByText ℕ) (said said' : List EntryReading)
     (origins origins' : List ℕ) (own own' : List Entry) (lacking : List Bool) → skipped ≡ skipped' → said ≡ said'
     → origins ≡ origins' → own ≡ own'

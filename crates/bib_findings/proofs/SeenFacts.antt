@@ -203,7 +203,7 @@ pub remembered_both : (ids more : Names) (index : ℕ) (id : List ℕ) (had : Li
 remembered_both [] more index id had = refl
 remembered_both (one ∷ ids) more index id had = remembered_both ids more index id (cond (bytes_eq id one) (with_entry_index had index) had)
 
--- storing an index for the identity of a kind adds it to the indices of this identity
+-- storing an index for the identity of a kind changes the indices of this identity by `with_entry_index`
 remembered_identity : (kind text : List ℕ) (index : ℕ) (id had : List ℕ)
     → remembered (identity kind text) index id had ≡ cond (list_any (bytes_eq id) (identity kind text)) (with_entry_index had index) had
 remembered_identity kind text index id had =
@@ -244,7 +244,7 @@ one_of_three false true false had more add is ab ac bc = is
 one_of_three false false true had more add is ab ac bc = is
 one_of_three false false false had more add is ab ac bc = refl
 
--- storing the index of an entry for its identities adds it once to the indices of each of them
+-- storing the index of an entry for its identities changes the indices of each of them once, by `with_entry_index`
 pub remembered_once : (said : EntryReading) (index : ℕ) (id had : List ℕ)
     → remembered (identities said) index id had ≡ cond (has_identity id said) (with_entry_index had index) had
 remembered_once said index id had =
@@ -337,7 +337,7 @@ take_one {A} count items item = by (nat_lt (length items) count) refl
         ap (λ b. cond b (take count items ++ item ∷ []) (take count items)) (is_not_less (length (take count items)) count many)
         ∙ sym (take-append-le count items (item ∷ []) above)
 
--- an index of an entry with the identity is added to those of the first entries with it
+-- if one more entry has an identity, its index is added to those of the first entries with it, unless these are already enough
 first_with : (said : List (Spanned RawEntry)) (other : Spanned RawEntry) (had : List ℕ) (index : ℕ) (one : EntryReading)
     (entries : List EntryReading) → All (λ i. i < length said) had → slice_get (map entry_reading_of said) index ≡ Some one
     → entries_at (map entry_reading_of said) had ≡ take most_compared entries

@@ -181,7 +181,7 @@ words_stopped true (c ∷ begun) parts stops =
     (take_while-cons (λ w. not (ends_before true w)) (c ∷ begun) (words_among parts)
     ∙ ap (λ b. cond (not b) ((c ∷ begun) ∷ words_before true (words_among parts)) []) stops)
 
--- at white space, the current word is appended to the text, if it isn't empty
+-- at white space, if the words don't end before the current word, this word is appended to the text, unless it is empty
 pub words_space : (is_first : Bool) (characters : List ℕ) (count c : ℕ) (text word after : List ℕ)
     → AreWordsLeft is_first characters count text word → count < length characters → c ≡ get_or characters count c
     → is_brace c ≡ false → is_whitespace c ≡ true → IsUtf8 word → ends_before is_first word ≡ false
@@ -231,7 +231,7 @@ at_end is_first characters count text word before all =
     (drop_all count characters (let le : length characters ≤ count = omega (arith, all) in le))
     ∙ ap (λ w. text ++ spaced_words (words_before is_first (words_among (w ∷ [])))) (append-nil before.begun)
 
--- at the end of the characters, the text with the current word is complete
+-- at the end of the characters, if the words don't end before the current word, the text with this word is complete
 pub words_last : (is_first : Bool) (characters : List ℕ) (count : ℕ) (text word after : List ℕ)
     → AreWordsLeft is_first characters count text word → count ≡ length characters
     → IsUtf8 word → ends_before is_first word ≡ false → after ≡ text ++ spaced_word word → after ≡ words_text is_first (kept characters)

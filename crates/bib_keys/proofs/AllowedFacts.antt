@@ -79,7 +79,7 @@ single_append last (c ∷ text) letters h l =
     let both = and_parts (not (last == 45 && c == 45)) (is_single c text) h in
     and_from (not (last == 45 && c == 45)) (is_single c (text ++ letters)) both.0 (single_append c text letters both.1 l)
 
--- a text that can be a key, with letters after it too
+-- a text that can be a key, also with letters after it
 pub record IsClean (text : List ℕ) : Type 0 where
   pub some : 0 < length text
   pub characters : list_all is_in_keys text ≡ true

@@ -57,7 +57,7 @@ same_suffixed : (a b s : List ℕ) → str_to_ascii_lowercase a ≡ str_to_ascii
 same_suffixed a b s same =
     map-append to_ascii_lowercase a s ∙ ap (λ l. l ++ str_to_ascii_lowercase s) same ∙ sym (map-append to_ascii_lowercase b s)
 
--- the suffixes before the number of a text are taken
+-- the suffixes below the number that the map has for a text are taken
 pub taken_before : (taken : Numbers) (text : List ℕ) (start : ℕ) → AreBelowTaken taken
     → start ≡ unwrap_or (taken (str_to_ascii_lowercase text)) 0 → AreTakenBelow taken text start
 taken_before taken text start closed is n other below has =
@@ -250,14 +250,14 @@ keys_more pattern entries i entry keys text key are within is is_text first =
     (sym (take_more entries i entry within ∙ ap (λ e. take i entries ++ (e ∷ [])) (sym is)))
     (AreKeys.next entry are (subst (λ t. IsFirstNew keys t key) is_text first))
 
--- keys of entries are distinct
+-- the new keys of entries are distinct
 pub distinct_keys : (pattern : List Part) (entries : List Entry) (keys : List (List ℕ)) → AreKeys pattern entries keys → AreDistinct keys
 distinct_keys pattern _ _ AreKeys.none = λ i j d less within. absurd (omega arith)
 distinct_keys pattern _ _ (AreKeys.next {entries = entries} {keys = keys} {key = key} entry are first) =
     all_pairs_push (λ a b. str_eq_ignore_ascii_case a b ≡ false) keys key (distinct_keys pattern entries keys are)
     (λ i d within. none_at (λ own. str_eq_ignore_ascii_case own key) keys i d within first.new)
 
--- keys of entries can be keys
+-- the new keys of entries can be keys
 pub allowed_keys : (pattern : List Part) (entries : List Entry) (keys : List (List ℕ)) → AreKeys pattern entries keys
     → All CanServeAsKey keys
 allowed_keys pattern _ _ AreKeys.none = λ i d within. absurd (omega arith)

@@ -39,7 +39,7 @@ lacks_inside c (x ∷ text) [] s lacks e = let same : x ≡ c = cc in lacks 0 (o
 lacks_inside c (x ∷ text) (y ∷ a) s lacks e =
     let rest : text ≡ a ++ (c ∷ s) = cc in lacks_inside c text a s (lacks_rest c x text lacks) rest
 
--- a text with a colon whose end isn't a number has no name and number
+-- if the text after the first colon isn't a digit from 1 to 9, the text has no name and number
 pub not_named : (text front number : List ℕ) → text ≡ front ++ (58 ∷ number) → LacksByte 58 front
     → ((n : ℕ) → 0 < n → n < 10 → number ≡ (48 + n) ∷ [] → ⊥) → (name : List ℕ) (count : Option ℕ) → HasNameAndCount text name count → ⊥
 not_named text front number is lacks none name count named = of named.digits count named.number named.is where

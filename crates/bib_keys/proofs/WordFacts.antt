@@ -16,7 +16,7 @@ not_below a b not = of (cases_lt a b) where
   of (inl below) = absurd (not below)
   of (inr above) = above
 
--- a number that isn't ASCII has no upper case
+-- a character that isn't ASCII is its own ASCII upper case
 no_upper : (c : ℕ) → 128 ≤ c → to_ascii_uppercase c ≡ c
 no_upper c h = grind (arith, nat_tests)
 

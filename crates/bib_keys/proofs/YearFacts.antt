@@ -11,7 +11,7 @@ use Rattle.std.proofs.lemmas.Str.Ascii.{IsAscii-nil, IsAscii-cons}
 use Rattle.std.proofs.lemmas.Bool.{and_parts}
 use Rattle.bib_keys.specs.Years.{begins_with_year, four_digits}
 
--- a text that begins with four digits has four characters
+-- a text that begins with four digits has at least four bytes
 pub long_enough : (text : List ℕ) → begins_with_year text ≡ true → 4 ≤ length text
 long_enough text begins =
     let long = (and_parts (nat_le 4 (length text)) (list_all is_ascii_digit (take 4 text)) begins).0 in at_least (length text) long where
@@ -37,7 +37,7 @@ pub year_found : (text : List ℕ) → begins_with_year text ≡ true → four_d
 year_found [] begins = absurd (omega (arith, long_enough [] begins))
 year_found (c ∷ text) begins = ap (λ b. cond b (take 4 (c ∷ text)) (four_digits text)) begins
 
--- without four digits at the start, those after the first character are found
+-- without four digits at the start, the four digits in a text are those in the text after its first byte
 pub year_skipped : (text : List ℕ) (i : ℕ) → i < length text → begins_with_year (drop i text) ≡ false
     → four_digits (drop i text) ≡ four_digits (drop (i + 1) text)
 year_skipped text i within begins = rw (add-one) (of text i within begins) where
@@ -46,7 +46,7 @@ year_skipped text i within begins = rw (add-one) (of text i within begins) where
   of (c ∷ l) zero h b = ap (λ t. cond t (take 4 (c ∷ l)) (four_digits l)) b
   of (c ∷ l) (suc k) h b = of l k (omega arith) b
 
--- the offset after a year is a character boundary
+-- in a UTF-8 text, the offset after a year is a character boundary
 pub year_ends : (text : List ℕ) (i : ℕ) → IsUtf8 text → begins_with_year (drop i text) ≡ true → IsCharBoundary text (i + 4)
 year_ends text i utf8 begins =
     let long : 4 ≤ length (drop i text) = long_enough (drop i text) begins in

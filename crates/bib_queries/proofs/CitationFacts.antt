@@ -85,7 +85,7 @@ or_then true false = refl
 or_then false true = refl
 or_then false false = refl
 
--- one of these elements and one more defines the set with a name exactly if the last one defines it, or one of the others does
+-- elements and one more define the set with a name exactly if the last one defines it, or one of the others does
 pub listed_more : (pieces : List (Bor (List ℕ))) (piece : Bor (List ℕ)) (key : List ℕ) (some more : Bool)
     → more ≡ (is_listed (set_name piece.now) key || some)
     → some ≡ is_listed (flat_map set_name (map (λ p. p.now) pieces)) key

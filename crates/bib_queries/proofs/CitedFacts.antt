@@ -34,7 +34,7 @@ all_marks names all nodes n marks is made = record {
   each = λ index below. (λ mark. any is, λ cited. ap (λ l. get_or l index false) made ∙ get_or-replicate n index true false below);
 }
 
--- marks on the needed nodes are marks on the needed nodes for equal names and nodes
+-- marks on the nodes that are needed for some names and nodes are those for equal names and nodes
 pub same_marks : (names names' : List (List ℕ)) (nodes nodes' : List Node) (n n' : ℕ) (marks : List Bool)
     → names ≡ names' → nodes ≡ nodes' → n ≡ n' → AreMarks (IsNeeded names nodes) n marks
     → AreMarks (IsNeeded names' nodes') n' marks

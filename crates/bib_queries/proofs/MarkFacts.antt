@@ -111,7 +111,7 @@ made_at v f xs i d within =
 
 -- ---- marks
 
--- if an index without a mark gets one, one index less has no mark
+-- if an index without a mark gets one, the number of indices without a mark falls by one
 pub unmarked_less : (marks : List Bool) (r : ℕ) → r < length marks → get_or marks r false ≡ false
     → unmarked_count (set marks r true) + 1 ≡ unmarked_count marks
 unmarked_less marks r within h =

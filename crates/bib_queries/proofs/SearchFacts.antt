@@ -30,7 +30,7 @@ pub among_push : (names : List (List ℕ)) (one name : List ℕ)
     → is_listed (names ++ one ∷ []) name ≡ cond (bytes_eq one name) true (is_listed names name)
 among_push names one name = any_push (λ n. bytes_eq n name) names one
 
--- if the indices of a name are right for the names so far, they are right after one more name, with the index appended if `b`
+-- if the indices of a name are right for the names so far, they are right after one more name, with the index appended if `b` is true
 pub holder_more : (b : Bool) (old now after : List ℕ) (index one : ℕ) (among among' : Bool)
     → after ≡ cond b (now ++ index ∷ []) now → among' ≡ cond b true among
     → Contains now one ↔ (Contains old one ⊎ ((one ≡ index) × (among ≡ true)))

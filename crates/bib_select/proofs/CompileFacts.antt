@@ -1,4 +1,4 @@
--- Compiling a condition: the tests so far are those of the text, and an error is that of one of the regular expressions.
+-- Compiling a condition: the tests so far are those of the text, and an error is that of one of the regular expressions, or out of memory.
 use Rattle.std.proofs.Common.{◌<◌, ◌+◌, ℕ, List, [], ◌∷◌, ◌++◌, length, take, get_or, map, sym, subst}
 use Rattle.std.specs.List.{Any, AllZip}
 use Rattle.std.proofs.lemmas.List.{map_more, length-map, get_or-map}
@@ -36,7 +36,7 @@ all_zip_push R [] (b ∷ ys) x y all one = absurd all
 all_zip_push R (a ∷ xs) [] x y all one = absurd all
 all_zip_push R (a ∷ xs) (b ∷ ys) x y all one = (all.0, all_zip_push R xs ys x y all.1 one)
 
--- the same if the first list is that of the images of the elements before an index
+-- lists related element by element stay so with one more pair, if the first list is that of the images of the elements before an index
 pub all_zip_more : {A B C : Type 0} (R : B → C → Type 0) (f : A → B) (xs : List A) (ys : List C) (index : ℕ) (d : A) (y : C)
     → index < length xs → AllZip R (map f (take index xs)) ys → R (f (get_or xs index d)) y
     → AllZip R (map f (take (index + 1) xs)) (ys ++ y ∷ [])

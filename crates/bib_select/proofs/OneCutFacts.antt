@@ -47,7 +47,7 @@ sign_no_quote c is_sign quote =
     no : false ≡ true → ⊥
     no is = cc
 
--- one character at a place isn't in two classes
+-- if two classes have no character in common, the character at a place isn't in both
 clash : {p q : ℕ → Bool} {u v w : Place} {c d : ℕ} → ((x : ℕ) → p x ≡ true → q x ≡ true → ⊥) → CharAt u c v → p c ≡ true → CharAt u d w
     → q d ≡ true → ⊥
 clash {q = q} {c = c} differ first is second other = differ c is (subst (λ x. q x ≡ true) (sym (same_char first second).0) other)
@@ -93,7 +93,7 @@ no_token (unclosed {v = v} {w = w} {q = q} char is inside end) (a_quoted_text {v
     subst (λ p. Longest (λ c. not (c == q)) p w') (sym same.1) (subst (λ k. Longest (λ c. not (c == k)) v' w') (sym same.0) inside') in
     no_char_at_end (subst AtEnd (longest_same inside again) end) closing'
 
--- no token is at the end of a text, and no quote
+-- no token and no quote is at the end of a text
 token_no_end : {u v : Place} {t : Token} → AtEnd u → IsToken u t v → ⊥
 token_no_end end (a_word char is run) = no_char_at_end end char
 token_no_end end (a_sign char is run) = no_char_at_end end char

@@ -25,7 +25,7 @@ pub quoted_text : {u v w x : Place} {q : ℕ} (text : List ℕ) → CharAt u q v
 quoted_text {u} {x = x} text opening quote inside is closing =
     subst (λ t. IsToken u (quoted t) x) (sym is) (a_quoted_text opening quote inside closing)
 
--- if a run that ends at a quote isn't followed by one, it ends with the text
+-- if a run of characters other than a quote isn't followed by this quote, it goes to the end of the text
 pub no_closing : {w : Place} (q : ℕ) {Holds : ℕ → Type 0} → EndsOr Holds w → Stops (λ c. not (c == q)) w
     → ((v : Place) → CharAt w q v → ⊥) → AtEnd w
 no_closing q (inl end) stops absent = end

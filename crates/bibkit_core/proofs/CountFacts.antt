@@ -31,7 +31,7 @@ adds_more_names {some} {more} {new = new} first second = record {
 one_counted : (n greatest : ℕ) → min (min n greatest + 1) greatest ≡ min (n + 1) greatest
 one_counted n greatest = omega arith
 
--- adding one to the entries, and counting the type, the fields and the year of an entry, counts the entry
+-- adding one to the capped count of entries, and counting the type, the fields and the year of an entry, counts the entry
 pub adds_entry : (e : EntryReading) (old new : Counting) → new.entries ≡ min (old.entries + 1) 18446744073709551615
     → AddsNames (type_name e ∷ []) old.types new.types → AddsNames (lowercase_names e.fields) old.fields new.fields
     → AddsNames (years_in e.fields) old.years new.years → new.findings ≡ old.findings → AddsEntries (e ∷ []) old new

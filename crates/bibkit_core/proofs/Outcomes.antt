@@ -72,7 +72,7 @@ pub old_or_new : (target text : List ℕ) (old new : Disk) → IsNeverTorn targe
     → IsOldOrNew target text old new
 old_or_new target text old new never on_disk c left = ⊎_elim (λ was. inl (on_disk c was)) (λ whole. inr whole) (never.since c left)
 
--- a crash leaves all of the text in the new file, whatever names the file then has
+-- if all of the text is saved in the new file, a crash leaves it there, whatever names the file then has
 file_is_whole : (name text : List ℕ) (disk : Disk) (c : Option (List ℕ)) → IsFilled text name disk → IsFileOf disk name c → c ≡ Some text
 file_is_whole name text disk c filled file = file.whole ∙ sym (filled.saved file.bytes file.left) ∙ filled.full
 

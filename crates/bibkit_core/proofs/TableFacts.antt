@@ -63,7 +63,7 @@ or_none true b isnt = refl
 or_none false false isnt = refl
 or_none false true isnt = isnt
 
--- after one more occurrence of a name, its count is the capped old count (0 if missing) plus one
+-- after one more occurrence of a name, its count is the old count (0 if missing) plus one, capped
 met_again : (names : List (List ℕ)) (name : List ℕ)
     → Some (min (unwrap_or (times_met names name) 0 + 1) 18446744073709551615) ≡ times_met (names ++ name ∷ []) name
 met_again names name =

@@ -52,7 +52,7 @@ style_made style d new is alike = record {
   read = alike.read;
 }
 
--- a sorted text that parses like the sorted document is an outcome of `Sort`
+-- a text sorted by the places of an order, which parses like the sorted document, is an outcome of `Sort`
 pub order_made : (order : Order) (d : Document) (places new : List ℕ) → ArePlacesIn (order_parts order) d.says places
     → IsSortedText d places new → IsReadSorted d places new → IsEdited (IsInOrder order d) new
 order_made order d places new placed is read = record {
@@ -105,7 +105,7 @@ resolution_made d new made = record {
   read = made.read.read;
 }
 
--- a text with an edit of a field of some entries is an outcome of `Fields`
+-- if the name and the value of an edit can be written, a text with this edit of a field of some entries is an outcome of `Fields`
 pub fields_made : (keys : List (List ℕ)) (edit : FieldEdit) (set : BTreeSet (Bor (List ℕ))) (d : Document) (new : List ℕ)
     → ((key : List ℕ) → is_in_set set key ≡ is_listed keys key) → CanBeNewName (edit_name edit)
     → HasFitValue d.says.abbreviations (first_start (is_in_set set) (length d.text) d.says.entries) edit
@@ -117,7 +117,7 @@ fields_made keys edit set d new has name value made = record {
   read = made.read.read;
 }
 
--- a text that a call returns is an outcome of `Fields`, if it has an edit of a field of some entries
+-- if a call that succeeds returns a text with an edit that can be written, the text is an outcome of `Fields`
 pub all_fields_made : {S E : Type 0} (bytes : S → List ℕ) (r : Result S E) (keys : List (List ℕ)) (edit : FieldEdit)
     (set : BTreeSet (Bor (List ℕ))) (d : Document)
     → ((key : List ℕ) → is_in_set set key ≡ is_listed keys key) → OnOk r (CanBeNewName (edit_name edit))
@@ -149,7 +149,7 @@ removal_made keys set d new has made = record {
   read = made.read;
 }
 
--- the same entries would be empty by two tests that select the same keys
+-- two tests that select the same keys agree on whether an entry would be empty
 empty_same : (one other : List ℕ → Bool) (name : List ℕ) (es : List EntryReading) → ((key : List ℕ) → one key ≡ other key)
     → list_any (would_be_empty one name) es ≡ list_any (would_be_empty other name) es
 empty_same one other name [] same = refl
@@ -169,7 +169,7 @@ unset_error one other name d error.DefinitionIsThere same why = why
 unset_error one other name d error.NoFieldLeft same why = sym (empty_same one other name d.says.entries same) ∙ why
 unset_error one other name d error.OutOfMemory same why = tt
 
--- unsetting is refused for the same reason by two tests that select the same keys
+-- unsetting may be refused for the same reasons by two tests that select the same keys
 pub unset_refused : {S : Type 0} (r : Result S EditError) (d : Document) (one other : List ℕ → Bool) (name : List ℕ)
     → ((key : List ℕ) → one key ≡ other key) → IfErr r (UnsettingIsRefused d one name) → IfErr r (UnsettingIsRefused d other name)
 unset_refused (Ok new) d one other name same why = _
@@ -211,7 +211,7 @@ read_fine : {text : List ℕ} {e : ParseError} {d : Document} → IsDocumentOf t
 read_fine {text} {e} {d} read reported =
     let fails = subst (λ t. IsReported t e) (sym read.same) reported in file_unread fails.fails read.read
 
--- if the edits `done` are made and the edit after them is refused, then all edits are refused for that reason
+-- if the edits `done` are made and the edit after them may be refused, then all edits may be refused for that reason
 pub first_refused : (done rest : List Edit) (edit : Edit) {text new : List ℕ} (why : Refusal)
     → AreFirstMade done text new → IsTextRefused edit new (length done) why → AreRefused (done ++ edit ∷ rest) text why
 first_refused done rest edit (refusal.NotUtf8 at) first refused = absurd refused
@@ -236,7 +236,7 @@ first_refused done rest edit {text} {new} (refusal.UnbalancedQuotes at) first re
     (AreRefused.unbalanced_quotes edit done rest new refused.1.document refl first.made refused.1.read refused.1.unsafe)
 first_refused done rest edit refusal.OutOfMemory first refused = AreRefused.no_memory
 
--- if the edits before the index `i` are made and the edit at `i` is refused, then all of them are refused for that reason
+-- if the edits before the index `i` are made and the edit at `i` may be refused, then all of them may be refused for that reason
 pub refused_at : (edits : List Edit) (i : ℕ) (d : Edit) {text new between : List ℕ} (why : Refusal) → i < length edits
     → AreFirstMade (take i edits) text new → between ≡ new
     → IsTextRefused (get_or edits i d) between i why → AreRefused edits text why
@@ -256,7 +256,7 @@ adds_error {e = e} other adds = record {
   reported = elim adds.why as (λ _. IsReported adds.more e) [ inl out ↦ absurd (other (ap (λ e. e.kind) out)) | inr reported ↦ reported ];
 }
 
--- if parsing the text to be added fails with an error of the kind `k`, the edit is refused with the refusal for that kind
+-- if parsing the text to be added may fail with an error of the kind `k`, the edit may be refused with the refusal for that kind
 added_refused : (edit : Edit) (text : List ℕ) (index : ℕ) (e : ParseError) (k : ParseErrorKind) → e.kind ≡ k
     → AddsUnread edit text e → IsTextRefused edit text index (unless_no_memory k (refusal.Added e))
 added_refused edit text index e kind.OutOfMemory is adds = tt
@@ -285,13 +285,13 @@ why_refused : (edit : Edit) (d : Document) {why : EditError} → (why ≡ error.
 why_refused edit d other (inl refused) = refused
 why_refused edit d other (inr out) = absurd (other out)
 
--- if an edit of a document is refused with an error that isn't out of memory, the edit of its text is refused with it
+-- if an edit of a document may be refused with an error that isn't out of memory, the edit of its text may be refused with it
 named_refused : (edit : Edit) (text : List ℕ) (d : Document) {why : EditError} → (why ≡ error.OutOfMemory → ⊥) → IsDocumentOf text d
     → IsEditRefused edit d why ⊎ (why ≡ error.OutOfMemory) → IsRefusedAt edit text why
 named_refused edit text d other read refused =
     record { document = d; read = read; refused = why_refused edit d other refused; other = other }
 
--- if an edit of a document is refused, the edit of its text is refused with the same error
+-- if an edit of a document may be refused with an error, the edit of its text may be refused with the same error
 edit_refused : (edit : Edit) (text : List ℕ) (index : ℕ) (d : Document) (why : EditError) → IsDocumentOf text d
     → IsEditRefused edit d why ⊎ (why ≡ error.OutOfMemory)
     → IsTextRefused edit text index (edit_refusal why index)
@@ -313,7 +313,7 @@ edit_refused edit text index d error.DefinitionIsThere read refused =
 edit_refused edit text index d error.NoFieldLeft read refused =
     (refl, named_refused edit text d (λ out. let clash : error.NoFieldLeft ≡ error.OutOfMemory = out in cc) read refused)
 
--- if an edit of a document fails with a step, the edit of its text is refused with the refusal of that step
+-- if an edit of a document may fail with a step, the edit of its text may be refused with the refusal of that step
 pub step_refused : (edit : Edit) (text : List ℕ) (index : ℕ) (d : Document) (s : Step) → IsDocumentOf text d
     → StepIsRefused edit d s → IsTextRefused edit text index (refusal_at s index)
 step_refused edit text index d (step.Added e) read refused =

@@ -56,11 +56,11 @@ abbrev pair_composes : Tables → List ℕ → Bool
 pair_composes t (a ∷ b ∷ []) = not (nat_lt a 0x200) || is_some (paired_with b (t.pairs a))
 pair_composes t cs = true
 
--- whether a full decomposition is in canonical order, and composes if it is a pair
+-- whether a full decomposition is in canonical order, and composes if it is a pair that begins below U+0200
 abbrev is_settled : Tables → ℕ → Entry → Bool
 is_settled t c entry = ordered_by t.class (full t Nfd c) && pair_composes t (full t Nfd c)
 
--- each full decomposition is in canonical order, and composes if it is a pair
+-- each full decomposition is in canonical order, and composes if it is a pair that begins below U+0200
 all_settled : (c : ℕ) → is_empty (if_canonical (decomposition c)) ≡ false → is_settled by_rows c (decomposition c) ≡ true
 unfolding by_trees
 all_settled c some =
@@ -81,7 +81,7 @@ decomposed_one : (c : ℕ) → nfd (c ∷ []) ≡ canonical_order (decompose Nfd
 unfolding normalize decomposed
 decomposed_one c = ap canonical_order (append-nil (decompose Nfd c))
 
--- a decomposition that begins with a part of a Hangul syllable begins with it in canonical order too
+-- in canonical order, characters that begin with a part of a Hangul syllable aren't a letter below U+0200 and another character
 begins_hangul : (l : ℕ) (rest : List ℕ) (b mark : ℕ) → 0x1100 ≤ l → l < 0x1200 → canonical_order (l ∷ rest) ≡ b ∷ mark ∷ [] → b < 0x200 → ⊥
 begins_hangul l rest b mark from below is low =
     let starter : ccc l ≤ 0 = omega (arith, eqb-true (ccc l) 0 (class_of_jamo l from (omega (arith, below)))) in

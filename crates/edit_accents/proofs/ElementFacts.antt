@@ -297,7 +297,7 @@ module _ (form : Form) where
             ∙ ap (λ ps. moved_piece (λ n. 0) (piece_recoded form e) ∷ ps) others.alike;
       }
 
-  -- the output for the recoded pieces of a value parses to them
+  -- the output for the recoded pieces of a value in a UTF-8 text parses to them
   pub can_be_read : (text : List ℕ) (es : List Piece) → IsUtf8 text → IsSome es → AllByRecursion (IsElement text) es
       → CanBeRead (record { bytes = laid_out text (map (piece_recoded form) es); pieces = map (piece_recoded form) es })
   can_be_read text [] utf8 some all = absurd some

@@ -1,5 +1,5 @@
--- The command for a character has balanced braces, and quotes only after a backslash. So a text in which characters became commands has
--- the braces and quotes of the text.
+-- The command for a character has balanced braces, and quotes only after a backslash. So if the braces and quotes of a text fit, they still
+-- fit after characters became commands.
 use Rattle.std.proofs.Common.{◌≡◌, inl, inr, ℕ, Bool, true, false, cond, List, [], ◌∷◌, ◌++◌, append_assoc, refl, sym, ap, ◌∙◌, subst, Option, Some, None}
 use Rattle.std.specs.Prelude.{◌==◌, ◌&&◌, ◌||◌, not, IfSome, length}
 use Rattle.std.specs.Char.{is_ascii_alphabetic}
@@ -157,7 +157,7 @@ close_stays stretch rest = by_test (writes_commands stretch && not (begins_mark 
     by_test true = refl
     by_test false = refl
 
--- a text in which characters became commands has the braces and quotes of the text
+-- if the braces and quotes of a text fit, so do those of the text in which characters became commands
 pub encoded_fits : (q h : Bool) (d : ℕ) (stretch : Stretch) (cs : List ℕ) → text_fits q h d cs ≡ true
     → text_fits q h d (encoded stretch h cs) ≡ true
 encoded_fits q h d stretch [] is = is

@@ -148,7 +148,7 @@ quoted_characters {u} {v} (quotes.hidden {v = w} {w = x} {c = c} slash char rest
       skipped = others.skipped;
     }
 
--- the characters between the braces of a literal have balanced braces
+-- the characters of UTF-8 text between the braces of a literal have balanced braces
 pub parts_fit : {u v : Place} → Parts u v → v.at ≤ length u.text → IsUtf8 (between u v)
     → text_fits false false 0 (chars (between u v)) ≡ true
 parts_fit {u} {v} x within utf8 =
@@ -156,7 +156,7 @@ parts_fit {u} {v} x within utf8 =
     ap (text_fits false false 0) (chars_whole found.characters (between u v) utf8 found.spelt)
     ∙ ap (text_fits false false 0) (sym (append-nil found.characters)) ∙ found.skipped 0 []
 
--- the characters between the quotes of a literal can be between quotes
+-- the characters of UTF-8 text between the quotes of a literal can be between quotes
 pub quoted_fit : {u v : Place} → QuotedParts u v → v.at ≤ length u.text → IsUtf8 (between u v)
     → text_fits true false 0 (chars (between u v)) ≡ true
 quoted_fit {u} {v} x within utf8 =

@@ -1,4 +1,4 @@
--- The command for a character becomes this character again.
+-- The command for a character becomes the NFC of this character again.
 use Rattle.std.proofs.Common.{◌≡◌, ℕ, ◌+◌, ◌<◌, Bool, true, false, cond, List, [], ◌∷◌, ◌++◌, length, drop, refl, sym, ap, ◌∙◌, subst, Option, Some, None, arith}
 use Rattle.std.specs.Prelude.{◌==◌, ◌&&◌, ◌||◌, not, nat_lt, IfSome}
 use Rattle.std.specs.Char.{is_ascii_alphabetic, is_whitespace}
@@ -226,7 +226,7 @@ composed_is mark b d same is beyond =
     ∙ ap (λ l. only_beyond_ascii (only_character l)) is
     ∙ ap (λ t. character_if t d) beyond
 
--- the command for an accent on an ASCII letter becomes the composed character
+-- the command for an accent on an ASCII letter becomes the composed character, if this is one character beyond ASCII
 on_ascii : (name mark b d : ℕ) → IsAccentName name mark → is_ascii_alphabetic b ≡ true → nfc (b ∷ mark ∷ []) ≡ d ∷ []
     → is_beyond_ascii d ≡ true → with_characters (in_braces (accent_command name (b ∷ []))) ≡ d ∷ []
 on_ascii name mark b d accent is gives beyond = by_name (is_ascii_alphabetic name) refl accent.begins
@@ -245,7 +245,7 @@ on_ascii name mark b d accent is gives beyond = by_name (is_ascii_alphabetic nam
         (Plain b ∷ Closing ∷ []) (begins (b ∷ 125 ∷ [])) (bare_decoded b is) accent.marked
         (λ t. absurd (test_clash (is_ascii_alphabetic name) t sign)) (bare_argument b is) made
 
--- the command for an accent on a letter with a command becomes the composed character
+-- the command for an accent on a letter with a command becomes the composed character, if this is one character beyond ASCII
 on_letter : (name mark b d : ℕ) (text : List ℕ) → IsAccentName name mark → IsLetterCommand b text → nfc (b ∷ mark ∷ []) ≡ d ∷ []
     → is_beyond_ascii d ≡ true → with_characters (in_braces (accent_command name text)) ≡ d ∷ []
 on_letter name mark b d text accent command gives beyond =

@@ -18,12 +18,12 @@ use Rattle.edit_accents.specs.Recoded.{IsRecoded, changes_value, recoding, value
 use Rattle.edit_accents.specs.declared.recoding.Form.{Form}
 use Rattle.edit_accents.proofs.ElementFacts.{can_be_read}
 
--- the edits are in order and don't overlap
+-- the edits of a UTF-8 text are in order and don't overlap
 pub in_order : (form : Form) (d : Document) → IsDocument d → IsUtf8 d.text
     → AreEditsInOrder d.text 0 (entry_edits (recoding form d.text) d.text d.says.entries)
 in_order form d read utf8 = exchange_in_order d (λ e. recoding form d.text) read utf8
 
--- the new value of a field can be parsed
+-- the new value of a field of a UTF-8 text can be parsed
 value_read : (form : Form) (text : List ℕ) (f : FieldReading) → IsUtf8 text → IsValue text f → CanBeExchanged (recoding form text) f
 value_read form text f utf8 value new = by_change (changes_value form f)
   where
@@ -49,7 +49,7 @@ recoded form d text read utf8 is =
           d.says.entries (file_stands d.text refl read).entries));
     }
 
--- if the code returns the text after its edits, this is the recoded document
+-- if the code returns the UTF-8 text of a document after its edits, this is the recoded document
 pub recoded_answer : {A E : Type 0} (form : Form) (bytes_of : A → List ℕ) (r : Result A E) (d : Document) → IsDocument d
     → IsUtf8 d.text → IfOk r (λ new. bytes_of new ≡ edited_all (entry_edits (recoding form d.text) d.text d.says.entries) d.text)
     → IfOk r (λ new. IsRecoded form d (bytes_of new))

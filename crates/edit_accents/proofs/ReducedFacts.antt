@@ -1,4 +1,4 @@
--- Commands that become characters keep the braces and quotes of signs.
+-- Signs whose braces and quotes fit still fit when commands become characters.
 use Rattle.std.proofs.Common.{◌≡◌, ℕ, suc, ◌+◌, Bool, true, false, cond, List, [], ◌∷◌, length, drop, refl, sym, ap, ◌∙◌, subst, Option, Some, None}
 use Rattle.std.specs.Prelude.{◌==◌, ◌&&◌, ◌||◌, not, bytes_eq}
 use Rattle.std.specs.Char.{is_ascii_alphabetic, is_whitespace}
@@ -280,7 +280,7 @@ cons_fit q false d (Plain c) ss ts on is = by_slash (c == 92) is
         let parts = and_parts (is_neutral q c) (fit q false d ss) x in
         and_from (is_neutral q c) (fit q false d ts) parts.0 (on false d parts.1)
 
--- signs keep their braces and quotes when commands become characters
+-- if the braces and quotes of signs fit, they still fit when commands become characters
 pub decoded_fit : (q h : Bool) (d : ℕ) (ss : List Sign) → fit q h d ss ≡ true → fit q h d (decoded ss) ≡ true
 decoded_fit q h d [] is = is
 decoded_fit q h d (s ∷ ss) is =

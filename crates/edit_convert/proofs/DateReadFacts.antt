@@ -15,7 +15,7 @@ use Rattle.bib_tables.specs.declared.type_error.TypeError.{TypeError}
 use Rattle.bib_tables.specs.declared.type_error.TypeErrorKind.{TypeErrorKind}
 use Rattle.bib_tables.specs.declared.type_error.TypeErrorKind.TheVariants.{OutOfMemory}
 
--- the reading of one verbatim chunk is that of its text
+-- the reading of one verbatim chunk is that of its UTF-8 text
 verbatim_reading : (chunks : Value) (t : List ℕ) → IsUtf8 t → chunks ≡ alone (Verbatim t) → date_reading chunks ≡ date_of t
 verbatim_reading chunks t utf8 is = ap date_reading is ∙ ap date_of (verbatim_text t utf8)
 
@@ -39,7 +39,7 @@ no_date_is chunks t may e utf8 is refused other =
 
 -- ---- three fields
 
--- the text of one verbatim chunk is its text
+-- the text of one verbatim chunk is the UTF-8 text in it
 pub chunk_text : {E : Type 0} (r : Result Value E) (t : List ℕ) → IsUtf8 t
     → IfOk r (λ chunks. chunks ≡ alone (Verbatim t)) → IfOk r (λ chunks. text chunks ≡ t)
 chunk_text (Err e) t utf8 is = _

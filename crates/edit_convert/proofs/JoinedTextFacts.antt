@@ -230,7 +230,7 @@ beyond low high n h = grind (arith, nat_tests)
 year_kept : (n : ℕ) → n < 10000 → IsYear (pos n)
 year_kept n small = omega (arith, ints)
 
--- a side with a day that its month doesn't have has the error `DayOutOfRange`
+-- a side of a year below 10000 with a day up to 31 that its month doesn't have has the error `DayOutOfRange`
 side_fails : (n m k : ℕ) → n < 10000 → m < 12 → k < 31 → days_in_month (pos n) (m + 1) ≤ k
     → side (datetime_text (datetime (pos n) (Some m) (Some k) None)) ≡ error DayOutOfRange
 unfolding side after_year after_month
@@ -280,7 +280,7 @@ marked_fails : (text : List ℕ) (kind : TypeErrorKind) → list_all is_date_byt
 unfolding marked_date
 marked_fails text kind bytes is = let bare = unmarked text bytes in rw (bare.0, bare.1, is) refl
 
--- a date with a day that its month doesn't have has the error `DayOutOfRange`
+-- a date of a year below 10000 with a day up to 31 that its month doesn't have has the error `DayOutOfRange`
 date_fails : (n m k : ℕ) → n < 10000 → m < 12 → k < 31 → days_in_month (pos n) (m + 1) ≤ k
     → date_of (datetime_text (datetime (pos n) (Some m) (Some k) None)) ≡ error DayOutOfRange
 date_fails n m k year month day past =

@@ -76,7 +76,7 @@ field_behind text f lead {u} {v} same inside_text field =
     ap (λ t. build t to.at) (between_stands name stands) ∙ ap (build name) (omega (arith, size)) in
     subst (λ p. Field longest from (record (moved_field move f) { name = p }) (goes edit text v)) named (r.field i3)
 
--- an edit of a field's name puts a new field and a comma before the field
+-- if a new field can be inserted, an edit of a field's name puts it and a comma before this field
 pub preceded_put : (d : Document) (f : FieldReading) (n : NewField) (sign white : List ℕ) → CanBePut n → IsSign sign → AreWhite white
     → IsIn d.text f → IsPut d f (name_edit f (field_before n sign white)) (field_reading n ∷ f ∷ [])
 preceded_put d f n sign white can is_sign all is = record {

@@ -234,7 +234,7 @@ module _ (d : Document) (changes : EntryReading → EntryChange) (read : IsDocum
       (kind_case before es others (edits ++ later) e now at change.kind can.0.kind whole order.1
       (omega (arith, order.2.some)) fields.made)
 
--- the value of each field may be cut out of the text, and only white space is after the trimmed value
+-- in a UTF-8 text, the value of each field may be cut out, and only white space is after the trimmed value
 pub values_placed : (d : Document) → IsDocument d → IsUtf8 d.text → OfFields (IsFieldPlaced d.text) d.says.entries
 values_placed d read utf8 =
     let all = all_placed d read in
@@ -242,7 +242,7 @@ values_placed d read utf8 =
     (λ f placed again. record { placed = placed; trimmed = trimmed_known d.text f utf8 placed }) d.says.entries all
     all
 
--- a document's text with changes that can be made parses to its reading with these changes, except for byte offsets
+-- the UTF-8 text of a document with changes that can be made parses to its reading with these changes, except for byte offsets
 pub changed_read : (d : Document) (changes : EntryReading → EntryChange) → IsDocument d → IsUtf8 d.text
     → AllByRecursion (λ e. CanEntryChange e (changes e)) d.says.entries
     → IsReadPlaceless (file_changed changes d.says) (text_changed changes d)
@@ -250,13 +250,13 @@ changed_read d changes read utf8 can =
     let made = entries_made d changes read [] d.says.entries 0 can refl (file_in d.text refl read) (values_placed d read utf8) in
     record { tells = made.after.says; read = subst (λ t. IsRawReading t made.after.says) made.text made.read; alike = made.alike }
 
--- the edits of changes are in order
+-- the edits of changes of a UTF-8 text are in order
 pub changes_in_order : (d : Document) (changes : EntryReading → EntryChange) → IsDocument d → IsUtf8 d.text
     → AreEditsInOrder d.text 0 (edits_of_entries changes d.text d.says.entries)
 changes_in_order d changes read utf8 =
     edits_in_order changes d.text 0 d.says.entries (file_in d.text refl read) (values_placed d read utf8)
 
--- if a call returns the text of a document with changes that can be made, it returns the changed document
+-- if a call returns the text of a UTF-8 document with changes that can be made, it returns the changed document
 pub changed_answer : {S E : Type 0} (bytes : S → List ℕ) (r : Result S E) (d : Document) (changes : EntryReading → EntryChange)
     → IsDocument d → IsUtf8 d.text → AllByRecursion (λ e. CanEntryChange e (changes e)) d.says.entries
     → IfOk r (λ new. bytes new ≡ text_changed changes d) → IfOk r (λ new. IsChanged changes d (bytes new))

@@ -151,7 +151,7 @@ module _ (d : Document) (k : ℕ) (e : EntryReading) (j : ℕ) (f : FieldReading
   following : Gap longest (place d.text at) a.r.rest.start
   following = subst (λ p. Gap longest p a.r.rest.start) (same_place {u = a.r.from} {v = place d.text at} a.r.same a.r.is) a.r.rest.gap
 
-  -- the edit that removes a field's lines after a comment gives the reading without the field
+  -- if only white space with a line feed follows a field, the edit that removes its lines after a comment gives the reading without it
   pub lines_removed : sign_after d.text e j f ≡ field_limit e j → has_byte_at d.text (feed_after d.text e j f) 10 ≡ true
       → LineRemoved d k e j f (comma_before d.text e j f + 1) (lines_edit d.text e j f)
   lines_removed none feeds =

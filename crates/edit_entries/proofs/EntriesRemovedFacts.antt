@@ -143,7 +143,7 @@ removed_alike d new before rest e at alike =
     ∙ ap (of_entries (placeless d.says)) (taken_out view before rest e k refl ∙ sym (map-append view before rest))
 
 module _ (d : Document) (read : IsDocument d) where
-  -- if later entries are removed, the document without the entry `e` and the white space after it is one without them, too
+  -- if later entries are removed, the entry `e` and the white space after it can be removed too
   removal_step : (before es rest : List EntryReading) (later : List Edit) (e : EntryReading) (n : ℕ) → d.says.entries ≡ before ++ e ∷ es
       → AreEntriesCut d.text e.start (e ∷ es) → Longest is_whitespace (place d.text (e.end + 1)) (place d.text n)
       → Removals d later (before ++ e ∷ []) rest (next_start es (length d.text))

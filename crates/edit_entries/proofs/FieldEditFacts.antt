@@ -1,4 +1,4 @@
--- An edit of a field of several entries at once can be made.
+-- An edit of a field of several entries at once: when its changes can be made.
 use Rattle.std.proofs.Common.{◌≡◌, ℕ, length, Result, Ok, Err, Bool, true, false, cond, List, [], ◌∷◌, ◌++◌, map, refl, sym, ap, ◌∙◌, subst, append-nil}
 use Rattle.std.specs.Borrow.{Bor}
 use Rattle.std.specs.BTreeSet.{BTreeSet}
@@ -120,7 +120,7 @@ selected_can text definitions at keys edit (e ∷ es) placed can_name can_value 
   selected_can text definitions at keys edit es placed.1 can_name can_value,
 )
 
--- if the text of an edit is refused, the edit is refused
+-- if the text of an edit may be refused with an error, the edit may be refused with it
 pub edit_refused : (d : Document) (selected : List ℕ → Bool) (edit : FieldEdit) (error : EditError)
     → EditTextIsRefused d.says.abbreviations (first_start selected (length d.text) d.says.entries) edit error
     → FieldEditIsRefused d selected edit error
@@ -169,7 +169,7 @@ refused_same d f g same edit DefinitionIsThere why = why
 refused_same d f g same edit NoFieldLeft why = why
 refused_same d f g same edit OutOfMemory why = tt
 
--- an edit of entries that are selected by an equal test is refused for the same reasons
+-- two tests that select the same entries refuse an edit for the same reasons
 pub same_refused : {S : Type 0} (r : Result S EditError) (d : Document) (f g : List ℕ → Bool) → ((key : List ℕ) → f key ≡ g key)
     → (edit : FieldEdit) → IfErr r (FieldEditIsRefused d f edit) → IfErr r (FieldEditIsRefused d g edit)
 same_refused (Ok new) d f g same edit why = _

@@ -289,7 +289,7 @@ preceded d k e j f read here there' =
       value = same_place {u = g.end} {v = place text f.value.end} at_value.text (sym g.field.ends);
     }
 
--- a comma is before a field, and an equals sign is after its name
+-- the key or value before a field ends before the field begins, and the name of the field begins before its value
 pub before_name : (d : Document) (k : ℕ) (e : EntryReading) (j : ℕ) (f : FieldReading) → IsDocument d
     → slice_get d.says.entries k ≡ Some e → slice_get e.fields j ≡ Some f
     → (end_before e j < f.name.start) × (f.name.start < f.value.start)
@@ -360,7 +360,7 @@ surroundings d k e j f read here there' trimmed comma closed =
       after = comma_place d k e j f a comma;
     }
 
--- the comma of a field ends in its entry, if commas or a brace are found around the field
+-- the comma of a field ends in its entry, if a comma is found before the field, and a comma or a closing brace after it
 pub comma_within : (d : Document) (k : ℕ) (e : EntryReading) (j : ℕ) (f : FieldReading) → IsDocument d
     → slice_get d.says.entries k ≡ Some e → slice_get e.fields j ≡ Some f → IsTrimmed d.text f
     → has_byte_at d.text (comma_before d.text e j f) 44 ≡ true → is_closed d.text e j f ≡ true → comma_end d.text e j f ≤ e.end

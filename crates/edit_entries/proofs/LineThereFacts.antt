@@ -1,4 +1,4 @@
--- An edit that removes a field also removes it after edits of later fields.
+-- An edit that removes a field between two commas also removes it after edits of later fields.
 use Rattle.std.proofs.Common.{◌≡◌, ℕ, zero, suc, ◌+◌, ◌<◌, ◌≤◌, true, List, [], ◌∷◌, length, take, refl, ap, ◌∙◌, arith, Some}
 use Rattle.std.specs.Prelude.{slice_get}
 use Rattle.std.specs.Option.{option_map_or}

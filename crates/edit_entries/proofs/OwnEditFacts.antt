@@ -21,7 +21,7 @@ use Rattle.edit_entries.proofs.MadeFacts.{of_entries}
 use Rattle.edit_entries.proofs.RemovalFacts.{begins, field_cut_out, unnamed, with_fields}
 use Rattle.edit_entries.proofs.UnsetFacts.{field_cut}
 
--- the edit `own_edit` removes a field
+-- if `own_edit` returns an edit for a field, this edit removes the field
 own_removed : (d : Document) (k : ℕ) (e : EntryReading) (j : ℕ) (f : FieldReading) (edit : Edit) → IsDocument d
     → slice_get d.says.entries k ≡ Some e → slice_get e.fields j ≡ Some f → IsTrimmed d.text f → own_edit d.text e j f ≡ Some edit
     → LineRemoved d k e j f (comma_before d.text e j f + 1) edit
@@ -253,7 +253,7 @@ module _ (d : Document) (before others : List EntryReading) (e : EntryReading) (
         none = λ found. rest.none (sym any ∙ found);
       }
 
-  -- the last field with the name is removed by `own_edit`
+  -- the last field with the name is removed by `own_edit`, if this returns an edit
   last_one : (fb : List FieldReading) (f : FieldReading) (fs : List FieldReading) (edit : Edit) → e.fields ≡ fb ++ f ∷ fs
       → has_name name f ≡ true → list_any (has_name name) fs ≡ false → own_edit d.text e (length fb) f ≡ Some edit
       → OwnRemoved d before others e name fb (f ∷ fs) (edit ∷ [])
@@ -265,7 +265,7 @@ module _ (d : Document) (before others : List EntryReading) (e : EntryReading) (
       (own_removed d k e n f edit read is_here there (trimmed n f there) is) in
       one_more fb f fs [] edit cut (untouched (fb ++ f ∷ []) fs (cut ∙ sym (append_assoc fb (f ∷ []) fs)) none) named own own own.within
 
-  -- a field with the name before another one with it is removed by `plain_edit`
+  -- a field with the name before another one with it is removed by `plain_edit`, if this returns an edit
   earlier_one : (fb : List FieldReading) (f : FieldReading) (fs : List FieldReading) (edit : Edit) (edits : List Edit)
       → e.fields ≡ fb ++ f ∷ fs → OwnRemoved d before others e name (fb ++ f ∷ []) fs edits → has_name name f ≡ true
       → list_any (has_name name) fs ≡ true → plain_edit d.text e (length fb) f ≡ Some edit

@@ -92,7 +92,7 @@ names_placed text at zero (x ∷ xs) e order here =
     subst (λ y. AllByRecursion (IsNamePlaced text) y.fields) same (names_in text x.kind.end order.0 x.fields order.3)
 names_placed text at (suc k) (x ∷ xs) e order here = names_placed text order.0 k xs e order.4 here
 
--- each entry of a document meets the condition under which one of its fields can be set
+-- each entry of a UTF-8 document meets the condition under which one of its fields can be set
 pub set_asked : (d : Document) (k : ℕ) (e : EntryReading) (name : List ℕ) (value : SetValue) → IsDocument d → IsUtf8 d.text
     → slice_get d.says.entries k ≡ Some e → CanBeSetIn d.text e name value
 set_asked d k e name value read utf8 here = record {
@@ -168,7 +168,8 @@ pub no_element : {A : Type 0} (xs : List A) → length xs < 1 → xs ≡ []
 no_element [] short = refl
 no_element (x ∷ xs) short = absurd (omega (arith, short))
 
--- if no field has the name, the text with a new field before the first one is the text after the field is set
+-- if no field has the name, and name and value can be written, the text with a new field before the first one is the text after the field
+-- is set
 pub put_made : (definitions : List FieldReading) (text : List ℕ) (e : EntryReading) (name : List ℕ) (value : SetValue)
     (first : FieldReading)
     (others : List FieldReading) (new : List ℕ) → list_any (has_name name) e.fields ≡ false → e.fields ≡ first ∷ others

@@ -1,4 +1,4 @@
--- An entry in one style parses to the same entry.
+-- An entry in one style parses to the old entry, except for spans, the case of names and the order of fields.
 use Rattle.std.proofs.Common.{◌≡◌, ℕ, ◌+◌, ◌-◌, ◌≤◌, Bool, true, false, cond, List, [], ◌∷◌, ◌++◌, length, drop, take, map, refl, sym, ap, ◌∙◌, subst, arith}
 use Rattle.std.specs.Prelude.{◌||◌}
 use Rattle.std.specs.Char.{is_whitespace}

@@ -1,4 +1,4 @@
--- A field in a new layout parses to the same field.
+-- A field in a new layout parses to the old field, except for spans and the case of its name.
 use Rattle.std.proofs.Common.{◌≡◌, ℕ, zero, suc, ◌-◌, ◌≤◌, Bool, true, false, List, [], ◌∷◌, ◌++◌, length, map, codes, refl, sym, ap, ◌∙◌, subst, arith, append_assoc}
 use Rattle.std.specs.Prelude.{◌==◌, ◌&&◌, bytes_eq, cond, max, nat_lt, replicate}
 use Rattle.std.specs.Char.{is_ascii_whitespace, is_whitespace}
@@ -54,7 +54,7 @@ first_space {u} {v} (suc n) rest s = record {
   no_point = refl;
 }
 
--- a field parses from its output, a comma and its line, in another text
+-- the output for a field, a comma and its line or lines, parses to the field in another text
 pub record FieldRead (line_end : List ℕ) (style : Style) (text : List ℕ) (width : ℕ) (f : FieldReading) (u v : Place) : Type 0 where
   pub after : Place
   pub start : Place

@@ -1,4 +1,4 @@
--- A text in one style parses to the same reading.
+-- A text in one style parses to the old reading, except for spans, the case of names and the order of fields.
 use Rattle.std.proofs.Common.{◌≡◌, ℕ, ◌+◌, ◌-◌, ◌≤◌, Bool, true, false, cond, List, [], ◌∷◌, ◌++◌, Option, None, length, drop, take, map, refl, sym, ap, ◌∙◌, subst, arith}
 use Rattle.bib_text.specs.Places.{Place, place, between}
 use Rattle.bib_text.proofs.PlaceFacts.{char_within}

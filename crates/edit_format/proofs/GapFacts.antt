@@ -1,4 +1,4 @@
--- The text between entries parses as before if it is replaced by blank lines.
+-- White space between entries parses as before if it is replaced by blank lines.
 use Rattle.std.proofs.Common.{◌≡◌, ℕ, zero, suc, ◌+◌, ◌-◌, ◌<◌, ◌≤◌, Bool, true, false, cond, List, [], ◌∷◌, ◌++◌, Option, None, Some, length, drop, map, refl, sym, ap, ◌∙◌, subst, arith, append_assoc}
 use Rattle.std.specs.Prelude.{◌==◌, ◌&&◌, encode_utf8, not}
 use Rattle.std.specs.Char.{is_ascii_whitespace}

@@ -1,4 +1,4 @@
--- A piece with the delimiters of a style parses to the same piece.
+-- A piece with the delimiters of a style parses to the same piece, except for its span.
 use Rattle.std.proofs.Common.{◌≡◌, ℕ, ◌+◌, ◌-◌, ◌≤◌, Bool, true, false, not, ◌&&◌, List, [], ◌∷◌, ◌++◌, length, codes, cond, refl, sym, ap, ◌∙◌, subst, arith}
 use Rattle.std.specs.List.{ends_with}
 use lib.Dec.{eqb}

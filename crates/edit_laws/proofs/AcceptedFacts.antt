@@ -1,4 +1,4 @@
--- A file is accepted after a field of an accepted one is set or unset.
+-- Accepted files in which an unlinked field of an entry is set or unset: whether they stay accepted.
 use Rattle.std.proofs.Common.{◌≡◌, ◌⊎◌, ℕ, zero, suc, ◌<◌, ◌≤◌, eqb, inl, inr, List, [], ◌∷◌, ◌++◌, Bool, true, false, length, map, refl, sym, ap, ◌∙◌, subst, arith, Some, Option}
 use Rattle.std.specs.Prelude.{codes, slice_get, slice_set, ◌||◌}
 use Rattle.std.specs.List.{AllZip, list_any}
@@ -54,7 +54,7 @@ texts_faultless one other earlier (s ∷ said) (t ∷ tells) {e = e} are (AreTex
     texts_faultless one other (earlier ++ claims_by s.key.text a) said tells are.1 rest
     (subst (λ names. IsFirstErrorOfEntries other (earlier ++ names) tells e) same error)
 
--- if a raw entry is replaced by one with the same key and the same `ids`, the list of texts changes only at its index
+-- if a raw entry is replaced by a readable one with the same key and the same `ids`, the list of texts changes only at its index
 pub texts_set : {definitions : Definitions} {earlier : List (List ℕ)} {said : List EntryReading} {texts : List EntryTexts} (k : ℕ)
     (e changed : EntryReading) (t u : EntryTexts) → AreTexts definitions earlier said texts → slice_get said k ≡ Some e
     → slice_get texts k ≡ Some t → changed.key.text ≡ e.key.text → (AreTextsOf definitions e t → AreTextsOf definitions changed u)

@@ -1,5 +1,4 @@
--- Alike readings, which differ only in spans and case: pieces have the same values in both, and fields are readable in both or in
--- neither.
+-- Alike readings: the pieces of the second have each value that the pieces of the first have, and can be parsed if those can be.
 use Rattle.std.proofs.Common.{◌≡◌, ℕ, List, [], ◌∷◌, Bool, true, false, cond, reverse, refl, sym, ap, ◌∙◌, subst, inl, inr, Some, None, Option, option_map}
 use Rattle.std.specs.Prelude.{bytes_eq, find}
 use Rattle.std.specs.List.{AllZip}
@@ -39,7 +38,7 @@ pub define_back : {one other : Definitions} → DefineAlike one other → Define
 define_back both = record { onward = both.back; back = both.onward }
 
 module _ {one other : Definitions} (are : AreAlikeDefinitions one other) where
-  -- alike pieces have the same value
+  -- by alike definitions, `qs` have each value of the alike pieces `ps`
   pub evaluates_alike : {is_verbatim : Bool} {ps qs : List Piece} {atoms : List Atom} → Alike ps qs
       → Evaluates one is_verbatim ps atoms → Evaluates other is_verbatim qs atoms
   evaluates_alike Alike.ends evaluates.none = evaluates.none
@@ -138,7 +137,7 @@ find_alike R test (x ∷ xs) [] same all = absurd all
 find_alike R test (x ∷ xs) (y ∷ ys) same all = found_first x y (test x) (test y) (same x y all.0) all.0
     (find_alike R test xs ys same all.1)
 
--- the fields with a name among alike fields are alike
+-- the last fields with a name in two lists of alike fields are alike, or neither list has one
 pub field_alike : {one other : Definitions} (fs gs : List FieldReading) (name : List ℕ) → AllZip (AreAlikeFields one other) fs gs
     → FoundAlike (AreAlikeFields one other) (field_in fs name) (field_in gs name)
 field_alike {one} {other} fs gs name all =

@@ -1,4 +1,4 @@
--- Entries with the same types and the same date fields have the same dates after inheriting.
+-- Entries with the same types and the same date fields have the same dates after inheriting from such entries.
 use Rattle.std.proofs.Common.{◌≡◌, ℕ, List, [], ◌∷◌, Bool, true, false, cond, refl, sym, ap, ◌∙◌, Some, None, Option, is_some}
 use Rattle.std.specs.Prelude.{bytes_eq, codes, not, ◌&&◌, ◌||◌}
 use Rattle.std.specs.List.{AllZip}

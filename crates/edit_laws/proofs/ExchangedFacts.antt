@@ -86,8 +86,8 @@ module _ (one : Definitions) {middle other : Definitions} (both : DefineAlike mi
   entries_alike exchange (e ∷ es) (g ∷ gs) all is =
       (entry_alike (exchange e) e g all.0 (cons_head _ _ is), entries_alike exchange es gs all.1 (cons_tail is))
 
--- a reading has, except for spans, the entries of a file with replaced values, and these definitions. If each replacement means the same,
--- the file is alike to this reading.
+-- If each replacement means the same, a file is alike to each reading that has, except for spans, its entries with replaced values, and
+-- these definitions.
 pub files_exchanged : (exchange : EntryReading → Exchange) (says tells : FileReading) (definitions : List FieldReading)
     → EachMeansTheSame (definition_in says.abbreviations) (definition_in definitions) exchange says.entries
     → placeless tells ≡ placeless (record (file_changed (λ e. exchanges (exchange e) e) says) { abbreviations = definitions })

@@ -207,7 +207,7 @@ module _ (name : List ℕ) (value : SetValue) (text : List ℕ) where
           let passes : bytes_eq other (name_of f) ≡ true = found_passes (λ g. bytes_eq other (name_of g)) (reverse fs) f is in
           ap Some (other_kept f (named_alike name other f passes ∙ apart))
 
-  -- after each field with a name gets a value, the last of them has its text, and the other names have the same last fields
+  -- after each field with a name gets a value that is a text, the last of them has this text; other names keep their last fields
   pub values_are_set : (fs : List FieldReading) → list_any (has_name name) fs ≡ true → IsText (new_value value).pieces text
       → AllByRecursion HasTextAlready fs → IsFieldSet fs (map set_field fs) (str_to_ascii_lowercase name) text
   values_are_set fs any new already =
@@ -224,7 +224,7 @@ module _ (name : List ℕ) (value : SetValue) (text : List ℕ) where
 
   -- ---- a new field
 
-  -- a new field before others, none of which has its name, has the text of its value
+  -- a new field before others, none of which has its name, has the text of its value, if the value is a text
   pub new_is_set : (fs : List FieldReading) → list_any (has_name name) fs ≡ false → IsText (new_value value).pieces text
       → IsFieldSet fs (field_reading (field_with_value name value) ∷ fs) (str_to_ascii_lowercase name) text
   new_is_set fs none new =

@@ -47,19 +47,19 @@ zip_set R (a ∷ xs) (b ∷ ys) (suc k) y z all here becomes = (all.0, zip_set R
 
 -- ---- readings
 
--- a field has the same name, and the same value if it isn't a reference field
+-- a field has the same name and, if it isn't a reference field, the same value except for byte offsets
 record IsFieldKept (f g : FieldReading) : Type 0 where
   name : g.name.text ≡ f.name.text
   value : is_reference_field f.name.text ≡ false
       → map (moved_piece (λ at. 0)) f.value.pieces ≡ map (moved_piece (λ at. 0)) g.value.pieces
 
--- an entry has the same or a new key, the same type, and the same fields, except for the values of references
+-- an entry has the same or a new key, the same type, and fields that are kept as `IsFieldKept` states
 record IsEntryKept (keys : ℕ → Option (List ℕ)) (e g : EntryReading) : Type 0 where
   key : (g.key.text ≡ e.key.text) ⊎ ((index : ℕ) × (keys index ≡ Some g.key.text))
   kind : g.kind.text ≡ e.kind.text
   fields : AllZip IsFieldKept e.fields g.fields
 
--- two readings have the same entries except for keys and references, and the same definitions
+-- two readings have, except for byte offsets, the same entries with other keys and references, and the same definitions
 record IsFileKept (keys : ℕ → Option (List ℕ)) (said tells : FileReading) : Type 0 where
   entries : AllZip (IsEntryKept keys) said.entries tells.entries
   abbreviations : map (moved_field (λ at. 0)) said.abbreviations ≡ map (moved_field (λ at. 0)) tells.abbreviations
@@ -123,7 +123,7 @@ fine_renaming keys names index (e ∷ es) =
     (fine_fields keys names e.fields)) (fine_renaming keys names (suc index) es)
 
 module _ (keys : ℕ → Option (List ℕ)) where
-  -- changes that give new keys and change reference fields keep everything else
+  -- changes that give new keys and change reference fields keep the rest of the entries, and the definitions
   changed_kept : {d after : Document} {changes : List Change} → Changed d changes after → AllByRecursion (IsFine keys) changes
       → IsFileKept keys d.says after.says
   changed_kept {d} Changed.none fine = record {

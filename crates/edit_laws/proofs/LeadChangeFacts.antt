@@ -101,7 +101,7 @@ module _ (names : List ℕ → List ℕ → Option (List ℕ)) (keys : ℕ → O
       new_append test (first ++ second) (renaming names keys (suc index) xs)
       ∙ ap₂ option_or (new_append test first second ∙ ap₂ option_or key references) rest
 
-  -- an optional text with no other text after it is itself
+  -- `option_or` with `None` changes nothing
   or_none : (o : Option (List ℕ)) → option_or (option_or o None) None ≡ o
   or_none None = refl
   or_none (Some x) = refl

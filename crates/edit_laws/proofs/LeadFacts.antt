@@ -1,4 +1,4 @@
--- After entries get new keys, each reference leads to the entry that it led to.
+-- Entries get new keys: when the references lead to the entries that they led to.
 use Rattle.std.proofs.Common.{◌≡◌, ℕ, Bool, true, false, cond, ◌&&◌, ◌||◌, List, [], ◌∷◌, ◌++◌, length, map, drop, codes, Option, Some, None, refl, sym, ap, ◌∙◌, subst, arith, append-nil, drop_at}
 use Rattle.std.specs.Prelude.{bytes_eq, encode_utf8, encode_utf8_all, is_some, not, option_and_then, slice_get, ◌==◌}
 use Rattle.std.specs.List.{AllByRecursion, AllZip, list_any}
@@ -243,7 +243,7 @@ module _ (es gs : List EntryReading) (keys : ℕ → Option (List ℕ)) (can : C
 can_of : {d after : Document} {keys : ℕ → Option (List ℕ)} → KeysRenamed d keys after → CanGetKeys d.says.entries keys
 can_of (KeysRenamed.renamed can changed) = can
 
--- each reference leads to the entry that it led to, if an entry gets a new key only with all earlier entries with its key
+-- both documents have the same references if, with an entry that gets a new key, each earlier one with the same key gets one too
 pub references_lead : (d after : Document) (keys : ℕ → Option (List ℕ)) → IsDocument d → KeysRenamed d keys after
     → AreEarlierRenamed d.says.entries keys → HaveSameReferences d after
 references_lead d after keys read changed earlier =
@@ -284,7 +284,7 @@ only_first d old new k e has i j x other below here there same gets = by_index (
         absurd
         (both_ways (is_keyed old x) (first.before i x (omega (arith, below, index)) here) (ap (λ t. bytes_eq t old) key ∙ first.passes))
 
--- after the first entry with a key gets another one, each reference leads to the entry that it led to
+-- after the first entry with a key gets another one, the document has the same references
 pub one_leads : (d after : Document) (old new : List ℕ) → IsDocument d → KeyRenamed d old new after → HaveSameReferences d after
 one_leads d after old new read (KeyRenamed.same has equal) =
     let es : List EntryReading = d.says.entries in

@@ -204,7 +204,7 @@ module _ (es gs : List EntryReading) (keys : ℕ → Option (List ℕ)) (free : 
         fails_too (is_word key name) (is_word e.key.text key) (apart_from_kept es keys free j i x e key old gets here none)
         (λ is. same_word e.key.text key (word_same e.key.text name word ∙ sym (word_same key name is)))
 
-    -- an entry whose old key isn't this name has another new key too
+    -- if the old key of an entry isn't this name, its key in the new file isn't this name either
     keyed_before : (j : ℕ) (x h : EntryReading) → slice_get es j ≡ Some x → slice_get gs j ≡ Some h → is_keyed name x ≡ false
         → is_keyed name h ≡ false
     keyed_before j x h old there fails = by_key (keys j) refl
@@ -214,7 +214,7 @@ module _ (es gs : List EntryReading) (keys : ℕ → Option (List ℕ)) (free : 
         by_key (Some key) is =
             ap (λ t. bytes_eq t name) (key_is j x h (Some key) old there is) ∙ words_differ key name (no_new_word j x key old is)
 
-    -- an entry whose old key isn't this name in any ASCII case has another new key too
+    -- if the old key of an entry isn't this name in any ASCII case, its key in the new file isn't either
     word_before : (j : ℕ) (x h : EntryReading) → slice_get es j ≡ Some x → slice_get gs j ≡ Some h → has_key_word name x ≡ false
         → has_key_word name h ≡ false
     word_before j x h old there fails = by_key (keys j) refl

@@ -36,7 +36,7 @@ pub record AreMoved (own others : List Entry) (move : ℕ → ℕ) : Type 0 wher
 
 -- ---- names
 
--- each name points to the last entry that claims it
+-- each name points to the last entry that claims it, if one claims it
 pub points : (own : List Entry) (name : List ℕ)
     → MatchOption (by_name.get (names_of own) name) ((index : ℕ) → ClaimsAt own index name → ⊥) (IsLastClaim own name)
 points own name =
@@ -214,7 +214,7 @@ module _ {own others : List Entry} {move : ℕ → ℕ} (are : AreMoved own othe
   module _ (none : HasNoCycle (graph_of others)) (values news : List EntryTexts)
       (first : Inherits (texts_of_entries own) (graph_of own) values)
       (second : Inherits (texts_of_entries others) (graph_of others) news) where
-    -- each entry has the same texts after inheriting
+    -- corresponding entries have the same texts after inheriting
     pub same_moved : (i : ℕ) → i < length others → at_index values (move i) ≡ at_index news i
     same_moved i below =
         related (graph_of own) (graph_of others) (in_range others) move no_entry (rule_by (texts_of_entries own))

@@ -1,4 +1,4 @@
--- No abbreviation in a file has a number as its name.
+-- No abbreviation in an entry of a file has a number as its name.
 use Rattle.std.proofs.Common.{◌≡◌, ℕ, zero, suc, ◌-◌, Bool, true, false, List, [], ◌∷◌, ◌++◌, take, drop, refl, sym, ap, ◌∙◌, subst}
 use Rattle.std.specs.Prelude.{◌&&◌, slice_get, Some, ⊤}
 use Rattle.std.specs.Char.{is_ascii_digit}

@@ -37,7 +37,7 @@ use Rattle.edit_laws.proofs.ReorderedFacts.{IsReordered, entry_reordered}
 use Rattle.edit_laws.specs.Alike.{AreAlike}
 use Rattle.bib_text.proofs.ListFacts.{found_any}
 
--- two entries have the same key, types with the same name in any case, and alike fields, in some order
+-- two entries have the same key, the same entry type, and alike fields after a change of order that keeps the last field of each name
 pub record AreAlikeEntries (one other : Definitions) (said tells : EntryReading) : Type 0 where
   pub key : said.key.text ≡ tells.key.text
   pub kind : entry_type_of said.kind.text ≡ entry_type_of tells.kind.text

@@ -318,7 +318,7 @@ module _ {says tells : FileReading} {one other : Bibliography} (first : IsLoaded
 
 -- ---- errors
 
--- an accepted file without an entry to which no entry refers has no error
+-- if no entry refers to the removed entry, an accepted file has no error without it
 pub removed_accepted : (said tells : FileReading) {key : List ℕ} {error : ParseError} (r : IsRemovedRead said tells key)
     (accepted : IsAccepted said) → IsUnreferenced accepted.own key → IsFirstErrorOf tells error → ⊥
 removed_accepted said tells r accepted unreferenced (IsFirstErrorOf.entry error) =

@@ -90,7 +90,7 @@ is_reordered names fs = record {
       (in_order_all (CanBeRead definitions) names fs (each_read definitions fs all));
 }
 
--- an entry has the key and the type of another, and its fields in another order
+-- an entry has the key and the type of another, and its fields as `IsReordered` states
 pub record IsEntryReordered (one other : EntryReading) : Type 0 where
   pub key : other.key ≡ one.key
   pub kind : other.kind ≡ one.kind

@@ -43,7 +43,7 @@ use Rattle.edit_laws.proofs.LiftFacts.{as_long, field_at, same_key}
 use Rattle.edit_laws.proofs.TextFacts.{HasText, own_at}
 use Rattle.edit_laws.specs.OneField.{AreSet, HasFieldContents, lost_names, text_of_value}
 
--- an entry with a key is replaced, and its field with the name has a text. It can be parsed if the text can be.
+-- an entry with a key is replaced, and its field with the name has a text. It can be parsed if the text and its old fields can be.
 pub record IsSetRead (d after : Document) (key name text : List ℕ) : Type 0 where
   pub k : ℕ
   pub e : EntryReading
@@ -220,7 +220,7 @@ module _ {d after : Document} {key name text : List ℕ} (r : IsSetRead d after 
       → HasContent (texts_of_entry (replaced_at r.replaced others second).1) lower text
   set_content others second = content_at r.replaced others second lower text r.set.field r.set.here r.set.says
 
-  -- the last raw field with the name has the contents of the text
+  -- if the contents of the text can be parsed, they are the value of the last raw field with the name
   pub set_has : (atoms : List Atom) → IsContent (is_verbatim_field lower) (chars text) atoms
       → HasText (definition_in d.says.abbreviations) (field_in r.changed.fields lower) (Some atoms)
   set_has atoms contents =
@@ -247,7 +247,7 @@ module _ {d after : Document} {key name text : List ℕ} (r : IsSetRead d after 
         is = ap (λ (x : Entry). x.key) (some_same (sym differ.here ∙ at.1)) ∙ at.2.key ∙ r.is;
       }
 
-  -- if the old file is accepted, and the contents of the text can be parsed, the new file has no error
+  -- if the old file is accepted, the field is unlinked and the contents of the text can be parsed, the new file has no error
   pub set_accepted : (atoms : List Atom) {error : ParseError} → IsContent (is_verbatim_field lower) (chars text) atoms
       → IsUnlinked lower → IsAccepted d.says → IsFirstErrorOf after.says error → ⊥
   set_accepted atoms contents apart accepted error =

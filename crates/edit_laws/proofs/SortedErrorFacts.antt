@@ -1,4 +1,4 @@
--- A sorted file has no error if the old one is accepted.
+-- If no two entries of an accepted file claim one name, the sorted file has no error.
 use Rattle.std.proofs.Common.{◌≡◌, ℕ, zero, suc, ◌<◌, List, [], ◌∷◌, ◌++◌, Bool, true, false, get_or, length, refl, sym, ap, ◌∙◌, subst, arith}
 use Rattle.std.specs.Prelude.{bytes_eq, codes, ◌||◌}
 use Rattle.std.specs.Option.{option_map_or}
@@ -205,7 +205,7 @@ module _ (said tells : FileReading) (r : IsPermutedRead said tells) (own : List 
       (each_read (texts_are are)) (inside i below))))
       (nothing_claimed r.sorted) (apart_by r.sorted sorted_texts keys_apart)
 
--- a sorted file has no error if the old one is accepted
+-- if no two entries of an accepted file claim one name, the sorted file has no error
 pub sorted_accepted : (said tells : FileReading) (r : IsPermutedRead said tells) (accepted : IsAccepted said) {error : ParseError}
     → AreClaimsDistinct accepted.own → IsFirstErrorOf tells error → ⊥
 sorted_accepted said tells r accepted distinct (IsFirstErrorOf.entry error) =

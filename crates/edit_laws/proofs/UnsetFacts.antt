@@ -98,7 +98,7 @@ module _ {d after : Document} {key name : List ℕ} (r : IsUnsetRead d after key
         is = ap (λ (x : Entry). x.key) (some_same (sym differ.here ∙ at.1)) ∙ at.2.key ∙ r.is;
       }
 
-  -- if the old file is accepted, the new one has no error
+  -- if the old file is accepted and the field is unlinked, the new file has no error
   pub unset_accepted : {error : ParseError} → IsUnlinked lower → IsAccepted d.says → IsFirstErrorOf after.says error → ⊥
   unset_accepted apart accepted error =
       still_accepted r.replaced lower None apart accepted
@@ -110,7 +110,7 @@ module _ {d after : Document} {key name : List ℕ} (r : IsUnsetRead d after key
       differ_at r.replaced accepted.own others lower None accepted.entries second (unset_others name r.e.fields) unset_has)
       error
 
-  -- in a bibliography, the entry has the field exactly if it inherits it
+  -- in a bibliography, an unlinked field of the entry is the one that the entry inherits, or missing if it inherits none
   pub unset_inherited : {bibliography : Bibliography} (own : List Entry) → AreOwn after.says own → IsLoaded after.says bibliography
       → IsUnlinked lower → IsInherited own bibliography key lower
   unset_inherited {bibliography} own are loaded apart =

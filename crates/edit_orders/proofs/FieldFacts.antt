@@ -59,7 +59,7 @@ module _ {A B : Type 0} (R : A → B → Type 0) where
   AllZip-push (a ∷ xs) [] x y all last = absurd all
   AllZip-push (a ∷ xs) (b ∷ ys) x y all last = (all.0, AllZip-push xs ys x y all.1 last)
 
--- the same for the first elements of a list up to an index, and for the list of their values
+-- the same for the elements of a list before an index, if the element at the index is related to the added one
 pub AllZip-more : {A B : Type 0} (R : A → B → Type 0) (xs : List A) (i : ℕ) (d : A) (ys new : List B) (y : B) → i < length xs
     → AllZip R (take i xs) ys → R (get_or xs i d) y → new ≡ ys ++ y ∷ [] → AllZip R (take (i + 1) xs) new
 AllZip-more R xs i d ys new y within all last is =

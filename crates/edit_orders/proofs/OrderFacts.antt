@@ -24,7 +24,7 @@ parts_at xs i x below here =
     ∙ append_assoc (take i xs) (get_or xs i x ∷ []) (drop (i + 1) xs)
     ∙ ap (λ y. take i xs ++ y ∷ drop (i + 1) xs) (sym here)
 
--- the word after words that name properties is the first unknown one
+-- if the words before `word` name properties and `word` doesn't, it is the first unknown word
 pub first_unknown : (parts : List SortBy) (words : List (List ℕ)) (i : ℕ) (word : List ℕ) → i < length words
     → word ≡ get_or words i word → map Some parts ≡ map part_named (take i words) → part_named word ≡ None → IsFirstUnknown words word
 first_unknown parts words i word below here so_far unknown = record {

@@ -143,7 +143,7 @@ module _ (order : List SortBy) where
         (each i within) (each j within');
   }
 
--- entries with sort values are placed by them
+-- the places of the sort values of the entries are the places of the entries
 pub placed_by : (says : FileReading) (order parts lent : List SortBy) (d : Definitions) (entries : List EntryReading)
     (all kept : List Values) (places : List ℕ) → parts ≡ order → lent ≡ order → d ≡ file_definition says.abbreviations
     → entries ≡ says.entries → kept ≡ all → AllZip (AreValuesOf d parts) entries all → ArePlacesOf lent kept places

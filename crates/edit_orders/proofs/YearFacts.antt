@@ -40,7 +40,7 @@ pub counted_none : (is_before : Bool) (ds : List ℕ) → length ds ≡ 0 → co
 counted_none is_before [] h = refl
 counted_none is_before (d ∷ ds) h = absurd (omega arith)
 
--- the year of a text is that of its first digits, before year 0 if the text before them is a hyphen
+-- the year of a text is that of its first digits; it is counted backwards from year 0 if the text before them is a hyphen
 pub year_is : (text before rest digits : List ℕ) (n : ℕ) → n ≡ prefix_len (λ b. not (is_ascii_digit b)) text → before ≡ take n text
     → rest ≡ drop n text → digits ≡ take (prefix_len is_ascii_digit rest) rest
     → year_by_digits text ≡ counted (bytes_eq before (codes "-")) digits
@@ -49,13 +49,13 @@ year_is text before rest digits n is front back run =
     ap₂ (λ b ds. counted (bytes_eq b (codes "-")) ds) (sym (front ∙ ap (λ k. take k text) is))
     (ap (λ t. take (prefix_len is_ascii_digit t) t) from ∙ sym run)
 
--- a text with digits after only a hyphen has a year before year 0, at most at the greatest distance
+-- after only a hyphen, the number that the digits write, at most `most`, counts the years before year 0; -0 is year 0
 pub year_before : (text before digits : List ℕ) (k : ℕ) → year_by_digits text ≡ counted (bytes_eq before (codes "-")) digits
     → bytes_eq before (codes "-") ≡ true → 0 < length digits → k ≡ min (digits_value 10 digits) most → Some (most - k) ≡ year_by_digits text
 year_before text before digits k is hyphen some same =
     sym (is ∙ ap (λ b. counted b digits) hyphen ∙ counted_some true digits some ∙ ap (λ m. Some (most - m)) (sym same))
 
--- a text with digits, but not after only a hyphen, has a year from year 0 on, at most at the greatest distance
+-- if the digits aren't after only a hyphen, the number that they write, at most `most`, counts the years from year 0
 pub year_after : (text before digits : List ℕ) (k : ℕ) → year_by_digits text ≡ counted (bytes_eq before (codes "-")) digits
     → bytes_eq before (codes "-") ≡ false → 0 < length digits → k ≡ min (digits_value 10 digits) most
     → Some (most + k) ≡ year_by_digits text

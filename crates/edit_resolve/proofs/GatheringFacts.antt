@@ -21,7 +21,7 @@ use Rattle.edit_resolve.specs.Working.{IsGathered, Offered, is_ruled_out_in, nam
 use Rattle.edit_resolve.specs.declared.gathering.Named.{Named as NamedField}
 use Rattle.edit_resolve.specs.declared.gathering.Gathered.{Gathered}
 
--- the new fields among offered fields and more of them are those among the first, and those among the others after the first are taken
+-- the new fields among two lists are those among the first, and those among the second once the names of the former are taken
 pub new_append : (taken : List (List ℕ)) (xs ys : List Named)
     → new_fields taken (xs ++ ys) ≡ new_fields taken xs ++ new_fields (taken ++ read_names (new_fields taken xs)) ys
 new_append taken [] ys = ap (λ t. new_fields t ys) (sym (append-nil taken))

@@ -106,7 +106,8 @@ module _ (entries : List EntryReading) where
       all_before child e vs there refers leads.1,
     )
 
-    -- If an entry leads to the entries at distinct visited indices, no chain of more references than there are other indices leads to it.
+    -- If an entry leads to `last` and to the entries at distinct visited indices, no chain of more references than there are other indices
+    -- leads to it.
     no_chain_from : (k : ℕ) (visited : List ℕ) (e : EntryReading) → length visited + k ≡ length entries
         → AllByRecursion (λ v. v < length entries) visited → IsDistinct eqb visited → AllByRecursion (LeadsTo e) visited
         → (m : ℕ) → IsChain entries m e last → has_chain entries (suc k) e ≡ true → ⊥

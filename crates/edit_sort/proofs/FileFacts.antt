@@ -36,7 +36,7 @@ use Rattle.edit_sort.proofs.StepFacts.{listed, listed_order, text_is}
 
 -- ---- the rest of a text, without entries
 
--- a file parses to the same reading from a place of another text on
+-- a file parses to the same reading, except for byte offsets, from a place of another text on
 pub record FileThere (says : FileReading) (u : Place) : Type 0 where
   pub reading : FileReading
   pub file : File longest u reading

@@ -164,7 +164,7 @@ seen_more text kept rest line after new within line_is after_is new_is s =
         ap (before_first is_feed)
         (reverse-append xs (ys ++ 10 ∷ []) ∙ ap (λ l. l ++ reverse xs) (reverse-append ys (10 ∷ [])))
 
--- all lines are seen
+-- after all lines are seen, `kept` is the text after the last blank line
 pub seen_all : (text kept rest : List ℕ) → position_or_len is_feed rest ≡ length rest → IsSeen text kept rest
     → kept ≡ after_blank_line text
 seen_all text kept rest all s =

@@ -102,7 +102,7 @@ module _ (entries : List EntryReading) (names : ByText ℕ) (keys : AreKeyIndice
         greatest_same (λ n. has_chain entries n e) (λ n. has_walk graph n (owner names e)) (length entries)
         (λ n. chain_is_walk n e known)
 
-    -- the lengths at the owners of entries are their ranks
+    -- if the keys of entries point to indices, the lengths of the longest chains at their owners are their ranks
     pub ranks_are : (lengths : List ℕ) (es : List EntryReading) → length graph ≡ length entries → lengths ≡ longest_chains graph
         → AllByRecursion (HasIndex names) es
         → map (λ r. get_or lengths r 0) (map (owner names) es) ≡ map (rank entries) es
@@ -142,7 +142,7 @@ module _ (entries : List EntryReading) (names : ByText ℕ) (keys : AreKeyIndice
         (row_below (length entries) (refs_of graph k)
         (children (leb (length entries)) k ∙ none_above (length entries) entries k owner_below known_all))))
 
--- the owners of entries are indices
+-- if the keys of entries point to indices, their owners are less than the number of all entries
 pub owners_below : (entries : List EntryReading) (names : ByText ℕ) (keys : AreKeyIndices entries names) (n : ℕ) (es : List EntryReading)
     → length entries ≡ n → AllByRecursion (HasIndex names) es → AllByRecursion (λ r. r < n) (map (owner names) es)
 owners_below entries names keys n [] size known = tt

@@ -1,4 +1,4 @@
--- Texts that parse to the same reading wherever they occur.
+-- Texts that parse to the same reading, except for byte offsets, wherever they occur.
 use Rattle.std.proofs.Common.{◌≡◌, inl, inr, ℕ, suc, ◌+◌, ◌-◌, ◌≤◌, Bool, true, false, cond, List, [], ◌∷◌, ◌++◌, length, drop, take, refl, sym, ap, ◌∙◌, subst, arith, length-drop}
 use Rattle.std.specs.Prelude.{◌&&◌}
 use Rattle.std.specs.Char.{is_ascii_whitespace}
@@ -76,7 +76,7 @@ pub record BeforeThere (before : FileReading) (u v : Place) : Type 0 where
   pub file : FileBefore u reading v
   pub alike : placeless reading ≡ placeless before
 
--- a space parses to the same reading wherever it occurs before a character
+-- a space parses to the same reading, except for byte offsets, wherever it occurs before a character
 abbrev pub SpaceReads : List ℕ → FileReading → Type 0
 SpaceReads bytes before = (u v : Place) → Stands u bytes v → Stood v → BeforeThere before u v
 

@@ -474,7 +474,7 @@ all_edits_known d edits first fields texts names bytes text index start es same 
     (let e : Edit = record { start = first_entry_start d.says.entries; end = first_entry_start d.says.entries; bytes = bytes } in e) ∷ more)
     (edits_known d (entry_edits (collection_by fields index names) text es) fields texts names index text es same listed is refl)
 
--- the bytes of a result are also each text that is equal to them
+-- if the bytes of a result are a text, they are also each text that is equal to it
 pub made_known : {S E : Type 0} (bytes : S → List ℕ) (r : Result S E) (one other : List ℕ) → one ≡ other
     → IfOk r (λ new. bytes new ≡ one) → IfOk r (λ new. bytes new ≡ other)
 made_known bytes (Err e) one other same is = _

@@ -27,7 +27,7 @@ use Rattle.edit_strings.specs.Collected.{has_digit_first}
 
 -- ---- the bytes before edits
 
--- fewer bytes are the same if more are
+-- if the first `n` bytes of two texts are the same, so are fewer first bytes
 pub less_same : (x y : List ℕ) (m n : ℕ) → m ≤ n → take n x ≡ take n y → take m x ≡ take m y
 less_same x y m n less same = sym (take-take m n x less) ∙ ap (take m) same ∙ take-take m n y less
 

@@ -12,7 +12,7 @@ use Rattle.edit_strings.specs.Collected.{AreThoseThat as those}
 abbrev pub unless_listed : Bool → List ℕ → List (List ℕ)
 unless_listed listed text = cond listed [] (text ∷ [])
 
--- one text, left out if it equals another
+-- filtering a text out leaves nothing if `x` was listed or is this text, and `x` otherwise
 filter_one : (text x : List ℕ) (listed : Bool)
     → filter (λ other. not (bytes_eq other text)) (unless_listed listed x) ≡ unless_listed (bytes_eq x text || listed) x
 filter_one text x true = by_case (bytes_eq x text)

@@ -35,7 +35,7 @@ edits_are_changes exchange text (e ∷ es) =
     ∙ ap (λ xs. edits_of_fields text e.fields (map (λ f. exchange_change (exchange e f)) e.fields) ++ xs)
     (edits_are_changes exchange text es)
 
--- the edits of replaced values are in order and don't overlap
+-- the edits of replaced values in a UTF-8 text are in order and don't overlap
 pub exchange_in_order : (d : Document) (exchange : EntryReading → Exchange) → IsDocument d → IsUtf8 d.text
     → AreEditsInOrder d.text 0 (each_edits exchange d.text d.says.entries)
 exchange_in_order d exchange read utf8 =
@@ -58,7 +58,7 @@ fields_can : (exchange : Exchange) (fs : List FieldReading) → AllByRecursion (
 fields_can exchange [] can = tt
 fields_can exchange (f ∷ fs) can = (value_can fs (exchange f) can.0, fields_can exchange fs can.1)
 
--- the text of a document with replaced values parses to the reading of the document with these values replaced
+-- if the new values can be parsed, the UTF-8 text of a document with replaced values parses to its reading with these values replaced
 pub exchanged_read : (d : Document) (exchange : EntryReading → Exchange) → IsDocument d → IsUtf8 d.text
     → AllByRecursion (λ e. AllByRecursion (CanBeExchanged (exchange e)) e.fields) d.says.entries
     → IsReadPlaceless (file_changed (λ e. exchanges (exchange e) e) d.says) (text_changed (λ e. exchanges (exchange e) e) d)

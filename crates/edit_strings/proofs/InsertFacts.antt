@@ -184,7 +184,7 @@ all_before {v = v} (FileBefore.block {v = w} {first = first} {rest = rest} b oth
     all_append (λ f. f.name.start < v.at) first.abbreviations rest.abbreviations
     (before_later w.at v.at first.abbreviations (ahead_file_before others).at (body_before b.body)) (all_before others)
 
--- the definitions of the rest of a file begin after its start
+-- the definitions of the rest of a file begin at or after its start
 pub all_from : {u : Place} {says : FileReading} → File longest u says → AreFrom u.at says.abbreviations
 all_from (file.end end) = tt
 all_from {u} {says} (file.skipped {v = v} char passes x) = from_earlier v.at u.at says.abbreviations (ahead_char char).at (all_from x)

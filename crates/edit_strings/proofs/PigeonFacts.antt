@@ -1,4 +1,4 @@
--- As many taken names as numbers: if each number from 2 on, up to a bound, makes a taken name, there are as many taken names.
+-- As many taken names as numbers: if each number from 2 on, up to a bound, makes a taken name, there are at least as many taken names.
 use Rattle.std.proofs.Common.{◌≡◌, ℕ, zero, suc, ◌+◌, ◌<◌, ◌≤◌, ◌^◌, ◌||◌, Bool, true, false, cond, List, [], ◌∷◌, ◌++◌, length, map, refl, sym, ap, ◌∙◌, subst, arith}
 use Rattle.std.specs.Prelude.{String, bytes_eq, string_bytes}
 use Rattle.std.specs.BTreeSet.{btree_set_len, contains_text}
@@ -76,7 +76,7 @@ in_map n (k ∷ ks) is =
     by_case true later held = refl
     by_case false later held = later held
 
--- a used name with a number from 2 on is taken
+-- a used name that is a plain name with a number from 2 on is taken
 used_taken : (taken : Taken) (base : List ℕ) (n : ℕ) → n < 2 ^ 64 → is_plain_name base ≡ true → 2 ≤ n
     → is_used taken (base ++ number_after n) ≡ true → is_member bytes_eq (keys_of taken) (base ++ decimal n) ≡ true
 used_taken taken base n small plain two used =
@@ -112,7 +112,7 @@ used_is taken base name number small plain is =
     ap (λ n. is_month name || has_lowercase taken n)
     (sym (name_lower name (ap is_plain_name is ∙ numbered_plain base number small plain)))
 
--- if each number from 1 on below a bound makes a used name, the bound is at most the number of taken names plus 2
+-- if each number from 1 on below a bound makes a used name of a plain name, the bound is at most the number of taken names plus 2
 pub bound_taken : (taken : Taken) (base : List ℕ) (number : ℕ) → number < 2 ^ 64 → is_plain_name base ≡ true
     → AreUsedBelow taken base number → number ≤ btree_set_len taken.names + 2
 bound_taken taken base zero small plain used = omega arith

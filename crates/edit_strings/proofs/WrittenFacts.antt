@@ -125,7 +125,7 @@ pub back_append : (rest row : List Indexed) → indexed_back (rest ++ row) ≡ i
 back_append rest row = ap reverse (map-append indexed_of rest row) ∙ reverse-append (map indexed_of rest) (map indexed_of row)
 
 module _ (rows : List (List IndexedPiece)) (ordered : AreOrdered rows) where
-  -- a greater depth has the same visits
+  -- a piece whose index is less than `n` has the same visits to the depth `suc n` and to the next depth
   stable : (n : ℕ) → n ≤ length rows → (x : IndexedPiece) → IsIndexBelow n x → visits rows (suc n) x ≡ visits rows (suc (suc n)) x
   stable n le (indexed p None) below = refl
   stable zero le (indexed p (Some i)) below = absurd (omega arith)
@@ -240,7 +240,7 @@ written_all P definitions each all (writes.defined {index = i} {first = first} {
     all_append P first more (written_all P definitions each (elements_all P definitions i each) inner)
     (written_all P definitions each all.1 rest)
 
--- the expansion of at least one piece has at least one piece
+-- if each definition has a piece, the expansion of at least one piece has one too
 pub written_some : (definitions : List FieldReading) {count : ℕ} {ps out : List Piece} → count ≤ length definitions
     → AllByRecursion (λ f. IsSome (elements f)) definitions → IsSome ps → WritesOut definitions count ps out → IsSome out
 written_some definitions within each some writes.none = some

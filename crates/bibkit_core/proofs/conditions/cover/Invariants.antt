@@ -2,7 +2,7 @@ use Rattle.std.proofs.Common.{◌≡◌, ◌≤◌, ◌||◌, ◌&&◌, ℕ, fal
 use Rattle.std.specs.Prelude.{max, nat_le, nat_lt}
 use Rattle.bibkit_core.proofs.conditions.cover.Given as goal
 
--- the offsets from `start` to before the next one are covered, and no other is more than before
+-- the offsets from `start` to before the next one are covered, and no others that weren't covered before
 abbrev pub invariant-offsets : goal.invariant-offsets
 invariant-offsets l = record {
   long : l.end ≤ length l.covered.items;

@@ -6,7 +6,7 @@ use Rattle.bib_syntax.specs.Reading.{EntryReading}
 use Rattle.bibkit_core.specs.Conditions.{begins_one, is_in_block}
 use Rattle.bibkit_core.proofs.conditions.cover_blocks.Given as goal
 
--- the offsets in the first blocks that begin where an entry does are covered, and no other is more than before
+-- the offsets in the first blocks that begin where an entry does are covered, and no others that weren't covered before
 abbrev pub invariant-skipped : goal.invariant-skipped
 invariant-skipped l =
     (entries : List EntryReading) → ((start : ℕ) → contains nat_cmp l.starts start ≡ begins_one entries start) → (at : ℕ)

@@ -19,7 +19,7 @@ use Rattle.edit_entries.proofs.ValueFacts.{field_placed}
 use Rattle.edit_entries.proofs.document.RawDocument.unset_field.Goals as goal
 use Rattle.edit_entries.proofs.document.RawDocument.unset_field.Goals.{In-Some}
 
--- the entry is the first one with the key, and the values of its fields may be cut out and trimmed
+-- the entry is the first one with the key; its values may be cut out, and only white space is after their trimmed ends
 record Known (d : Document) (key : List ℕ) (e : EntryReading) : Type 0 where
   index : ℕ
   read : IsDocument d
