@@ -45,7 +45,7 @@ record HasEnds (u : ContentUnit) (inner : List Atom) : Type 0 where
 capped_ends : (u : ContentUnit) (inner : List Atom) → IsCapped (unit_text u inner) → HasEnds u inner
 capped_ends u inner capped = record { first = capped.first; last = λ plain. capped.last }
 
--- each unit has such ends, if its argument in braces is a whole text
+-- outside verbatim fields, each unit that fits has such ends, if its argument in braces is a whole text
 unit_ends : (u : ContentUnit) (rest : List ℕ) (inner : List Atom) → fits false u rest ≡ true
     → ((text : List ℕ) → inner_text u ≡ Some text → IsWhole inner) → HasEnds u inner
 unit_ends (ContentUnit.hyphens n) rest inner right whole =
@@ -164,7 +164,7 @@ last_joined u xs [] some alone last = elim (cases_Bool (breaks_last u)) [
 ]
 last_joined u xs (y ∷ ys) some alone last = ends_append xs y ys last
 
--- the parsed atoms of a text neither begin nor end with a line break
+-- outside verbatim fields, the parsed atoms of a text neither begin nor end with a line break
 pub whole_reads : {depth : ℕ} {text : List ℕ} {atoms : List Atom} → Reads false depth text atoms → IsWhole atoms
 whole_reads end = record { led = record { any = λ space. refl; first = refl }; last = refl }
 whole_reads {depth} (next {u = u} {rest = rest} {inner = inner} {atoms = more} one closable argument read) =
