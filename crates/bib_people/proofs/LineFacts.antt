@@ -199,7 +199,7 @@ line_spelt (f ∷ fs) suffix given first all some =
     ∙ append_assoc (spaced (f ∷ fs)) (44 ∷ []) (32 ∷ spaced (comma suffix ++ given))
     ∙ ap (λ l. spaced (f ∷ fs) ++ (44 ∷ 32 ∷ l)) (sym (suffix_line suffix given all some))
 
--- a person with a family name and a given name, and a prefix in lower case if any, is written as one normal chunk
+-- `plain_chunks` writes a person with a family name and a given name, and a prefix in lower case if any, as one normal chunk
 pub plain_line : (prefix name suffix given : List (List ℕ)) → AllWords is_small_letter prefix → 0 < length name
     → AllWords is_name_byte suffix → 0 < length given
     → plain_chunks (person (spaced name) (spaced given) (spaced prefix) (spaced suffix))

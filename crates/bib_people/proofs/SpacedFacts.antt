@@ -154,7 +154,7 @@ after_one ((b ∷ bs) ∷ words) all =
     step false 32 (b ∷ (bs ++ after_words words)) (never (32 ∷ b ∷ (bs ++ after_words words)))
     (item true b bs words both.0 (after_one words both.1))
 
--- words that contain no word `and` are one part of an `and` list
+-- a line of non-empty words without white space, none of which is `and`, is one part of an `and` list
 pub spaced_one : (words : List (List ℕ)) → list_all is_item words ≡ true → between_ands false (spaced words) ≡ spaced words ∷ []
 spaced_one [] all = refl
 spaced_one ([] ∷ words) all = absurd (false≢true all)

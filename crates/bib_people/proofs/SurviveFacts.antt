@@ -57,7 +57,8 @@ no_equals items all before following =
     (items_bytes items all)) in
     padded_no_equals before following (spaced items) none
 
--- a name that is cut before its given name is parsed as the person
+-- if the words of the prefix begin in lower case, and those of the family name in upper case,
+-- a name of kept words that is cut before its given name is parsed as the person
 with_comma_read : (before following : Bool) (prefix name given : List (List ℕ)) (suffix : List ℕ) (a c : Range ℕ)
     → AllWords is_small_letter prefix → AllWords is_capital_letter name → AllWords is_name_byte given → 0 < length name
     → 0 < length (spaced given)
@@ -103,7 +104,7 @@ pub some_words : (words : List (List ℕ)) → 0 < length (spaced words) → 0 <
 some_words [] some = some
 some_words (w ∷ ws) some = omega arith
 
--- a name that is cut at its first comma is parsed as the person
+-- the same for a name that is cut at its first comma
 after_read : (before following : Bool) (prefix name suffix given : List (List ℕ)) (a c : Range ℕ)
     → AllWords is_small_letter prefix → AllWords is_capital_letter name → AllWords is_name_byte suffix
     → AllWords is_name_byte given → 0 < length name → 0 < length (spaced given)
@@ -156,7 +157,7 @@ after_read before following prefix name ((s ∷ t) ∷ ss) given a c small capit
     (shown_text (spaced suffix) cut.left false middle)
     ∙ with_comma_read before following prefix name given (spaced suffix) a cut.right small capital any has_name has_given
 
--- a written person's line, as a part of a list, is parsed as the person
+-- the same for a person's line, as a part of a list
 name_read : (before following : Bool) (prefix name suffix given : List (List ℕ)) → AllWords is_small_letter prefix
     → AllWords is_capital_letter name → AllWords is_name_byte suffix → AllWords is_name_byte given → 0 < length name
     → 0 < length (spaced given)

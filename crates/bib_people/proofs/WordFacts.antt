@@ -41,7 +41,7 @@ after_fails p (x ∷ xs) b bs is =
 
 -- words
 
--- words with a gap before the first one
+-- whether there are no words, or a gap is before the first one
 abbrev pub stand_apart : List Word → Bool
 stand_apart [] = true
 stand_apart (word ∷ words) = not (length word.gap == 0)
