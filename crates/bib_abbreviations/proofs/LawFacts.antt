@@ -111,7 +111,7 @@ module _ {definitions : Definitions} {is_verbatim : Bool} where
   said_rest (evaluates.defined d x rest) = (_, rest)
   said_rest (evaluates.month_name absent m rest) = (_, rest)
 
-  -- pieces with a first error have no styled text
+  -- if each name on the path leads on to pieces (`AllLeadOn`), and these have a first error, they have no styled text
   pub error_not_said : {path : List (List ℕ)} {pieces : List Piece} {e : ParseError} {atoms : List Atom}
       → IsFirstError definitions is_verbatim path pieces e
       → AllLeadOn definitions path pieces → Evaluates definitions is_verbatim pieces atoms → ⊥
@@ -127,7 +127,7 @@ module _ {definitions : Definitions} {is_verbatim : Bool} where
   error_not_said (first_error.following {piece = piece} x error) lead says =
       error_not_said error (leads_after piece lead) (said_rest says).1
 
-  -- pieces have at most one first error
+  -- if each name on the path leads on to pieces (`AllLeadOn`), these have at most one first error
   error_same : {path : List (List ℕ)} {pieces : List Piece} {e f : ParseError} → AllLeadOn definitions path pieces
       → IsFirstError definitions is_verbatim path pieces e → IsFirstError definitions is_verbatim path pieces f → AreOneError e f
   error_same lead (first_error.unread fails lies) (first_error.unread fails' lies') = inr (fails_kind fails, kind_same fails fails')
