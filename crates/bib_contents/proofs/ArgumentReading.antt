@@ -150,7 +150,7 @@ pub record IsUnitWritten (is_flat : Bool) (u : ContentUnit) : Type 0 where
   pub laid_is : flat_if is_flat (unit_text u []) ≡ unit_written is_flat u
   pub first : begins is_break (unit_text u []) ≡ false
 
--- a unit that is written as its text meets this if the text has no line break
+-- `IsUnitWritten` holds for a unit that is written as its text, if the text has no line break
 written_plain : (is_flat : Bool) (u : ContentUnit) → unit_written is_flat u ≡ unit_text u []
     → list_all is_unbroken (unit_text u []) ≡ true → IsUnitWritten is_flat u
 written_plain is_flat u same all = record {

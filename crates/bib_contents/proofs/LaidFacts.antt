@@ -286,14 +286,14 @@ alone_found name None None accent_is symbol_is all =
 pub alone_plain : (name : List ℕ) → list_all is_unbroken name ≡ true → list_all is_unbroken (command_text name None) ≡ true
 alone_plain name all = alone_found name (value_named accents name) (value_named symbols name) refl refl all
 
--- whether the last character written is white space, after these atoms
+-- whether the last character written is white space, after these atoms; math leaves the flag unchanged
 abbrev pub space_after : Bool → List Atom → Bool
 space_after space [] = space
 space_after space (Atom.normal c ∷ rest) = space_after (ends_in_space space (char_on_line space c)) rest
 space_after space (Atom.verbatim c ∷ rest) = space_after (is_whitespace c) rest
 space_after space (Atom.math text ∷ rest) = space_after space rest
 
--- two lists of atoms are formatted one after the other; the second one depends on whether the text of the first ends with white space
+-- two lists of atoms are formatted one after the other; the second one with the flag that `space_after` returns for the first
 pub formatted_append : (space : Bool) (xs ys : List Atom)
     → formatted_atoms space (xs ++ ys) ≡ formatted_atoms space xs ++ formatted_atoms (space_after space xs) ys
 formatted_append space [] ys = refl

@@ -165,7 +165,7 @@ joined_first : (separator next : List ℕ) → 0 < length next → joined separa
 unfolding joined
 joined_first separator next more = cond-false (length next == 0) _ _ (not_nothing next more)
 
--- the pages of ranges after a text that isn't empty: the text, and each range after a comma and a space
+-- the pages of kept ranges after a text that isn't empty: the text, and each range after a comma and a space
 after_pages : (before : List ℕ) (rs : List (Range ℕ)) → AllByRecursion RangeKept rs → 0 < length before
     → pages_after before rs ≡ before ++ encode_utf8_all (more_chars rs)
 unfolding pages_after lib.Utf8.encode

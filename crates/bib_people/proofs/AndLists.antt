@@ -80,7 +80,7 @@ abbrev pub padded_parts : Bool → Chunk → List Chunk → List Value
 padded_parts before chunk [] = padded before false chunk ∷ []
 padded_parts before chunk (next ∷ more) = padded before true chunk ∷ padded_parts true next more
 
--- the ends of the list
+-- ---- the ends of the list
 
 -- if each chunk is one part, trimming leaves the chunks after the first one unchanged
 trimmed_after : (chunk : Chunk) (chunks : List Chunk) → IsPart chunk → AllParts chunks
@@ -104,7 +104,7 @@ trimmed_whole chunk (next ∷ more) part all =
     ap (λ c. c ∷ trimmed_chunks false (written_after (next ∷ more))) (part.ends true false)
     ∙ ap (λ l. nowhere chunk ∷ l) (trimmed_after next more all.0 all.1)
 
--- its parts
+-- ---- the parts of the list
 
 abbrev parts : Value → List Value
 parts = list_parts 3 (between_ands false)

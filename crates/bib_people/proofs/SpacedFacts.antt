@@ -24,7 +24,7 @@ is_solid word = name_begins (λ b. true) word && list_all (λ b. not (is_whitesp
 abbrev pub is_item : List ℕ → Bool
 is_item word = is_solid word && not (is_word_and word)
 
--- the ends
+-- ---- the ends
 
 solid_ends : (empty : Bool) (b : ℕ) (bs : List ℕ) → list_all (λ x. not (is_whitespace x)) (b ∷ bs) ≡ true
     → ends_in_space empty (b ∷ bs) ≡ false
@@ -59,7 +59,7 @@ spaced_begins ((b ∷ bs) ∷ words) all =
     let both = and_parts (is_solid (b ∷ bs)) (list_all is_solid words) all in
     and_from (not (is_whitespace b)) true (and_parts (not (is_whitespace b)) _ both.0).0 refl
 
--- two lists of words
+-- ---- two lists of words
 
 -- the texts of two lists of words, with a space before each word, are that of their concatenation
 pub after_append : (xs ys : List (List ℕ)) → after_words (xs ++ ys) ≡ after_words xs ++ after_words ys
@@ -93,7 +93,7 @@ spaced_all test space (word ∷ words) all =
     list_all-append test word (after_words words)
     ∙ and_from (list_all test word) (list_all test (after_words words)) both.0 (after_all test space words both.1)
 
--- the word `and`
+-- ---- the word `and`
 
 either : (space : Bool) (cs : List ℕ) → word_here true cs ≡ false → word_here space cs ≡ false
 either true cs none = none
@@ -162,7 +162,7 @@ spaced_one ((b ∷ bs) ∷ words) all =
     let both = and_parts (is_item (b ∷ bs)) (list_all is_item words) all in
     item false b bs words both.0 (after_one words both.1)
 
--- the words of a name
+-- ---- the words of a name
 
 -- the gap before a word: nothing before the first one, otherwise a space
 abbrev pub gap_of : Bool → List Letter

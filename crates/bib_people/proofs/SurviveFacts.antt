@@ -28,7 +28,7 @@ use Rattle.bib_people.proofs.AndLists.{empties, before_and, after_and, normal, p
 use Rattle.bib_people.proofs.CommaFacts.{stands, AreHalves, halves_at, cut_first_comma, cut_no_comma}
 use Rattle.bib_people.proofs.TextFacts.{is_text, space_small, after_space, shown_text, not_blank, letters_text, words_append, low_words, high_words, a_cut, cut_prefix, spelt_words}
 
--- one person
+-- ---- one person
 
 -- a part whose text contains no equals sign isn't in the extended format
 padded_no_equals : (before following : Bool) (text : List ℕ) → list_any (λ b. b == 61) text ≡ false
@@ -197,7 +197,7 @@ name_read before following prefix name suffix given small capital tail any has_n
     (stands cut.right (trim_start rest) ∷ empties before_and following)) leading_run.end
     ∙ after_read before following prefix name suffix given cut.left cut.right small capital tail any has_name has_given
 
--- people
+-- ---- people
 
 -- a kept person consists of its words
 as_words : (p : Person) (k : IsKeptPerson p)
