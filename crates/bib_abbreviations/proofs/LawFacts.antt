@@ -1,4 +1,4 @@
--- Pieces have at most one styled text, and at most one first error.
+-- Pieces have at most one styled text, and two first errors of them agree.
 use Rattle.std.proofs.Common.{◌≡◌, ℕ, List, [], ◌∷◌, ◌++◌, Bool, refl, sym, ap, ◌∙◌, subst, inl, inr, Some}
 use Rattle.std.specs.Str.{chars}
 use Rattle.std.specs.Prelude.{map}
@@ -127,7 +127,7 @@ module _ {definitions : Definitions} {is_verbatim : Bool} where
   error_not_said (first_error.following {piece = piece} x error) lead says =
       error_not_said error (leads_after piece lead) (said_rest says).1
 
-  -- if each name on the path leads on to pieces (`AllLeadOn`), these have at most one first error
+  -- if each name on the path leads on to pieces (`AllLeadOn`), two first errors of these agree
   error_same : {path : List (List ℕ)} {pieces : List Piece} {e f : ParseError} → AllLeadOn definitions path pieces
       → IsFirstError definitions is_verbatim path pieces e → IsFirstError definitions is_verbatim path pieces f → AreOneError e f
   error_same lead (first_error.unread fails lies) (first_error.unread fails' lies') = inr (fails_kind fails, kind_same fails fails')

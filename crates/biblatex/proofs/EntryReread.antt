@@ -1,4 +1,4 @@
--- The file grammar, with longest runs, parses the output for entries and files.
+-- The file grammar, with longest runs, parses the output for valid entries and files.
 use Rattle.std.proofs.Common.{◌≡◌, ℕ, false, List, [], ◌∷◌, ◌++◌, length, refl, sym, ap, ◌∙◌, subst, arith, drop}
 use Rattle.std.specs.Prelude.{encode_utf8_all, codes, ◌==◌}
 use Rattle.std.specs.Char.{is_whitespace}

@@ -1,4 +1,4 @@
--- The first error of a raw bibliography lies in its text.
+-- The first error of a raw bibliography lies in its text, or is an error of a date.
 use Rattle.std.proofs.Common.{◌≡◌, ℕ, zero, suc, ◌<◌, ◌^◌, Bool, List, [], ◌∷◌, length, refl, ap, subst, arith, inl, inr, ◌⊎◌, Option, None, Some, Result, Ok, Err}
 use Rattle.std.specs.Prelude.{reverse, find, bytes_eq, option_map}
 use Rattle.std.specs.Prelude.{IfErr, slice_get}
