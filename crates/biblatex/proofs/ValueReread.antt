@@ -166,7 +166,7 @@ spelt false c rest settled hyphen space =
           ]
     ]
 
--- the output for a character, before text that parses, parses as the character
+-- if `IsSpelt` holds for a character, its output, before text that parses, parses as the character
 put : {v : Bool} {c : ℕ} {rest : List ℕ} {atoms : List Atom} (depth : ℕ) → IsSpelt v c rest → Reads v depth rest atoms
     → Reads v depth (char_spelling v c ++ rest) (character depth c ∷ atoms)
 put {v} {c} {rest} {atoms} depth one read =
