@@ -42,7 +42,7 @@ after_ends (word ∷ words) all =
     ends-append true word (after_words words)
     ∙ ap (λ e. ends_in_space e (after_words words)) (word_ends true word both.0) ∙ after_ends words both.1
 
--- a line of words doesn't end in white space
+-- a line of solid words (`is_solid`) doesn't end in white space
 pub spaced_ends : (words : List (List ℕ)) → list_all is_solid words ≡ true → ends_in_space false (spaced words) ≡ false
 spaced_ends [] all = refl
 spaced_ends (word ∷ words) all =
@@ -50,7 +50,7 @@ spaced_ends (word ∷ words) all =
     ends-append false word (after_words words)
     ∙ ap (λ e. ends_in_space e (after_words words)) (word_ends false word both.0) ∙ after_ends words both.1
 
--- a line of words doesn't begin with white space
+-- a line of solid words doesn't begin with white space
 pub spaced_begins : (words : List (List ℕ)) → list_all is_solid words ≡ true
     → list_all (λ b. not (is_whitespace b)) (take 1 (spaced words)) ≡ true
 spaced_begins [] all = refl
@@ -199,7 +199,7 @@ one_word b bs words solid more =
     ∙ words_word (letter false b) (letters_of bs) (letters_of (after_words words)) here (solid_letters bs both.1) (apart_after words)
     ∙ ap (λ ws. a_word [] (letters_of (b ∷ bs)) ∷ ws) more
 
--- a text of words with a space before each has these words, each after a gap
+-- a text of solid words with a space before each has these words, each after a gap
 after_words_of : (words : List (List ℕ)) → list_all is_solid words ≡ true → words_of (letters_of (after_words words)) ≡ words_at false words
 after_words_of [] all = refl
 after_words_of ([] ∷ words) all = absurd (false≢true all)
@@ -208,7 +208,7 @@ after_words_of ((b ∷ bs) ∷ words) all =
     words_gap (letter false 32 ∷ []) (letters_of (b ∷ (bs ++ after_words words))) (letters_of (b ∷ bs))
     (words_at false words) refl (one_word b bs words both.0 (after_words_of words both.1))
 
--- the words of a line are the words that it was made of
+-- the words of a line of solid words are these words
 pub spaced_words_of : (words : List (List ℕ)) → list_all is_solid words ≡ true → words_of (letters_of (spaced words)) ≡ words_at true words
 spaced_words_of [] all = refl
 spaced_words_of ([] ∷ words) all = absurd (false≢true all)

@@ -80,7 +80,7 @@ words_word l (m ∷ inside) after no_gap all apart =
     let more = words_word m inside after (not-true (is_gap m) both.0) both.1 apart in
     rw (more, no_gap) refl
 
--- no words at all stand apart from a word before them
+-- `stand_apart` holds for an empty list of words
 pub apart_end : stand_apart (words_of []) ≡ true
 apart_end = refl
 
