@@ -81,7 +81,7 @@ module _ {definitions : Definitions} where
       → AllLeadOn definitions path (abbreviation p ∷ rest) → AllLeadOn definitions (p.text ∷ path) definition
   leads_inside d lead = record { on = λ name on. leads_at name d lead on }
 
-  -- the same for the first piece only
+  -- if each name on a path leads on to pieces, each leads on to the first of them
   leads_first : {path : List (List ℕ)} {p : Part} {rest : List Piece}
       → AllLeadOn definitions path (abbreviation p ∷ rest) → AllLeadOn definitions path (abbreviation p ∷ [])
   leads_first {p = p} {rest = rest} lead = record {
@@ -91,7 +91,7 @@ module _ {definitions : Definitions} where
   }
 
 module _ {definitions : Definitions} {is_verbatim : Bool} where
-  -- a name that is being expanded has no styled text
+  -- if each name on a path leads on to pieces, the first of which is a name on the path, this name has no styled text
   no_cycle_said : {path : List (List ℕ)} {p : Part} {rest : List Piece} {atoms : List Atom}
       → AllLeadOn definitions path (abbreviation p ∷ rest) → IsOnPath path p.text
       → Evaluates definitions is_verbatim (abbreviation p ∷ []) atoms → ⊥

@@ -31,10 +31,11 @@ use Rattle.bib_from_csl.specs.PlainPeople.{ArePlainNames, IsPlainLiteral, IsPlai
 use Rattle.bib_from_csl.specs.WrittenPeople.{name_chunks, names_chunks, names_from, particle}
 use Rattle.bib_from_csl.proofs.PlainFacts.{name_free, kept_parts, text_of_parts, parts_written, parts_part, named_person, kept_person, person_is, line_comma, line_shown}
 
--- a kept person is parsed at each place in a list, as a list of three and a list of one show
+-- the chunks of the rest of a list, with a separator before them
 abbrev separator : Value → Value
 separator l = nowhere (Normal (codes " and ")) ∷ l
 
+-- a kept person is parsed at each place in a list, as a list of three and a list of one show
 three_read : (q : Person) (t : List ℕ) → IsKeptPerson q → IsPart (Normal t) → person_chunks q ≡ nowhere (Normal t) ∷ []
     → map person_of (padded_parts false (Normal t) (Normal t ∷ Normal t ∷ [])) ≡ q ∷ q ∷ q ∷ []
 three_read q t kept part is =

@@ -137,7 +137,7 @@ comma_item (b ∷ bs) line =
     and_from (is_item ((b ∷ bs) ++ 44 ∷ [])) (list_all is_line_byte ((b ∷ bs) ++ 44 ∷ []))
     (and_from (is_solid ((b ∷ bs) ++ 44 ∷ [])) (not (is_word_and ((b ∷ bs) ++ 44 ∷ []))) all_solid (ap not (no_word (b ∷ bs)))) all_bytes
 
--- words with a comma after the last one are items of a line
+-- items of a line are such items with a comma after the last one too
 pub comma_items : (words : List (List ℕ)) → list_all is_line_item words ≡ true → list_all is_line_item (comma words) ≡ true
 comma_items [] all = refl
 comma_items (word ∷ []) all =

@@ -99,7 +99,7 @@ either : (space : Bool) (cs : List ℕ) → word_here true cs ≡ false → word
 either true cs none = none
 either false cs none = never cs
 
--- there is no cut at a character at which the word `and` doesn't begin
+-- if the word `and` doesn't begin at a character, and the characters after it aren't cut, the text from it on isn't cut
 step : (space : Bool) (c : ℕ) (cs : List ℕ) → word_here space (c ∷ cs) ≡ false
     → between_ands (is_whitespace c) cs ≡ cs ∷ [] → between_ands space (c ∷ cs) ≡ (c ∷ cs) ∷ []
 step space c cs here more = between_other space c cs here ∙ ap (prepend (c ∷ [])) more

@@ -293,7 +293,7 @@ person_part p k =
     ∙ and_from _ _ (all_any is_small_letter k.prefix.words k.prefix.kept)
     (all_any is_capital_letter k.name.words k.name.kept)) k.suffix.kept k.given_name.kept)
 
--- the chunks of people
+-- the chunks of kept people
 abbrev lines : (people : List Person) → AllKept people → List Chunk
 lines [] all = []
 lines (p ∷ people) all = Normal (spaced (line_of p all.0)) ∷ lines people all.1
@@ -302,14 +302,14 @@ all_parts : (people : List Person) (all : AllKept people) → AllParts (lines pe
 all_parts [] all = tt
 all_parts (p ∷ people) all = (person_part p all.0, all_parts people all.1)
 
--- people after the first one are written as their lines
+-- kept people after the first one are written as their lines
 after_written : (people : List Person) (all : AllKept people) → people_from false people ≡ written_after (lines people all)
 after_written [] all = refl
 after_written (p ∷ people) all =
     ap (λ l. normal (codes " and ") ∷ (l ++ people_from false people)) (person_written p all.0)
     ∙ ap (λ l. normal (codes " and ") ∷ normal (spaced (line_of p all.0)) ∷ l) (after_written people all.1)
 
--- the parts of written people are parsed as the people
+-- the parts of written kept people are parsed as the people
 parts_read : (before : Bool) (p : Person) (people : List Person) (k : IsKeptPerson p) (all : AllKept people)
     → map person_of (padded_parts before (Normal (spaced (line_of p k))) (lines people all)) ≡ p ∷ people
 parts_read before p [] k all = ap (λ x. x ∷ []) (person_read p k before false)
