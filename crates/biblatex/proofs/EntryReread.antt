@@ -239,7 +239,7 @@ pub record FileAgain (es : List WrittenEntry) (u : Place) : Type 0 where
   pub file : File longest u (record { preamble = []; entries = said; abbreviations = [] })
   pub says : SayEntries es said
 
--- if the parts of entries are valid, their bytes, in UTF-8 text, are parsed as a file with one raw entry for each
+-- if the parts of entries are valid, their bytes, up to the end of UTF-8 text, are parsed as a file with one raw entry for each
 pub file_again : (es : List WrittenEntry) {u w : Place} → AllByRecursion IsWritten es → IsUtf8 (drop u.at u.text)
     → Stands u (file_bytes es) w → AtEnd w → FileAgain es u
 unfolding encode

@@ -120,8 +120,8 @@ error_lies {says} text small stands (IsFirstErrorOf.cycle {index = index} own fi
 error_lies text small stands (IsFirstErrorOf.date own none inherits looks earlier is) =
     inl (record { kind = is.kind; is = is.is; of_dates = is.of_dates })
 
--- if each error of a result is out of memory or a first error of the text's raw reading,
--- it lies in the text of fewer than 2^64 bytes, or is out of memory or an error of a date
+-- if each error of a result is out of memory or a first error of the raw reading of a text of fewer than 2^64 bytes,
+-- it lies in the text, or is out of memory or an error of a date
 pub refused_inside : {T : Type 0} (X : Type 0) {says : FileReading} (text : List ℕ) (r : Result T ParseError)
     → length text < 2 ^ 64 → IsRawReading text says
     → IfErr r (λ e. (e ≡ out_of_memory) ⊎ (IsFirstErrorOf says e × X))

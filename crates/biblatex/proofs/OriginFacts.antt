@@ -27,7 +27,7 @@ rise_weaker : (m n : ℕ) (es : List EntryReading) → m ≤ n → Rise n es →
 rise_weaker m n [] less rise = rise
 rise_weaker m n (e ∷ es) less rise = (omega (arith, less, rise.0), rise.1)
 
--- if the starts of the entries after a block increase, so do those of its own entries and them: it has at most one, at its start
+-- a block has at most one entry, at its start; if `Rise` holds for the entries after it, it holds with this entry too
 block_rises : {start u v : Place} {kind : Part} {k : BlockKind} {says : FileReading} (end : ℕ)
     (rest : List EntryReading) → Body longest start kind k u says v → start.at < end → Rise end rest
     → Rise start.at (says.entries ++ rest)
