@@ -37,7 +37,7 @@ decides_one b word text words named tests one same =
       head_same : {x y : List ℕ} → x ∷ [] ≡ y ∷ [] → x ≡ y
       head_same e = cc
 
--- an error other than out of memory is a syntax error of the text
+-- the line that shows a syntax error is an answer of `keys` with status 1, unless the error is out of memory
 pub error_reported : {bytes text : List ℕ} {e : ParseError} → IsUtf8 bytes → Refuses bytes e (IsFile bytes → ⊥)
     → (e ≡ out_of_memory) ⊎ IsReported bytes e → (e.kind ≡ OutOfMemory → ⊥) → ShowsError e text
     → IsKeysAnswer bytes text 1

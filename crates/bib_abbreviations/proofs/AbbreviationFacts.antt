@@ -37,7 +37,7 @@ pub record SaysWithin (definitions : Definitions) (is_verbatim : Bool) (name : L
   pub says : Evaluates definitions is_verbatim definition atoms
   pub within : steps says < limit
 
--- a name that isn't defined, and is the first three letters of a month
+-- a name that isn't defined, and abbreviates a month
 pub record IsMonth (definitions : Definitions) (name : List ℕ) : Type 0 where
   pub english : List ℕ
   pub absent : definitions name ≡ None

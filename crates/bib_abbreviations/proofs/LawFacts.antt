@@ -1,4 +1,4 @@
--- Pieces have at most one styled text, and at most one first error.
+-- Pieces have at most one styled text, and two first errors of them agree.
 use Rattle.std.proofs.Common.{◌≡◌, ℕ, List, [], ◌∷◌, ◌++◌, Bool, refl, sym, ap, ◌∙◌, subst, inl, inr, Some}
 use Rattle.std.specs.Str.{chars}
 use Rattle.std.specs.Prelude.{map}
@@ -81,7 +81,7 @@ module _ {definitions : Definitions} where
       → AllLeadOn definitions path (abbreviation p ∷ rest) → AllLeadOn definitions (p.text ∷ path) definition
   leads_inside d lead = record { on = λ name on. leads_at name d lead on }
 
-  -- the same for the first piece only
+  -- if each name on a path leads on to pieces, each leads on to the first of them
   leads_first : {path : List (List ℕ)} {p : Part} {rest : List Piece}
       → AllLeadOn definitions path (abbreviation p ∷ rest) → AllLeadOn definitions path (abbreviation p ∷ [])
   leads_first {p = p} {rest = rest} lead = record {
@@ -91,7 +91,7 @@ module _ {definitions : Definitions} where
   }
 
 module _ {definitions : Definitions} {is_verbatim : Bool} where
-  -- a name that is being expanded has no styled text
+  -- if each name on a path leads on to pieces, the first of which is a name on the path, this name has no styled text
   no_cycle_said : {path : List (List ℕ)} {p : Part} {rest : List Piece} {atoms : List Atom}
       → AllLeadOn definitions path (abbreviation p ∷ rest) → IsOnPath path p.text
       → Evaluates definitions is_verbatim (abbreviation p ∷ []) atoms → ⊥
@@ -111,7 +111,7 @@ module _ {definitions : Definitions} {is_verbatim : Bool} where
   said_rest (evaluates.defined d x rest) = (_, rest)
   said_rest (evaluates.month_name absent m rest) = (_, rest)
 
-  -- pieces with a first error have no styled text
+  -- if each name on the path leads on to pieces (`AllLeadOn`), and these have a first error, they have no styled text
   pub error_not_said : {path : List (List ℕ)} {pieces : List Piece} {e : ParseError} {atoms : List Atom}
       → IsFirstError definitions is_verbatim path pieces e
       → AllLeadOn definitions path pieces → Evaluates definitions is_verbatim pieces atoms → ⊥
@@ -127,7 +127,7 @@ module _ {definitions : Definitions} {is_verbatim : Bool} where
   error_not_said (first_error.following {piece = piece} x error) lead says =
       error_not_said error (leads_after piece lead) (said_rest says).1
 
-  -- pieces have at most one first error
+  -- if each name on the path leads on to pieces (`AllLeadOn`), two first errors of these agree
   error_same : {path : List (List ℕ)} {pieces : List Piece} {e f : ParseError} → AllLeadOn definitions path pieces
       → IsFirstError definitions is_verbatim path pieces e → IsFirstError definitions is_verbatim path pieces f → AreOneError e f
   error_same lead (first_error.unread fails lies) (first_error.unread fails' lies') = inr (fails_kind fails, kind_same fails fails')

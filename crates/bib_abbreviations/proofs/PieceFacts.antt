@@ -285,7 +285,7 @@ module _ {definitions : Definitions} {is_verbatim : Bool} where
         places p one.1 long p.start (subst (λ c. ArePlaced p.start p.start c) (sym (x.empty one.0)) (omega arith));
   }
 
-  -- the error of a piece is that of the field
+  -- the error of the piece after parsed ones is the first error of the field, unless it is out of memory
   pub read_refused : {pieces : List Piece} {out : List (Spanned Chunk)} (whole : List Piece) (piece : Piece)
       (rest : List Piece) (e : ParseError)
       → IsRead definitions is_verbatim pieces out → whole ≡ pieces ++ piece ∷ rest

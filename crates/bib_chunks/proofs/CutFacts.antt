@@ -27,7 +27,7 @@ onto_onto : (xs ys : List (Spanned Chunk)) (parts : List (List (Spanned Chunk)))
 onto_onto xs ys [] = refl
 onto_onto xs ys (part ∷ parts) = ap (λ p. p ∷ parts) (sym (append_assoc xs ys part))
 
--- prepending nothing to the first part changes nothing
+-- if prepending nothing to `parts` changes nothing, it also changes nothing after pieces are joined to `parts`
 onto_nothing : (pieces : List (Spanned Chunk)) (parts : List (List (Spanned Chunk))) → onto [] parts ≡ parts
     → onto [] (joined_parts pieces parts) ≡ joined_parts pieces parts
 onto_nothing [] parts some = some

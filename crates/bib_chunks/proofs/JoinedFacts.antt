@@ -36,7 +36,7 @@ joined_whole [] first second whole is joined = tt
 joined_whole (c ∷ []) first second whole is joined = (is.kind c.v ∙ joined.0, tt)
 joined_whole (c ∷ d ∷ rest) first second whole is joined = (joined.0, joined_whole (d ∷ rest) first second whole is joined.1)
 
--- chunks stay placed if the last one is merged with another one
+-- chunks stay placed if the last one is merged with a later one
 pub placed_whole : (rest : List (Spanned Chunk)) (first second whole : Spanned Chunk) (low high : ℕ) → IsWhole first second whole
     → ArePlaced low high (rest ++ first ∷ []) → high ≤ second.span.start → second.span.start ≤ second.span.end
     → ArePlaced low second.span.end (rest ++ whole ∷ [])

@@ -15,7 +15,7 @@ use Rattle.bib_chunks.specs.Lists.{lengthened_chunk, at_start, chunk_of, before,
 use Rattle.bib_chunks.proofs.StyledFacts.{no_characters, hidden}
 use Rattle.bib_chunks.specs.Joining.{with_chunk}
 
--- a merged chunk has the kind of its second part
+-- two merged chunks of one kind are of the kind of the second one
 joined_same : (c d e : Chunk) → is_same_kind c d ≡ true → is_same_kind (lengthened_chunk c d) e ≡ is_same_kind d e
 joined_same (Normal a) (Normal b) (Normal e) h = refl
 joined_same (Normal a) (Normal b) (Verbatim e) h = refl
@@ -47,7 +47,7 @@ same_joined (Verbatim a) (Verbatim b) (Math e) = refl
 same_joined (Verbatim a) (Math b) e = refl
 same_joined (Math a) d e = refl
 
--- in which order three chunks are merged doesn't matter
+-- in which order three chunks of one kind are merged doesn't matter
 lengthened_twice : (c d e : Chunk) → is_same_kind c d ≡ true → is_same_kind d e ≡ true
     → lengthened_chunk c (lengthened_chunk d e) ≡ lengthened_chunk (lengthened_chunk c d) e
 lengthened_twice (Normal a) (Normal b) (Normal e) h k = ap Normal (sym (append_assoc a b e))

@@ -1,4 +1,4 @@
--- A list of single chunks with a separator between them is cut into these chunks.
+-- A list of whole chunks with a separator between them is cut into these chunks.
 use Rattle.std.proofs.Common.{◌≡◌, ℕ, ◌-◌, ◌^◌, Bool, false, List, [], ◌∷◌, ◌++◌, map, ap, ◌∙◌, append-nil, refl}
 use Rattle.std.specs.List.{flat_map, AllByRecursion}
 use Rattle.std.specs.Str.{chars}
@@ -36,7 +36,7 @@ module _ (width : ℕ) (between : List ℕ → List (List ℕ)) (chunk : List �
   abbrev pub AreWhole : List (List ℕ) → Type 0
   AreWhole = AllByRecursion (λ t. IsWhole width between (chunk t) (chars t))
 
-  -- a text's chunk, followed by chunks that format to nothing, formats to the text
+  -- if the chunk of a text is whole, it formats to the text, also if chunks that format to nothing follow it
   whole_formats : (t : List ℕ) (following : Value) → IsWhole width between (chunk t) (chars t)
       → ((space : Bool) → formatted_chars_after space following ≡ []) → formatted_chars (nowhere (chunk t) ∷ following) ≡ chars t
   whole_formats t following whole none =
@@ -85,7 +85,7 @@ module _ (width : ℕ) (between : List ℕ → List (List ℕ)) (chunk : List �
               ∙ ap (λ xs. chars t ∷ xs) more.formats;
         }
 
-    -- the parts of a list format to its texts
+    -- if the chunks of texts are whole, the parts of the list of these chunks format to the texts
     pub separated_formats : (t : List ℕ) (rest : List (List ℕ)) → AreWhole (t ∷ rest)
         → map formatted_chars (list_parts width between (joined_by separator (map (λ u. alone (chunk u)) (t ∷ rest))))
         ≡ map chars (t ∷ rest)

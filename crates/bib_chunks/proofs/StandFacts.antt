@@ -20,7 +20,7 @@ use Rattle.bib_chunks.proofs.PartFacts.{list_hold}
 use Rattle.bib_chunks.proofs.WholeFacts.{rejoined, commas_whole}
 use Rattle.bib_chunks.proofs.WordFacts.{letters, ands_whole, trimmed_texts}
 
--- a chunk is in itself
+-- a chunk as long as its span is in itself
 stands_whole : (c : Spanned Chunk) → IsAsLong c → StandsInChunk c c
 stands_whole c long = record { before = []; following = []; is = sym (append-nil (text_of c.v)); start = omega arith; end = long.0 }
 
@@ -39,7 +39,7 @@ stands_twice c d here outer inner = record {
   end = inner.end;
 }
 
--- the span of such a piece is as long as its text
+-- if the span of a chunk is as long as its text, so is that of each chunk in it
 stands_long : (c here : Spanned Chunk) → IsAsLong c → StandsInChunk c here → IsAsLong here
 stands_long c here long stands =
     let size : length (text_of c.v) ≡ length stands.before + (length (text_of here.v) + length stands.following) =
@@ -132,7 +132,7 @@ module _ (separator : List ℕ) (w : ℕ) (width : w ≡ length (encode_utf8_all
   pieces_stand (Verbatim text) span utf8 long = (stands_whole (record { v = Verbatim text; span = span }) long, tt)
   pieces_stand (Math text) span utf8 long = (stands_whole (record { v = Math text; span = span }) long, tt)
 
-  -- the pieces of chunks that are in others are in these
+  -- if chunks, as long as their spans, are in others, so are their pieces
   pieces_in : (all chunks : List (Spanned Chunk)) → AreTexts chunks → AllByRecursion IsAsLong chunks
       → AllByRecursion (StandsInOne all) chunks
       → AllByRecursion (λ c. AllByRecursion (StandsInOne all) (pieces w cut c.v c.span)) chunks
@@ -144,7 +144,7 @@ module _ (separator : List ℕ) (w : ℕ) (width : w ≡ length (encode_utf8_all
     pieces_in all rest texts.1 long.1 stand.1,
   )
 
-  -- each chunk of each part is in one of `all`, if each of `chunks` is
+  -- each chunk of each part is in one of `all`, if each of `chunks` is and is as long as its span
   pub list_stands : (all chunks : List (Spanned Chunk)) → AreTexts chunks → AllByRecursion IsAsLong chunks
       → AllByRecursion (StandsInOne all) chunks
       → AllByRecursion (AllByRecursion (StandsInOne all)) (list_parts w cut chunks)
@@ -158,7 +158,7 @@ contains_all : (chunks : List (Spanned Chunk)) → AllByRecursion (Contains chun
 contains_all [] = tt
 contains_all (c ∷ rest) = ((0, omega arith, refl), all_weaker (Contains rest) (Contains (c ∷ rest)) (later c rest) rest (contains_all rest))
 
--- chunks of a list are each in one chunk of the list
+-- chunks of a list that are as long as their spans are each in one chunk of the list
 stand_all : (all chunks : List (Spanned Chunk)) → AllByRecursion IsAsLong chunks → AllByRecursion (Contains all) chunks
     → AllByRecursion (StandsInOne all) chunks
 stand_all all [] long inside = tt
@@ -173,14 +173,14 @@ and_width : 3 ≡ length (encode_utf8_all letters)
 unfolding encode
 and_width = refl
 
--- each chunk of each part of a comma list is in one chunk of the list
+-- if the chunks of a comma list are as long as their spans, each chunk of each part is in one of them
 pub comma_list_stands : (chunks : List (Spanned Chunk)) → AreTexts chunks → AllByRecursion IsAsLong chunks
     → AllByRecursion (AllByRecursion (StandsInOne chunks)) (comma_list chunks)
 comma_list_stands chunks texts long =
     list_stands (44 ∷ []) 1 comma_width between_commas commas_whole chunks chunks texts long
     (stand_all chunks chunks long (contains_all chunks))
 
--- a trimmed chunk is in its chunk
+-- a trimmed chunk is in its chunk if that is as long as its span
 trimmed_stands : (first last : Bool) (v : Chunk) (span : Range ℕ) → IsUtf8 (text_of v)
     → IsAsLong (record { v = v; span = span })
     → StandsInChunk (record { v = v; span = span }) (trimmed_chunk first last v span)
@@ -201,7 +201,7 @@ one_trimmed all first last c utf8 long inside =
     let stands = trimmed_stands first last c.v c.span utf8 long in
     ((c, inside, stands), stands_long c (trimmed_chunk first last c.v c.span) long stands)
 
--- trimmed chunks are in the untrimmed ones, and as long as their spans
+-- trimmed chunks are in the untrimmed ones, and as long as their spans, if the untrimmed ones are
 all_trimmed : (all : List (Spanned Chunk)) (first : Bool) (chunks : List (Spanned Chunk)) → AreTexts chunks
     → AllByRecursion IsAsLong chunks → AllByRecursion (Contains all) chunks
     → AllByRecursion (StandsLong all) (trimmed_chunks first chunks)
@@ -210,7 +210,7 @@ all_trimmed all first (c ∷ []) texts long inside = (one_trimmed all first true
 all_trimmed all first (c ∷ after ∷ more) texts long inside =
     (one_trimmed all first false c texts.0 long.0 inside.0, all_trimmed all false (after ∷ more) texts.1 long.1 inside.1)
 
--- each chunk of each part of an `and` list is in one chunk of the list
+-- if the chunks of an `and` list are as long as their spans, each chunk of each part is in one of them
 pub and_list_stands : (chunks : List (Spanned Chunk)) → AreTexts chunks → AllByRecursion IsAsLong chunks
     → AllByRecursion (AllByRecursion (StandsInOne chunks)) (and_list chunks)
 and_list_stands chunks texts long =

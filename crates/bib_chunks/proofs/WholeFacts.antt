@@ -178,7 +178,7 @@ module _ (separator : List ℕ) (w : ℕ) (cut : List ℕ → List (List ℕ)) (
       (one_styled (record { v = Math t; span = record { start = span.start; end = span.end } }) text)
       (list_onto (normal separator) (pieces w cut (Math t) span) parts text list)
 
-  -- the parts of chunks, with separators between them, are the styled text of the chunks
+  -- the parts of chunks, with separators and white space between them, are the styled text of the chunks
   pub list_whole : (chunks : List (Spanned Chunk)) → AreTexts chunks
       → IsList (normal separator) (map styled (list_parts w cut chunks)) (styled chunks)
   list_whole [] texts = last
@@ -193,7 +193,7 @@ same_join c (text ∷ after ∷ more) = ap (λ l. text ++ (c ∷ l)) (same_join 
 pub commas_whole : (cs : List ℕ) → rejoined (44 ∷ []) (between_commas cs) ≡ cs
 commas_whole cs = same_join 44 (between_commas cs) ∙ join_with_byte-slice_split 44 cs
 
--- the parts of a comma list, with commas between them, are its styled text
+-- the parts of a comma list, with commas and white space between them, are its styled text
 pub comma_list_whole : (chunks : List (Spanned Chunk)) → AreTexts chunks
     → IsList comma_text (map styled (comma_list chunks)) (styled chunks)
 comma_list_whole = list_whole (44 ∷ []) 1 between_commas commas_whole

@@ -266,7 +266,7 @@ are_spaced first (c ∷ after ∷ more) texts =
       begins = one.begins;
     }
 
--- the parts of an `and` list, with the word between them, are its styled text without white space at the ends
+-- the parts of an `and` list, with the word and white space between them, are its styled text without white space at the ends
 pub and_list_whole : (chunks : List (Spanned Chunk)) → AreTexts chunks
     → (inside : List Atom) × IsSpaced inside (styled chunks) × IsList and_word (map styled (and_list chunks)) inside
 and_list_whole chunks texts =

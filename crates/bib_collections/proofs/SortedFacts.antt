@@ -55,7 +55,7 @@ module _ {K V : Type 0} {R : K → K → Ordering} (o : IsTotalOrder R) where
   below_at x (e ∷ es) h zero d lt = less _ (first _ _ h)
   below_at x (e ∷ es) h (suc j) d lt = below_at x es (second _ _ h) j d (omega arith)
 
-  -- a pair has a smaller key than each pair after it
+  -- each of sorted pairs has a smaller key than each pair after it
   pub rises : (es : List (K × V)) → T (is_sorted R es) → (i j : ℕ) (d : K × V) → i < j → j < length es
       → R (get_or es i d).0 (get_or es j d).0 ≡ Less
   rises [] h i j d before lt = absurd (omega arith)
@@ -106,7 +106,7 @@ module _ {K V : Type 0} {R : K → K → Ordering} (o : IsTotalOrder R) where
   index_later k e es i below lt here =
       sym (o.congr (get_or es i e).0 k e.0 (here e)) ∙ o.antisymm _ _ ∙ ap ordering_reverse (below_at e.0 es below i e lt)
 
-  -- the value at the index of a key is found
+  -- in sorted pairs, the value at the index of a key is found
   pub index_find : (k : K) (es : List (K × V)) (i : ℕ) → T (is_sorted R es) → i < length es
       → HoldsAt (λ p. R p.0 k ≡ Equal) es i → (d : K × V) → find R k es ≡ Some (get_or es i d).1
   index_find k [] i sorted lt here d = absurd (omega arith)
@@ -115,7 +115,7 @@ module _ {K V : Type 0} {R : K → K → Ordering} (o : IsTotalOrder R) where
       ap (λ r. cond (is_eq r) (Some e.1) (find R k es)) (index_later k e es i (first _ _ sorted) (omega arith) here)
       ∙ index_find k es i (second _ _ sorted) (omega arith) here d
 
-  -- putting a value for a key that has an index replaces the value there
+  -- in sorted pairs, putting a value for a key that has an index replaces the value there
   pub index_put : (k : K) (v : V) (es : List (K × V)) (i : ℕ) → T (is_sorted R es) → i < length es
       → HoldsAt (λ p. R p.0 k ≡ Equal) es i → (d : K × V) → put R k v es ≡ set es i ((get_or es i d).0, v)
   index_put k v [] i sorted lt here d = absurd (omega arith)
@@ -136,7 +136,7 @@ module _ {K V : Type 0} {R : K → K → Ordering} (o : IsTotalOrder R) where
       ap (λ r. cond (not (is_eq r)) (e ∷ others k es) (others k es)) (sym (o.congr x k e.0 same) ∙ less _ (first _ _ below))
       ∙ ap (λ l. e ∷ l) (below_others x k es same (second _ _ below))
 
-  -- the pairs of other keys are the pairs without the one at the index of the key
+  -- in sorted pairs, the pairs of other keys are the pairs without the one at the index of the key
   pub index_others : (k : K) (es : List (K × V)) (i : ℕ) → T (is_sorted R es) → i < length es
       → HoldsAt (λ p. R p.0 k ≡ Equal) es i → others k es ≡ remove es i
   unfolding others

@@ -39,7 +39,7 @@ below_from_edge graph a b in_range within h =
     (All-get_or (λ refs. All (λ r. r < length graph) refs) graph a [] within in_range) h
 
 module _ (graph : List (List ℕ)) (in_range : IsInRange graph) (none : HasNoCycle graph) where
-  -- an index is none of the indices that lead to it
+  -- without cycles, an index is none of the indices that lead to it
   apart : (a : ℕ) (visited : List ℕ) → a < length graph → AllByRecursion (λ v. Leads graph v a) visited
       → AllByRecursion (λ v. eqb a v ≡ false) visited
   apart a [] within r = r
@@ -61,8 +61,8 @@ module _ (graph : List (List ℕ)) (in_range : IsInRange graph) (none : HasNoCyc
       All-contains (λ v. v < length graph) visited q (All-from_recursion (λ v. v < length graph) visited below)
       (Contains-from_any eqb-true q visited h))
 
-  -- If distinct visited indices lead to `a`, no walk of `k` references begins at `a`, where `k` is the number of the other
-  -- indices.
+  -- If distinct visited indices lead to `a`, and the graph has no cycle, no walk of `k` references begins at `a`, where `k` is
+  -- the number of the other indices.
   no_walk_from : (k : ℕ) (visited : List ℕ) (a : ℕ) → length visited + k ≡ length graph
       → AllByRecursion (λ v. v < length graph) visited → IsDistinct eqb visited
       → AllByRecursion (λ v. Leads graph v a) visited → a < length graph → HasWalk graph k a → ⊥

@@ -102,7 +102,7 @@ all_none (c ∷ cs) all =
     let parts = and_parts (not (c == 36)) (list_all (λ d. not (d == 36)) cs) all in
     rw (not-true (c == 36) parts.0) (all_none cs parts.1)
 
--- math up to the second dollar sign is the first unit
+-- outside verbatim fields, math up to the second dollar sign is the first unit
 pub formula_found : (before text after : List ℕ) → list_all (λ d. not (d == 36)) text ≡ true
     → before ≡ text ++ 36 ∷ after → IsNext false (ContentUnit.formula text) (36 ∷ before) after
 formula_found before text after all is = record {

@@ -150,7 +150,7 @@ pub record IsUnitWritten (is_flat : Bool) (u : ContentUnit) : Type 0 where
   pub laid_is : flat_if is_flat (unit_text u []) ≡ unit_written is_flat u
   pub first : begins is_break (unit_text u []) ≡ false
 
--- a unit that is written as its text meets this if the text has no line break
+-- `IsUnitWritten` holds for a unit that is written as its text, if the text has no line break
 written_plain : (is_flat : Bool) (u : ContentUnit) → unit_written is_flat u ≡ unit_text u []
     → list_all is_unbroken (unit_text u []) ≡ true → IsUnitWritten is_flat u
 written_plain is_flat u same all = record {
@@ -158,7 +158,7 @@ written_plain is_flat u same all = record {
   first = (capped_plain (unit_text u []) all).first;
 }
 
--- a unit without an argument in braces is written as its text, put on one line
+-- a unit that fits and has no argument in braces is written as its text, put on one line if the flag says so
 pub unit_laid : (is_flat : Bool) (u : ContentUnit) (rest : List ℕ) → fits false u rest ≡ true → inner_text u ≡ None
     → IsUnitWritten is_flat u
 unit_laid is_flat (ContentUnit.hyphens n) rest right none = written_plain is_flat (ContentUnit.hyphens n) refl (dashes_plain n)
@@ -195,7 +195,7 @@ unit_laid is_flat (ContentUnit.command name space (Argument.braced text)) rest r
 unit_laid is_flat (ContentUnit.other c) rest right none =
     written_plain is_flat (ContentUnit.other c) refl (and_from _ _ (ordinary_plain c right) refl)
 
--- more atoms were parsed, and their text was written
+-- more atoms, which don't begin with a line break, were parsed, and their text was written
 pub read_more : {is_flat : Bool} {whole base text rest : List ℕ} {depth after : ℕ} {now more : List ℕ}
     (atoms : List Atom) (cs : List ℕ) → IsReadTo is_flat whole base text depth now
     → Goes false depth text atoms after rest → IsLed atoms → argument_written is_flat atoms ≡ cs

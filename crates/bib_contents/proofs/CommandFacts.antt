@@ -91,7 +91,7 @@ pub stroke_stays : is_in_form Nfd (stroke ∷ []) ≡ true
 unfolding unicode_normalization
 stroke_stays = refl
 
--- a test that each value of a table passes, each found value passes
+-- if each value of a table passes a test, so does each found value
 pub named_passes : {A : Type 0} (test : A → Bool) (rows : List (List ℕ × A)) (name : List ℕ) (value : A)
     → list_all (λ row. test row.1) rows ≡ true → value_named rows name ≡ Some value → test value ≡ true
 named_passes {A = A} test [] name value all found = cc

@@ -36,7 +36,7 @@ other_name c cs escaped blank sign named = rw (escaped, blank, sign, named) refl
 pub sign_whole : (c : ℕ) (tail : List ℕ) → is_sign c ≡ true → is_whole_name (c ∷ []) tail ≡ true
 sign_whole c tail sign = rw sign refl
 
--- another name is whole if no identifier character comes after it
+-- another name is whole if no name character comes after it
 pub other_whole : (c : ℕ) (cs tail : List ℕ) → is_sign c ≡ false → begins is_name_character tail ≡ false
     → is_whole_name (c ∷ cs) tail ≡ true
 other_whole c cs tail sign stops = rw (sign, stops) refl

@@ -21,7 +21,7 @@ rest_same {is_verbatim} {u} {w} {text} {rest} {more} one two =
     append_cancel_left (unit_spelling u) rest more
     (sym one.spells ∙ two.spells ∙ ap (λ x. unit_spelling x ++ more) (sym (unit_same one two)))
 
--- a unit has at least one character
+-- a unit that fits has at least one character
 no_unit_of_nothing : (is_verbatim : Bool) (u : ContentUnit) (rest : List ℕ) → fits is_verbatim u rest ≡ true
     → [] ≡ unit_spelling u ++ rest → ⊥
 no_unit_of_nothing is_verbatim (ContentUnit.hyphens zero) rest right spells = both_ways false refl right

@@ -317,7 +317,7 @@ shorter_wider (Follows name inside) size wide low lower text same s shorter wide
 )
 shorter_wider End size wide low lower text same s shorter wider following is = omega (arith, shorter, wider)
 
--- a unit has at least one byte
+-- a unit that comes next has at least one byte
 pub unit_ahead : (u : ContentUnit) (s t : Place) → IsNext false u (left s) (left t)
     → t.at ≡ s.at + length (encode_utf8_all (unit_spelling u)) → s.at + 1 ≤ t.at
 unit_ahead u s t one next =

@@ -123,12 +123,12 @@ letter_plain c plain = elim (cases_Bool (c == 0x131)) [
   ]
 ]
 
--- a letter with a mark on it has no line break
+-- if neither a character nor a mark is a line break, the letter for the character with the mark on it has none
 marked_letter : (c mark : ℕ) → is_break c ≡ false → is_unbroken mark ≡ true → list_all is_unbroken (nfc (letter c ∷ mark ∷ [])) ≡ true
 marked_letter c mark plain mark_plain =
     plain_nfc (letter c ∷ mark ∷ []) (and_from _ _ (letter_plain c plain) (and_from _ _ mark_plain refl))
 
--- the characters for a mark without a letter have no line break
+-- the characters for a mark without a letter have no line break if the mark isn't one
 bare_plain : (mark : ℕ) → is_unbroken mark ≡ true → list_all is_unbroken (bare mark) ≡ true
 bare_plain mark plain = elim (cases_Bool (mark == 0x302)) [
   | inl circumflex ↦ rw circumflex refl
@@ -138,7 +138,8 @@ bare_plain mark plain = elim (cases_Bool (mark == 0x302)) [
   ]
 ]
 
--- putting a mark on the last character and putting a text on one line can be exchanged
+-- if a text doesn't end with a line break, and the mark isn't one,
+-- putting the mark on the last character and putting the text on one line can be exchanged
 pub flowing_marked : (mark : ℕ) (cs : List ℕ) → is_unbroken mark ≡ true → ends_in_break cs ≡ false
     → flowing false (with_mark mark cs) ≡ with_mark mark (flowing false cs)
 flowing_marked mark [] plain last = flowing_plain false (bare mark) (bare_plain mark plain)
@@ -156,7 +157,7 @@ flowing_marked mark (c ∷ cs) plain last =
     ∙ ap (λ xs. flowing false split.0 ++ xs) (flowing_plain false (nfc (letter split.1 ∷ mark ∷ [])) composed)
     ∙ sym (with_mark-push mark (flowing false split.0) split.1) ∙ sym (ap (with_mark mark) whole)
 
--- a text that neither begins nor ends with a line break doesn't do so with a mark on its last character
+-- a text that neither begins nor ends with a line break doesn't do so with a mark on its last character, if that isn't a line break
 capped_marked : (mark : ℕ) (cs : List ℕ) → is_unbroken mark ≡ true → IsCapped cs → IsCapped (with_mark mark cs)
 capped_marked mark [] plain capped = capped_plain (bare mark) (bare_plain mark plain)
 capped_marked mark (c ∷ cs) plain capped =
@@ -220,7 +221,7 @@ kind_found name None None accent_is symbol_is = kind_other name accent_is symbol
 kind_of : (name : List ℕ) → Kind name
 kind_of name = kind_found name (value_named accents name) (value_named symbols name) refl refl
 
--- a command's text neither begins nor ends with a line break if its argument doesn't
+-- if the name of a command has no line break, and its argument neither begins nor ends with one, nor does its text
 capped_kind : {name : List ℕ} → Kind name → (cs : List ℕ) → list_all is_unbroken name ≡ true → IsCapped cs
     → IsCapped (command_text name (Some cs))
 capped_kind {name} (Kind.marks m plain is) cs named capped = subst IsCapped (sym (is cs)) (capped_marked m cs plain capped)
@@ -231,7 +232,7 @@ capped_kind {name} (Kind.stays is) cs named capped =
     subst IsCapped (sym (is cs)) record
     { first = refl; last = ends_append (92 ∷ name) 123 (cs ++ 125 ∷ []) (ends_append (123 ∷ cs) 125 [] refl) }
 
--- the effect on a text that neither begins nor ends with a line break is such a text
+-- if the name of a command has no line break, its effect on a text that neither begins nor ends with one is such a text
 pub capped_given : (name cs : List ℕ) → list_all is_unbroken name ≡ true → IsCapped cs → IsCapped (command_text name (Some cs))
 capped_given name cs named capped = capped_kind (kind_of name) cs named capped
 
@@ -285,14 +286,14 @@ alone_found name None None accent_is symbol_is all =
 pub alone_plain : (name : List ℕ) → list_all is_unbroken name ≡ true → list_all is_unbroken (command_text name None) ≡ true
 alone_plain name all = alone_found name (value_named accents name) (value_named symbols name) refl refl all
 
--- whether the last character written is white space, after these atoms
+-- whether the last character written is white space, after these atoms; math leaves the flag unchanged
 abbrev pub space_after : Bool → List Atom → Bool
 space_after space [] = space
 space_after space (Atom.normal c ∷ rest) = space_after (ends_in_space space (char_on_line space c)) rest
 space_after space (Atom.verbatim c ∷ rest) = space_after (is_whitespace c) rest
 space_after space (Atom.math text ∷ rest) = space_after space rest
 
--- two lists of atoms are formatted one after the other; the second one depends on whether the text of the first ends with white space
+-- two lists of atoms are formatted one after the other; the second one with the flag that `space_after` returns for the first
 pub formatted_append : (space : Bool) (xs ys : List Atom)
     → formatted_atoms space (xs ++ ys) ≡ formatted_atoms space xs ++ formatted_atoms (space_after space xs) ys
 formatted_append space [] ys = refl

@@ -177,7 +177,7 @@ some_hyphens zero rest tail is stops =
     absurd (both_ways (begins (λ d. d == 45) tail) stops (subst (λ t. begins (λ d. d == 45) t ≡ true) is refl))
 some_hyphens (suc n) rest tail is stops = lt-ltb 0 (suc n) (omega arith)
 
--- hyphens are parsed as dashes
+-- hyphens that no hyphen follows are parsed as dashes
 pub reads_hyphens : (is_verbatim : Bool) {u w : Place} {c : ℕ} {rest cs : List ℕ} (n : ℕ) → left u ≡ c ∷ rest → c ≡ 45
     → Passes u cs w → left u ≡ replicate n 45 ++ left w → begins (λ d. d == 45) (left w) ≡ false
     → ReadsAs is_verbatim u (dashes n) w

@@ -145,7 +145,7 @@ inner_length_is (ContentUnit.copied c) text is = absurd (no_argument is)
 inner_length_is (ContentUnit.formula math) text is = absurd (no_argument is)
 inner_length_is (ContentUnit.other c) text is = absurd (no_argument is)
 
--- a unit is longer than its argument in braces
+-- a unit that fits is longer than its argument in braces
 unit_longer : (is_verbatim : Bool) (u : ContentUnit) (rest : List ℕ) → fits is_verbatim u rest ≡ true
     → inner_length u < length (unit_spelling u)
 unit_longer is_verbatim (ContentUnit.command name space (Argument.braced text)) rest right =

@@ -140,7 +140,7 @@ reading_all growing after reading ends is =
     let all = read_all reading.read ends in
     (all.0, all.1, is ∙ all.2)
 
--- the open chunk starts neither before the end of the finished ones nor after the end of the text
+-- if the chunks at the start end before the text, the open chunk starts neither before the end of the finished ones nor after the text
 pub reading_ends : {is_verbatim : Bool} {text : List ℕ} {offset : ℕ} {start out : List (Spanned Chunk)} {s : Place}
     (growing : OpenChunk) → Reading is_verbatim text offset start s growing out → (low : ℕ)
     → ArePlaced low offset start

@@ -193,7 +193,7 @@ sign_first : (c : ℕ) (tail : List ℕ) {u : ContentUnit} (cs : List ℕ) → i
 sign_first c tail [] none found = found
 sign_first c tail (d ∷ ds) none found = absurd (both_ways false refl none)
 
--- a command is found after its backslash
+-- outside verbatim fields, a command is found after its backslash
 pub escape_first : (c : ℕ) (cs tail : List ℕ) (u : ContentUnit) → is_name (c ∷ cs) ≡ true
     → is_whole_name (c ∷ cs) tail ≡ true → first_command (c ∷ cs) tail ≡ u
     → first_escape false (c ∷ (cs ++ tail)) ≡ u

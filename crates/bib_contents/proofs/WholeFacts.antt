@@ -31,7 +31,7 @@ led_append xs ys one two =
       first = ap (begins is_break) (parts false) ∙ begins_append (formatted_atoms false xs) (formatted_atoms false ys) one.first two.first;
     }
 
--- whether a unit ends with a line break
+-- whether a unit is a backslash before a line break
 abbrev breaks_last : ContentUnit → Bool
 breaks_last (ContentUnit.copied c) = is_break c
 breaks_last u = false
@@ -45,7 +45,7 @@ record HasEnds (u : ContentUnit) (inner : List Atom) : Type 0 where
 capped_ends : (u : ContentUnit) (inner : List Atom) → IsCapped (unit_text u inner) → HasEnds u inner
 capped_ends u inner capped = record { first = capped.first; last = λ plain. capped.last }
 
--- each unit has such ends, if its argument in braces is a whole text
+-- outside verbatim fields, each unit that fits has such ends, if its argument in braces is a whole text
 unit_ends : (u : ContentUnit) (rest : List ℕ) (inner : List Atom) → fits false u rest ≡ true
     → ((text : List ℕ) → inner_text u ≡ Some text → IsWhole inner) → HasEnds u inner
 unit_ends (ContentUnit.hyphens n) rest inner right whole =
@@ -140,7 +140,7 @@ some_after c depth (d ∷ ds) atoms breaks follows
     ∙ next_spaces d ds (rw same breaks) in
     spaces_shown depth u d (prefix is_space ds) inner more is none
 
--- the text after a unit that ends with a line break isn't formatted to nothing
+-- the text after a unit for which `breaks_last` is true isn't formatted to nothing
 after_break : (u : ContentUnit) (depth : ℕ) (rest : List ℕ) (atoms : List Atom) → breaks_last u ≡ true
     → fits false u rest ≡ true → Reads false depth rest atoms → formatted_atoms false atoms ≡ [] → ⊥
 after_break (ContentUnit.copied c) depth rest atoms breaks right read none =
@@ -155,7 +155,7 @@ after_break (ContentUnit.formula text) depth rest atoms breaks right read none =
 after_break (ContentUnit.command name space argument) depth rest atoms breaks right read none = both_ways false refl breaks
 after_break (ContentUnit.other c) depth rest atoms breaks right read none = both_ways false refl breaks
 
--- `xs ++ ys` doesn't end with a line break if `ys` doesn't, `xs` does only if the unit does, and `ys` then isn't empty
+-- `xs ++ ys` doesn't end with a line break if `ys` doesn't, `xs` does only if `breaks_last` is true, and `ys` then isn't empty
 last_joined : (u : ContentUnit) (xs ys : List ℕ) → (breaks_last u ≡ true → ys ≡ [] → ⊥)
     → (breaks_last u ≡ false → ends_in_break xs ≡ false) → ends_in_break ys ≡ false → ends_in_break (xs ++ ys) ≡ false
 last_joined u xs [] some alone last = elim (cases_Bool (breaks_last u)) [
@@ -164,7 +164,7 @@ last_joined u xs [] some alone last = elim (cases_Bool (breaks_last u)) [
 ]
 last_joined u xs (y ∷ ys) some alone last = ends_append xs y ys last
 
--- the parsed atoms of a text neither begin nor end with a line break
+-- outside verbatim fields, the parsed atoms of a text neither begin nor end with a line break
 pub whole_reads : {depth : ℕ} {text : List ℕ} {atoms : List Atom} → Reads false depth text atoms → IsWhole atoms
 whole_reads end = record { led = record { any = λ space. refl; first = refl }; last = refl }
 whole_reads {depth} (next {u = u} {rest = rest} {inner = inner} {atoms = more} one closable argument read) =

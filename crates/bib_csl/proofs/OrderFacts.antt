@@ -193,7 +193,7 @@ kept_after q ms h (more {f = f} k p) =
     absurd (omega (arith, h, later, e)) in
     kept_after q _ h p ∙ get_member-put_other q (variable_name f.variable) (content_json f.content) ms apart
 
--- the member of each variable is its content
+-- the member of a variable is its content
 abbrev IsFound : Members → Field → Type 0
 IsFound ms f = get_member (variable_name f.variable) ms ≡ Some (content_json f.content)
 

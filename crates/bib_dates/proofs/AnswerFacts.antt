@@ -93,7 +93,7 @@ year_said : (year : List ℕ) (month day : Option (List ℕ)) (y : ℤ) → read
 unfolding three_fields_of
 year_said year month day y h = rw (said (year_field year) y h) refl
 
--- an error of the month and the day is an error of the three fields
+-- if the year is parsed, an error of the month and the day is an error of the three fields
 pub parts_refused : (year : List ℕ) (month day : Option (List ℕ)) (y : ℤ) (e : TypeError) → readable_value (year_field year) ≡ Some y
     → Refused (month_and_day month day) e → Refused (three_fields_of year month day) e
 parts_refused year month day y e found h =

@@ -45,7 +45,7 @@ any_none p q f (x ∷ xs) h = let k = and_parts (p x) (list_all p xs) h in rw (f
 pub digit_bytes : (xs : List ℕ) → list_all is_ascii_digit xs ≡ true → list_all is_date_byte xs ≡ true
 digit_bytes xs h = passed_weaker is_ascii_digit is_date_byte (λ b k. rw k refl) xs h
 
--- a written month and day consist of digits and hyphens
+-- the text of a kept month and day consists of digits and hyphens
 number_bytes : (y : ℤ) (m d : Option ℕ) → IsKeptDay y m d → list_all is_date_byte (month_day_text m d) ≡ true
 number_bytes y None d k = refl
 number_bytes y (Some m) None k =
@@ -58,7 +58,7 @@ number_bytes y (Some m) (Some d) k =
     passed_append is_date_byte (with_zeros 2 (m + 1)) (45 ∷ with_zeros 2 (d + 1)) (digit_bytes (with_zeros 2 (m + 1)) is.digits)
     (digit_bytes (with_zeros 2 (d + 1)) day.digits)
 
--- a written year consists of digits and hyphens, and has at least four bytes
+-- a written year from -9999 to 9999 consists of digits and hyphens, and has at least four bytes
 year_bytes : (y : ℤ) → IsYear y → (list_all is_date_byte (year_text y) ≡ true) × (4 ≤ length (year_text y))
 year_bytes (pos n) h =
     let is : IsNumber 4 n (with_zeros 4 n) = four_digits n (omega (arith, ints)) in

@@ -109,7 +109,7 @@ not_begun byte (x ∷ xs) rest h some other =
     let p = and_parts _ _ h in
     ne_eqb x byte (λ e. let q : is_ascii_digit byte ≡ true = ap is_ascii_digit (sym e) ∙ p.0 in cc)
 
--- four digits without a sign are parsed as a year
+-- four digits without a sign, and without another digit after them, are parsed as a year
 year_digits : (n : ℕ) (xs rest : List ℕ) → IsNumber 4 n xs → Ends rest → year (xs ++ rest) ≡ says (pos n, rest)
 unfolding year sign
 year_digits n xs rest is ends =
@@ -125,7 +125,7 @@ year_digits n xs rest is ends =
       is.value,
     ) refl
 
--- four digits after a minus are parsed as the negated year
+-- four digits after a minus, without another digit after them, are parsed as the negated year
 year_minus : (n : ℕ) (xs rest : List ℕ) → IsNumber 4 n xs → Ends rest → year (45 ∷ (xs ++ rest)) ≡ says (neg_ℤ (pos n), rest)
 unfolding year sign
 year_minus n xs rest is ends =
@@ -151,7 +151,7 @@ two_digits n h = padded_number 2 n (lit< tt) (omega arith) (omega arith)
 pub not_negative : (n : ℕ) → is_negative (pos n) ≡ false
 not_negative n = grind (arith, nat_tests)
 
--- a written year is parsed as it
+-- a written year from -9999 to 9999 is parsed as it
 pub year_reads : (y : ℤ) (rest : List ℕ) → IsYear y → Ends rest → year (year_text y ++ rest) ≡ says (y, rest)
 year_reads (pos n) rest h ends = rw (not_negative n) (year_digits n (with_zeros 4 n) rest (four_digits n (omega (arith, ints))) ends)
 year_reads (negsuc n) rest h ends = year_minus (suc n) (with_zeros 4 (suc n)) rest (four_digits (suc n) (omega (arith, ints))) ends
@@ -190,7 +190,7 @@ one_less n = omega arith
 pub within : (low high n : ℕ) → low ≤ n → n ≤ high → lies low high n ≡ true
 within low high n h k = grind (arith, nat_tests)
 
--- a written date without a time parses as a side
+-- a kept date without a time parses from its text as a side
 pub side_reads : (y : ℤ) (m d : Option ℕ) → IsYear y → IsKeptDay y m d
     → side (datetime_text (datetime y m d None)) ≡ says (datetime y m d None)
 unfolding side after_year after_month after_day

@@ -61,7 +61,7 @@ adds_nothing name old new same = ([], same ∙ sym (append-nil old), _)
 lies_there : (V : Type 0) (place : Range ℕ) (e : TypeError) → e.kind ≢ OutOfMemory → LiesAt {V = V} place (Err e) → e.span ≡ place
 lies_there V place e some h = ⊎_elim (λ no_room. absurd (some (ap (λ error. error.kind) no_room))) (λ at. at) h
 
--- the error of chunks that are parsed, or have an error of only this kind at this span, is appended
+-- if chunks can only have an error of this kind at this span, appending the error of parsing them appends that of their verdict
 pub adds_read : {V M : Type 0} (meaning : V → M) (reads : Option M) (allowed : TypeErrorKind → Type 0)
     (reason : TypeErrorKind) → ((kind : TypeErrorKind) → allowed kind → kind ≡ reason)
     → (place : Range ℕ) (read : Result V TypeError) (name : List ℕ) (old new : FieldErrors)
@@ -74,7 +74,7 @@ adds_read {V = V} meaning reads allowed reason is_reason place (Err e) name old 
     (λ refusal. subst (λ found. AppendsErrors ((name, read_or found reason place) ∷ []) old new) (sym refusal.1)
     ((name, e) ∷ [], reported.1, ((refl, (is_reason e.kind refusal.2, lies_there V place e reported.0 at)), _))) h
 
--- the error of a field as a value of a type with only one kind of error is appended
+-- if a type has only one kind of error for given chunks, appending the error of a field as its value appends that of its verdict
 pub adds_field : {V : Type 0} (type : Ghosts V) (reason : Value → TypeErrorKind)
     → ((chunks : Value) (kind : TypeErrorKind) → type.may_refuse chunks kind → kind ≡ reason chunks)
     → (field : Option Value) (name : List ℕ) (old new : FieldErrors) → AppendsFieldError type field name old new

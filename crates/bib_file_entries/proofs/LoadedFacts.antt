@@ -125,7 +125,7 @@ same_next earlier entry names index same name =
     ∙ ap (λ b. b || is_claimed (claims entry) name) (same name)
     ∙ sym (list_any-append (bytes_eq name) earlier (claims entry))
 
--- adding one more entry to the empty bibliography appends it, and its claims point to it
+-- if entries are added to the empty bibliography, and then one more, this is appended, and its claims point to it
 pub bibliography_next : (found : List Entry) (entry : Entry) (names : ByText ℕ)
     → loaded_after empty_bibliography found ≡ record { entries = found; names = names }
     → loaded_after empty_bibliography (found ++ entry ∷ [])

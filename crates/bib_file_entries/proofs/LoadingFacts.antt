@@ -74,7 +74,7 @@ module _ (definitions : Definitions) where
   are_readable (p ∷ ps) [] all = absurd all
   are_readable (p ∷ ps) (pair ∷ pairs) all = (all.0.readable, are_readable ps pairs all.1)
 
-  -- an error after parsed fields is the first error
+  -- the first error of the fields after parsed fields is the first error of all
   pub error_after : (ps : List Pair) (pairs : List (List ℕ × List (Spanned Chunk))) (rest : List Pair) (e : ParseError)
       → AllZip (IsRead definitions) ps pairs → IsFieldsError definitions rest e → IsFieldsError definitions (ps ++ rest) e
   error_after [] [] rest e all error = error

@@ -1,4 +1,4 @@
--- Dates parse from their written form.
+-- Kept dates parse from their written form, but an uncertain date as an approximate one.
 use Rattle.std.proofs.Common.{◌≡◌, ℕ, ◌+◌, ◌<◌, Bool, false, cond, List, refl, sym, ap, ap₂, ◌∙◌, arith, Option, Some, None, ℤ, pos, negsuc}
 use Rattle.std.specs.Prelude.{◌||◌, ◌&&◌, not, is_some, option_map}
 use Rattle.std.specs.Ordering.{int_eq}

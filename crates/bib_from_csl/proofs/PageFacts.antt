@@ -1,4 +1,4 @@
--- The written pages of ranges are parsed as these ranges, and converted back to the same text.
+-- The written pages of kept ranges are parsed as these ranges, and converted back to the same text.
 use Rattle.std.proofs.Common.{◌≡◌, ℕ, ◌+◌, ◌<◌, ◌^◌, Bool, true, false, cond, List, [], ◌∷◌, ◌++◌, length, map, refl, sym, ap, ◌∙◌, subst, arith, append_assoc, append-nil, Some}
 use Rattle.std.specs.Prelude.{codes, ◌==◌, ◌||◌, encode_utf8, encode_utf8_all}
 use Rattle.std.specs.List.{list_all, AllByRecursion, slice_split, onto_first}
@@ -71,7 +71,7 @@ page_chars_if same r = cond same (decimal r.start) (decimal r.start ++ 8211 ∷ 
 abbrev page_chars : Range ℕ → List ℕ
 page_chars r = page_chars_if (r.start == r.end) r
 
--- these characters are parsed as the range
+-- the characters of a kept range are parsed as the range
 page_range : (b : Bool) (r : Range ℕ) → (r.start == r.end) ≡ b → RangeKept r → range_of (page_chars_if b r) ≡ Some r
 page_range true r same kept = range_read_of (decimal r.start) r (record {
   before = [];
@@ -165,7 +165,7 @@ joined_first : (separator next : List ℕ) → 0 < length next → joined separa
 unfolding joined
 joined_first separator next more = cond-false (length next == 0) _ _ (not_nothing next more)
 
--- the pages of ranges after a text that isn't empty: the text, and each range after a comma and a space
+-- the pages of kept ranges after a text that isn't empty: the text, and each range after a comma and a space
 after_pages : (before : List ℕ) (rs : List (Range ℕ)) → AllByRecursion RangeKept rs → 0 < length before
     → pages_after before rs ≡ before ++ encode_utf8_all (more_chars rs)
 unfolding pages_after lib.Utf8.encode

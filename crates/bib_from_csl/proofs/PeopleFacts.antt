@@ -1,4 +1,4 @@
--- Names of people parse from their written form.
+-- Plain names of people parse from their written form.
 use Rattle.std.proofs.Common.{◌≡◌, ℕ, suc, Bool, true, false, cond, List, [], ◌∷◌, ◌++◌, length, map, refl, sym, ap, ap₂, ◌∙◌, arith, get_or}
 use Rattle.std.proofs.lemmas.List.{append-nil}
 use Rattle.std.specs.Prelude.{not, ◌&&◌, ◌||◌, ◌==◌, bytes_eq, codes, encode_utf8, encode_utf8_all, unwrap_or}
@@ -31,10 +31,11 @@ use Rattle.bib_from_csl.specs.PlainPeople.{ArePlainNames, IsPlainLiteral, IsPlai
 use Rattle.bib_from_csl.specs.WrittenPeople.{name_chunks, names_chunks, names_from, particle}
 use Rattle.bib_from_csl.proofs.PlainFacts.{name_free, kept_parts, text_of_parts, parts_written, parts_part, named_person, kept_person, person_is, line_comma, line_shown}
 
--- a kept person is parsed at each place in a list, as a list of three and a list of one show
+-- the chunks of the rest of a list, with a separator before them
 abbrev separator : Value → Value
 separator l = nowhere (Normal (codes " and ")) ∷ l
 
+-- a kept person is parsed at each place in a list, as a list of three and a list of one show
 three_read : (q : Person) (t : List ℕ) → IsKeptPerson q → IsPart (Normal t) → person_chunks q ≡ nowhere (Normal t) ∷ []
     → map person_of (padded_parts false (Normal t) (Normal t ∷ Normal t ∷ [])) ≡ q ∷ q ∷ q ∷ []
 three_read q t kept part is =

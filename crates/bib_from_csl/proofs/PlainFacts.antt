@@ -27,7 +27,7 @@ use Rattle.bib_csl.specs.declared.item.NameParts.{NameParts}
 use Rattle.bib_from_csl.specs.PlainPeople.{IsPlainParts}
 use Rattle.bib_from_csl.specs.WrittenPeople.{are_plain_words, begins_small, begins_with_small, extended_chunks, has_no_small_word, has_small_words, is_bibtex_name, is_nothing_or_words, is_one_word, is_plain_particle, is_plain_word, may_stand_in_name, particle, parts_chunks, plain_text_of, with_separator, words_in}
 
--- words
+-- ---- words
 
 stands_table : list_all (λ b. not (is_name_byte b) || may_stand_in_name b) (range_with_len 0 128) ≡ true
 stands_table = refl
@@ -151,9 +151,9 @@ plain_particle (w ∷ ws) all =
     (and_from (are_plain_words (spaced (w ∷ ws))) (has_small_words (spaced (w ∷ ws)))
     (plain_words (w ∷ ws) any (omega arith)) small)
 
--- a plain name is written in BibTeX's form
+-- ---- a plain name in BibTeX's form
 
--- the parts of a name with their separators are the line of its words
+-- if a name has a family name and a given name, and its words are kept, its parts with their separators are the line of its words
 pub text_line : (prefix name suffix given : List (List ℕ)) → AllWords is_small_letter prefix
     → AllWords is_name_byte name → 0 < length name → AllWords is_name_byte suffix → 0 < length given
     → with_separator (spaced prefix) (codes " ")

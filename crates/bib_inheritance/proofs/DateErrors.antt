@@ -47,7 +47,7 @@ module _ (looks : List Bool) (graph : Graph) (entries : List Entry) (index : ℕ
       never true = refl
       never false = refl
 
-  -- if the date of one of its references can't be parsed, it adds the error of that date
+  -- if it lacks a required date, and the date of one of its references can't be parsed, it adds the error of that date
   pub finds_one : (error : TypeError) (e : ParseError) → get_or looks index false ≡ true
       → IsUnreadDate entries (refs_of graph index) error
       → e ≡ record { span = error.span; kind = ResolutionError error.kind }

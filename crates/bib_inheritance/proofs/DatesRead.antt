@@ -71,7 +71,7 @@ place_unread own entries index entry place keys kept there lies =
       lies = lies;
     }
 
--- the error of the first flagged entry that refers to a bad date is the error of inheriting
+-- without cycles, the error of the first flagged entry that refers to a bad date is an error of inheriting
 pub date_unread : (spans : List (Range ℕ)) (own : List Entry) (looks : List Bool) (graph : Graph) (entries : List Entry)
     (error : TypeError) (e : ParseError)
     →

@@ -1,5 +1,5 @@
--- The inheritance equation has a solution whose values are entries: an inherited text is the text of chunks, and finitely
--- many fields are inherited.
+-- Without cycles, the inheritance equation has a solution whose values are entries: an inherited text is the text of chunks,
+-- and finitely many fields are inherited.
 use Rattle.std.proofs.Common.{◌≡◌, ℕ, ◌<◌, List, [], ◌∷◌, ◌++◌, Bool, true, false, not, cond, ◌&&◌, ◌||◌, length, get_or, map, refl, sym, ap, ◌∙◌, subst, arith, inl, inr, ◌⊎◌, Option, Some, None, option_map, is_some, codes, append-nil}
 use Rattle.std.specs.Prelude.{slice_get, reverse}
 use Rattle.std.specs.Ordering.{eq_by_cmp}
@@ -80,7 +80,7 @@ inherited_styled entry_type name (r ∷ rest) =
 abbrev names_in : ByText Value → Names
 names_in fields = map (λ e. e.0) (entries fields)
 
--- the names that a type inherits, followed by those of the fields of the references
+-- the names of the fields of the references, followed by the names that a type inherits
 abbrev names_given : EntryType → List Entry → Names
 names_given entry_type [] = inheritable entry_type
 names_given entry_type (r ∷ rest) = names_in r.fields ++ names_given entry_type rest

@@ -67,7 +67,7 @@ field_dated m a b c k v q =
     ∙ ap (λ x. cond (bytes_eq a q || (x || (bytes_eq q c || false))) None (get m q)) (bytes_turned q b)
     ∙ ap (λ x. cond (bytes_eq a q || (bytes_eq b q || (x || false))) None (get m q)) (bytes_turned q c))
 
--- The rule of inheritance
+-- ---- the rule of inheritance
 
 styled_if : (b : Bool) (x y : Option Value) → option_map styled (cond b x y) ≡ cond b (option_map styled x) (option_map styled y)
 styled_if true x y = refl

@@ -123,7 +123,7 @@ unflagged_more names entries flags i refs looks new within are not_flagged none 
           ∙ sym (map_push looks_by (take i entries) e) ∙ ap (map looks_by) (sym more),
     )
 
--- an entry that isn't flagged and has no references counts as resolved, unchanged
+-- if the next entry of a topological order isn't flagged and has no references, it is resolved unchanged
 pub skipped : (refs : Graph) (order : List ℕ) (own entries : List Entry) (flags : List Bool) (i : ℕ) (indices : List ℕ)
     → IsTopologicalOrder refs order → i < length order → length own ≡ length refs → flags ≡ map has_references own
     → get_or flags (get_or order i 0) false ≡ false → indices ≡ [] → indices ≡ refs_of refs (get_or order i 0)

@@ -280,7 +280,7 @@ inheritable_gathered entry_type s required optional pages author q x a b c d =
         ∙ ap (λ l. (((rules_of entry_type).required ++ (rules_of entry_type).optional) ++ l) ++ author) c
         ∙ ap (λ l. (((rules_of entry_type).required ++ (rules_of entry_type).optional) ++ page_names (rules_of entry_type).pages) ++ l) d
 
--- Copies
+-- ---- copies
 
 -- the copied field of a name: the collected one, if the entry lacks it
 abbrev pub copied_text : ByText Value → List Loan → List ℕ → Option (List Atom)

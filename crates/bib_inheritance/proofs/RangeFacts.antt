@@ -1,4 +1,4 @@
--- The graph of references is in range.
+-- The graph of references is in range if each name points to an entry.
 use Rattle.std.proofs.Common.{◌≡◌, ℕ, ◌<◌, List, [], ◌∷◌, length, refl, sym, subst, Option, Some, None}
 use Rattle.std.specs.List.{All, filter_map, cons_option}
 use Rattle.std.specs.FinMap as by_name
@@ -23,7 +23,7 @@ indices_below n names below (t ∷ texts) =
       one None rest lies all = all
       one (Some p) rest lies all = All-cons (λ r. r < n) p rest (lies p refl) all
 
--- the references of entries are below `n`
+-- if all names point below `n`, the references of entries are below `n`
 rows_below : (n : ℕ) (names : ByText ℕ) → AreIndicesBelow n names → (own : List Entry)
     → All (λ refs. All (λ r. r < n) refs) (graph_by names own)
 rows_below n names below [] = All-nil (λ refs. All (λ r. r < n) refs)

@@ -61,7 +61,7 @@ gap_ends [] r h e = e
 gap_ends (x ∷ g) r (inl is, h) e = rw is
 gap_ends (x ∷ g) r (inr is, h) e = rw is
 
--- the text after a value doesn't continue a word: it begins with white space, a comma or a bracket, or it is the tail
+-- if `tail` doesn't continue a word, nor does the text after a value: it begins with white space, a comma or a bracket, or it is `tail`
 spaced_ends : (ps : List (List ℕ × Token)) (tail : List ℕ) → AreGaps ps → ends_word tail ≡ true
     → ends_word (print_spaced true ps ++ tail) ≡ true
 unfolding print_spaced

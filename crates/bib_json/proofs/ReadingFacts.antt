@@ -284,7 +284,7 @@ texts_are : (entries : List Entry) → map compact_text (map entry_object entrie
 texts_are [] = refl
 texts_are (entry ∷ rest) = ap (λ l. json_text_of entry ∷ l) (texts_are rest)
 
--- the text of an array of entries is parsed as the array of their objects
+-- if the text of each entry is parsed back, the text of the array of the entries is parsed as the array of their objects
 pub entries_read : (entries : List Entry) → AllByRecursion IsReadBack entries
     → read (array_text (map json_text_of entries)) ≡ Some (array_of entry_object entries)
 entries_read entries h =

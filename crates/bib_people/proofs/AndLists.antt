@@ -80,9 +80,9 @@ abbrev pub padded_parts : Bool → Chunk → List Chunk → List Value
 padded_parts before chunk [] = padded before false chunk ∷ []
 padded_parts before chunk (next ∷ more) = padded before true chunk ∷ padded_parts true next more
 
--- the ends of the list
+-- ---- the ends of the list
 
--- trimming leaves the chunks after the first one unchanged
+-- if each chunk is one part, trimming leaves the chunks after the first one unchanged
 trimmed_after : (chunk : Chunk) (chunks : List Chunk) → IsPart chunk → AllParts chunks
     → trimmed_chunks false (written_after (chunk ∷ chunks)) ≡ written_after (chunk ∷ chunks)
 trimmed_after chunk [] part all =
@@ -96,7 +96,7 @@ trimmed_after chunk (next ∷ more) part all =
     ∙ ap (λ l. trimmed_chunk false false (Normal (codes " and ")) no_place ∷ nowhere chunk ∷ l) (trimmed_after next more all.0 all.1)
     ∙ ap (λ c. c ∷ nowhere chunk ∷ written_after (next ∷ more)) (untouched (codes " and "))
 
--- trimming leaves a written list unchanged
+-- if each chunk is one part, trimming leaves the written list unchanged
 trimmed_whole : (chunk : Chunk) (chunks : List Chunk) → IsPart chunk → AllParts chunks
     → trimmed_ends (nowhere chunk ∷ written_after chunks) ≡ nowhere chunk ∷ written_after chunks
 trimmed_whole chunk [] part all = ap (λ c. c ∷ []) (part.ends true true)
@@ -104,7 +104,7 @@ trimmed_whole chunk (next ∷ more) part all =
     ap (λ c. c ∷ trimmed_chunks false (written_after (next ∷ more))) (part.ends true false)
     ∙ ap (λ l. nowhere chunk ∷ l) (trimmed_after next more all.0 all.1)
 
--- its parts
+-- ---- the parts of the list
 
 abbrev parts : Value → List Value
 parts = list_parts 3 (between_ands false)
@@ -132,7 +132,7 @@ onto_nothing : (chunk : Chunk) (ps : List Value) → onto [] (onto (alone chunk)
 onto_nothing chunk [] = refl
 onto_nothing chunk (p ∷ ps) = refl
 
--- a written list is parsed as its parts, with empty chunks around them
+-- if each chunk is one part, the written list is parsed as these parts, with empty chunks around them
 pub and_list_written : (chunk : Chunk) (chunks : List Chunk) → IsPart chunk → AllParts chunks
     → and_list (nowhere chunk ∷ written_after chunks) ≡ padded_parts false chunk chunks
 and_list_written chunk chunks part all =

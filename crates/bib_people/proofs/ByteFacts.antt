@@ -107,7 +107,7 @@ line_open b line =
 pub name_line : (b : ℕ) → is_name_byte b ≡ true → is_line_byte b ≡ true
 name_line b name = rw name refl
 
--- texts of ASCII
+-- ---- ASCII texts
 
 -- bytes that pass a test for ASCII bytes only are an ASCII text
 pub ascii_of : (test : ℕ → Bool) → ((b : ℕ) → test b ≡ true → b < 128) → (bs : List ℕ) → list_all test bs ≡ true → IsAscii bs
@@ -131,7 +131,7 @@ none_of test (b ∷ bs) all =
     let fails = not-true (test b) both.0 in
     rw fails (none_of test bs both.1)
 
--- white space at the ends
+-- ---- white space at the ends
 
 cond_second : {A : Type 0} (a b : Bool) (x y : A) → b ≡ false → cond (a && b) x y ≡ y
 cond_second true true x y is = absurd (both_ways true is refl)

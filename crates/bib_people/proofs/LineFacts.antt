@@ -20,7 +20,7 @@ use Rattle.bib_people.proofs.SpacedFacts.{is_solid, is_item, spaced_ends, spaced
 use Rattle.bib_people.proofs.AndLists.{IsPart, normal, normal_part}
 use Rattle.std.proofs.Math.Bool.{and-false}
 
--- words
+-- ---- words
 
 -- each of these words is kept, and its first byte passes the test
 abbrev pub AllWords : (ℕ → Bool) → List (List ℕ) → Type 0
@@ -95,7 +95,7 @@ items_part items all =
     (start_none (spaced items) ascii (skip_none (spaced items) (spaced_begins items solid)))
     (end_none (spaced items) ascii (spaced_ends items solid))
 
--- commas after words
+-- ---- commas after words
 
 -- words with a comma after the last
 abbrev pub comma : List (List ℕ) → List (List ℕ)
@@ -137,7 +137,7 @@ comma_item (b ∷ bs) line =
     and_from (is_item ((b ∷ bs) ++ 44 ∷ [])) (list_all is_line_byte ((b ∷ bs) ++ 44 ∷ []))
     (and_from (is_solid ((b ∷ bs) ++ 44 ∷ [])) (not (is_word_and ((b ∷ bs) ++ 44 ∷ []))) all_solid (ap not (no_word (b ∷ bs)))) all_bytes
 
--- words with a comma after the last one are items of a line
+-- items of a line are such items with a comma after the last one too
 pub comma_items : (words : List (List ℕ)) → list_all is_line_item words ≡ true → list_all is_line_item (comma words) ≡ true
 comma_items [] all = refl
 comma_items (word ∷ []) all =
@@ -146,9 +146,9 @@ comma_items (word ∷ next ∷ more) all =
     let both = and_parts (is_line_item word) (list_all is_line_item (next ∷ more)) all in
     and_from (is_line_item word) (list_all is_line_item (comma (next ∷ more))) both.0 (comma_items (next ∷ more) both.1)
 
--- a person
+-- ---- a person
 
--- appended lists of words have a space between them
+-- appended non-empty lists of words have a space between them
 pub spaced_then : (xs ys : List (List ℕ)) → 0 < length xs → 0 < length ys → spaced (xs ++ ys) ≡ spaced xs ++ (32 ∷ spaced ys)
 spaced_then [] ys some more = absurd (omega arith)
 spaced_then (x ∷ xs) [] some more = absurd (omega arith)
@@ -159,7 +159,7 @@ spaced_then (x ∷ xs) (y ∷ ys) some more =
 abbrev pub line_items : List (List ℕ) → List (List ℕ) → List (List ℕ) → List (List ℕ)
 line_items leading_run suffix given = comma leading_run ++ (comma suffix ++ given)
 
--- the words of a person are items of a line
+-- the words of a person are items of a line if they are kept
 pub line_all : (leading_run suffix given : List (List ℕ)) → AllWords is_name_byte leading_run
     → AllWords is_name_byte suffix → AllWords is_name_byte given
     → list_all is_line_item (line_items leading_run suffix given) ≡ true
@@ -172,7 +172,7 @@ first_some : (word : List ℕ) (words : List (List ℕ)) → AllWords is_name_by
 first_some [] words all = absurd (false≢true all)
 first_some (b ∷ bs) words all = ne_eqb (suc (length (bs ++ after_words words))) 0 (λ none. omega arith)
 
--- a suffix, if any, with a comma after it, and a given name are the line of their words
+-- a suffix of kept words, if any, with a comma after it, and a given name are the line of their words
 pub suffix_line : (suffix given : List (List ℕ)) → AllWords is_name_byte suffix → 0 < length given
     → suffix_text (spaced suffix) ++ spaced given ≡ spaced (comma suffix ++ given)
 suffix_line [] given all some = refl
@@ -189,7 +189,7 @@ pub more_some : (xs ys : List (List ℕ)) → 0 < length ys → 0 < length (xs +
 more_some [] ys some = some
 more_some (x ∷ xs) ys some = omega arith
 
--- the line of a person: the words before the first comma, the comma and a space, the suffix if any, and the given name
+-- the line of a person: the words before the first comma, the comma and a space, the suffix (kept words, if any), and the given name
 pub line_spelt : (leading_run suffix given : List (List ℕ)) → 0 < length leading_run → AllWords is_name_byte suffix → 0 < length given
     → spaced (line_items leading_run suffix given) ≡ spaced leading_run ++ (44 ∷ 32 ∷ (suffix_text (spaced suffix) ++ spaced given))
 line_spelt [] suffix given none all some = absurd (omega arith)
@@ -199,7 +199,8 @@ line_spelt (f ∷ fs) suffix given first all some =
     ∙ append_assoc (spaced (f ∷ fs)) (44 ∷ []) (32 ∷ spaced (comma suffix ++ given))
     ∙ ap (λ l. spaced (f ∷ fs) ++ (44 ∷ 32 ∷ l)) (sym (suffix_line suffix given all some))
 
--- a person with a family name and a given name, and a prefix in lower case if any, is written as one normal chunk
+-- `plain_chunks` writes a person of kept words as one normal chunk,
+-- if there are a family name and a given name, and the words of the prefix, if any, begin in lower case
 pub plain_line : (prefix name suffix given : List (List ℕ)) → AllWords is_small_letter prefix → 0 < length name
     → AllWords is_name_byte suffix → 0 < length given
     → plain_chunks (person (spaced name) (spaced given) (spaced prefix) (spaced suffix))

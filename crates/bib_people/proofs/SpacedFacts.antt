@@ -24,7 +24,7 @@ is_solid word = name_begins (λ b. true) word && list_all (λ b. not (is_whitesp
 abbrev pub is_item : List ℕ → Bool
 is_item word = is_solid word && not (is_word_and word)
 
--- the ends
+-- ---- the ends
 
 solid_ends : (empty : Bool) (b : ℕ) (bs : List ℕ) → list_all (λ x. not (is_whitespace x)) (b ∷ bs) ≡ true
     → ends_in_space empty (b ∷ bs) ≡ false
@@ -42,7 +42,7 @@ after_ends (word ∷ words) all =
     ends-append true word (after_words words)
     ∙ ap (λ e. ends_in_space e (after_words words)) (word_ends true word both.0) ∙ after_ends words both.1
 
--- a line of words doesn't end in white space
+-- a line of solid words (`is_solid`) doesn't end in white space
 pub spaced_ends : (words : List (List ℕ)) → list_all is_solid words ≡ true → ends_in_space false (spaced words) ≡ false
 spaced_ends [] all = refl
 spaced_ends (word ∷ words) all =
@@ -50,7 +50,7 @@ spaced_ends (word ∷ words) all =
     ends-append false word (after_words words)
     ∙ ap (λ e. ends_in_space e (after_words words)) (word_ends false word both.0) ∙ after_ends words both.1
 
--- a line of words doesn't begin with white space
+-- a line of solid words doesn't begin with white space
 pub spaced_begins : (words : List (List ℕ)) → list_all is_solid words ≡ true
     → list_all (λ b. not (is_whitespace b)) (take 1 (spaced words)) ≡ true
 spaced_begins [] all = refl
@@ -59,7 +59,7 @@ spaced_begins ((b ∷ bs) ∷ words) all =
     let both = and_parts (is_solid (b ∷ bs)) (list_all is_solid words) all in
     and_from (not (is_whitespace b)) true (and_parts (not (is_whitespace b)) _ both.0).0 refl
 
--- two lists of words
+-- ---- two lists of words
 
 -- the texts of two lists of words, with a space before each word, are that of their concatenation
 pub after_append : (xs ys : List (List ℕ)) → after_words (xs ++ ys) ≡ after_words xs ++ after_words ys
@@ -93,13 +93,13 @@ spaced_all test space (word ∷ words) all =
     list_all-append test word (after_words words)
     ∙ and_from (list_all test word) (list_all test (after_words words)) both.0 (after_all test space words both.1)
 
--- the word `and`
+-- ---- the word `and`
 
 either : (space : Bool) (cs : List ℕ) → word_here true cs ≡ false → word_here space cs ≡ false
 either true cs none = none
 either false cs none = never cs
 
--- there is no cut at a character at which the word `and` doesn't begin
+-- if the word `and` doesn't begin at a character, and the characters after it aren't cut, the text from it on isn't cut
 step : (space : Bool) (c : ℕ) (cs : List ℕ) → word_here space (c ∷ cs) ≡ false
     → between_ands (is_whitespace c) cs ≡ cs ∷ [] → between_ands space (c ∷ cs) ≡ (c ∷ cs) ∷ []
 step space c cs here more = between_other space c cs here ∙ ap (prepend (c ∷ [])) more
@@ -154,7 +154,7 @@ after_one ((b ∷ bs) ∷ words) all =
     step false 32 (b ∷ (bs ++ after_words words)) (never (32 ∷ b ∷ (bs ++ after_words words)))
     (item true b bs words both.0 (after_one words both.1))
 
--- words that contain no word `and` are one part of an `and` list
+-- a line of non-empty words without white space, none of which is `and`, is one part of an `and` list
 pub spaced_one : (words : List (List ℕ)) → list_all is_item words ≡ true → between_ands false (spaced words) ≡ spaced words ∷ []
 spaced_one [] all = refl
 spaced_one ([] ∷ words) all = absurd (false≢true all)
@@ -162,7 +162,7 @@ spaced_one ((b ∷ bs) ∷ words) all =
     let both = and_parts (is_item (b ∷ bs)) (list_all is_item words) all in
     item false b bs words both.0 (after_one words both.1)
 
--- the words of a name
+-- ---- the words of a name
 
 -- the gap before a word: nothing before the first one, otherwise a space
 abbrev pub gap_of : Bool → List Letter
@@ -199,7 +199,7 @@ one_word b bs words solid more =
     ∙ words_word (letter false b) (letters_of bs) (letters_of (after_words words)) here (solid_letters bs both.1) (apart_after words)
     ∙ ap (λ ws. a_word [] (letters_of (b ∷ bs)) ∷ ws) more
 
--- a text of words with a space before each has these words, each after a gap
+-- a text of solid words with a space before each has these words, each after a gap
 after_words_of : (words : List (List ℕ)) → list_all is_solid words ≡ true → words_of (letters_of (after_words words)) ≡ words_at false words
 after_words_of [] all = refl
 after_words_of ([] ∷ words) all = absurd (false≢true all)
@@ -208,7 +208,7 @@ after_words_of ((b ∷ bs) ∷ words) all =
     words_gap (letter false 32 ∷ []) (letters_of (b ∷ (bs ++ after_words words))) (letters_of (b ∷ bs))
     (words_at false words) refl (one_word b bs words both.0 (after_words_of words both.1))
 
--- the words of a line are the words that it was made of
+-- the words of a line of solid words are these words
 pub spaced_words_of : (words : List (List ℕ)) → list_all is_solid words ≡ true → words_of (letters_of (spaced words)) ≡ words_at true words
 spaced_words_of [] all = refl
 spaced_words_of ([] ∷ words) all = absurd (false≢true all)

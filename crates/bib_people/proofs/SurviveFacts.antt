@@ -28,7 +28,7 @@ use Rattle.bib_people.proofs.AndLists.{empties, before_and, after_and, normal, p
 use Rattle.bib_people.proofs.CommaFacts.{stands, AreHalves, halves_at, cut_first_comma, cut_no_comma}
 use Rattle.bib_people.proofs.TextFacts.{is_text, space_small, after_space, shown_text, not_blank, letters_text, words_append, low_words, high_words, a_cut, cut_prefix, spelt_words}
 
--- one person
+-- ---- one person
 
 -- a part whose text contains no equals sign isn't in the extended format
 padded_no_equals : (before following : Bool) (text : List ℕ) → list_any (λ b. b == 61) text ≡ false
@@ -57,7 +57,8 @@ no_equals items all before following =
     (items_bytes items all)) in
     padded_no_equals before following (spaced items) none
 
--- a name that is cut before its given name is parsed as the person
+-- if the words of the prefix begin in lower case, and those of the family name in upper case,
+-- a name of kept words that is cut before its given name is parsed as the person
 with_comma_read : (before following : Bool) (prefix name given : List (List ℕ)) (suffix : List ℕ) (a c : Range ℕ)
     → AllWords is_small_letter prefix → AllWords is_capital_letter name → AllWords is_name_byte given → 0 < length name
     → 0 < length (spaced given)
@@ -103,7 +104,7 @@ pub some_words : (words : List (List ℕ)) → 0 < length (spaced words) → 0 <
 some_words [] some = some
 some_words (w ∷ ws) some = omega arith
 
--- a name that is cut at its first comma is parsed as the person
+-- the same for a name that is cut at its first comma
 after_read : (before following : Bool) (prefix name suffix given : List (List ℕ)) (a c : Range ℕ)
     → AllWords is_small_letter prefix → AllWords is_capital_letter name → AllWords is_name_byte suffix
     → AllWords is_name_byte given → 0 < length name → 0 < length (spaced given)
@@ -156,7 +157,7 @@ after_read before following prefix name ((s ∷ t) ∷ ss) given a c small capit
     (shown_text (spaced suffix) cut.left false middle)
     ∙ with_comma_read before following prefix name given (spaced suffix) a cut.right small capital any has_name has_given
 
--- a written person's line, as a part of a list, is parsed as the person
+-- the same for a person's line, as a part of a list
 name_read : (before following : Bool) (prefix name suffix given : List (List ℕ)) → AllWords is_small_letter prefix
     → AllWords is_capital_letter name → AllWords is_name_byte suffix → AllWords is_name_byte given → 0 < length name
     → 0 < length (spaced given)
@@ -196,7 +197,7 @@ name_read before following prefix name suffix given small capital tail any has_n
     (stands cut.right (trim_start rest) ∷ empties before_and following)) leading_run.end
     ∙ after_read before following prefix name suffix given cut.left cut.right small capital tail any has_name has_given
 
--- people
+-- ---- people
 
 -- a kept person consists of its words
 as_words : (p : Person) (k : IsKeptPerson p)
@@ -292,7 +293,7 @@ person_part p k =
     ∙ and_from _ _ (all_any is_small_letter k.prefix.words k.prefix.kept)
     (all_any is_capital_letter k.name.words k.name.kept)) k.suffix.kept k.given_name.kept)
 
--- the chunks of people
+-- the chunks of kept people
 abbrev lines : (people : List Person) → AllKept people → List Chunk
 lines [] all = []
 lines (p ∷ people) all = Normal (spaced (line_of p all.0)) ∷ lines people all.1
@@ -301,14 +302,14 @@ all_parts : (people : List Person) (all : AllKept people) → AllParts (lines pe
 all_parts [] all = tt
 all_parts (p ∷ people) all = (person_part p all.0, all_parts people all.1)
 
--- people after the first one are written as their lines
+-- kept people after the first one are written as their lines
 after_written : (people : List Person) (all : AllKept people) → people_from false people ≡ written_after (lines people all)
 after_written [] all = refl
 after_written (p ∷ people) all =
     ap (λ l. normal (codes " and ") ∷ (l ++ people_from false people)) (person_written p all.0)
     ∙ ap (λ l. normal (codes " and ") ∷ normal (spaced (line_of p all.0)) ∷ l) (after_written people all.1)
 
--- the parts of written people are parsed as the people
+-- the parts of written kept people are parsed as the people
 parts_read : (before : Bool) (p : Person) (people : List Person) (k : IsKeptPerson p) (all : AllKept people)
     → map person_of (padded_parts before (Normal (spaced (line_of p k))) (lines people all)) ≡ p ∷ people
 parts_read before p [] k all = ap (λ x. x ∷ []) (person_read p k before false)

@@ -23,7 +23,7 @@ use Rattle.bib_people.proofs.AndLists.{formatted_empties, empties, before_and, a
 use Rattle.bib_people.proofs.CommaFacts.{is_comma, stands}
 use Rattle.bib_people.proofs.CutFacts.{through_none}
 
--- the text of words
+-- ---- the text of words
 
 -- a byte of a name or a space
 abbrev is_text_byte : ℕ → Bool
@@ -100,7 +100,7 @@ space_small text ascii (suc k) = ascii k
 pub after_space : (text : List ℕ) → IsText text → trim_start (32 ∷ text) ≡ text
 after_space text is = start_one text (space_small text is.ascii) is.ascii is.skips
 
--- parts of a name, with or without empty chunks around them
+-- ---- parts of a name, with or without empty chunks around them
 
 -- a text of words, with or without an empty chunk after it, is formatted to itself
 formatted_text : (text : List ℕ) (span : Range ℕ) (following : Bool) → IsText text
@@ -115,7 +115,7 @@ pub shown_text : (text : List ℕ) (span : Range ℕ) (following : Bool) → IsT
 shown_text text span following is =
     ap (λ cs. trim (encode_utf8_all cs)) (formatted_text text span following is) ∙ ap trim is.spelt ∙ trim_same text is
 
--- such chunks aren't formatted to nothing
+-- if the text isn't empty, such chunks aren't formatted to nothing
 pub not_blank : (text : List ℕ) (span : Range ℕ) (following : Bool) → IsText text → 0 < length text
     → formats_to_nothing (stands span text ∷ empties before_and following) ≡ false
 not_blank text span following is some =
@@ -130,14 +130,14 @@ letters_text false text span is = append-nil (letters_of (chars text)) ∙ ap le
 letters_text true text span is = ap (λ l. letters_of l ++ (letters_of (chars text) ++ [])) chars-nil
     ∙ append-nil (letters_of (chars text)) ∙ ap letters_of is.same
 
--- prefix and name
+-- ---- prefix and name
 
 pub words_append : (first : Bool) (xs ys : List (List ℕ))
     → (second : Bool) × (words_at first (xs ++ ys) ≡ words_at first xs ++ words_at second ys)
 words_append first [] ys = (first, refl)
 words_append first (x ∷ xs) ys = let more = words_append false xs ys in (more.0, ap (λ l. a_word (gap_of first) (letters_of x) ∷ l) more.1)
 
--- words that begin in lower case are low
+-- kept words that begin in lower case are low
 pub low_words : (first : Bool) (words : List (List ℕ)) → AllWords is_small_letter words → list_all is_low (words_at first words) ≡ true
 low_words first [] all = refl
 low_words first ([] ∷ words) all = absurd (false≢true all)
@@ -147,7 +147,7 @@ low_words first ((b ∷ bs) ∷ words) all =
     and_from (is_lowercase b) (list_all is_low (words_at false words))
     (and_parts (is_lowercase b) _ (small_low b small)).0 (low_words false words both.1)
 
--- words that begin in upper case aren't low
+-- kept words that begin in upper case aren't low
 pub high_words : (first : Bool) (words : List (List ℕ)) → AllWords is_capital_letter words
     → list_all (λ w. not (is_low w)) (words_at first words) ≡ true
 high_words first [] all = refl
@@ -187,7 +187,7 @@ no_words test (y ∷ ys) all =
 abbrev pub a_cut : ℕ → Cuts
 a_cut prefix = record { given = 0; prefix = prefix }
 
--- low words before others that aren't low are the prefix
+-- low words before one or more that aren't low are the prefix
 pub cut_prefix : (xs ys : List Word) → list_all is_low xs ≡ true → list_all (λ w. not (is_low w)) ys ≡ true → 0 < length ys
     → before_comma (xs ++ ys) ≡ record { given = 0; prefix = length xs }
 unfolding before_comma

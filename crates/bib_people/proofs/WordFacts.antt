@@ -11,7 +11,7 @@ use Rattle.bib_people.specs.Letters.{Letter, is_gap, gap_len, word_len, Word, a_
 abbrev pub letter : Bool → ℕ → Letter
 letter is_verbatim c = record { char = c; is_verbatim = is_verbatim }
 
--- the run at the start of a list
+-- ---- the run at the start of a list
 
 -- the run at the start of a list is one longer if the first element passes the test
 one_passes : {A : Type 0} (p : A → Bool) (x : A) (xs : List A) → p x ≡ true → prefix_len p (x ∷ xs) ≡ suc (prefix_len p xs)
@@ -39,9 +39,9 @@ after_fails p (x ∷ xs) b bs is =
     let first : x ≡ b = cc in ap p (sym first) ∙ no)
     (cases_Bool (p x))
 
--- words
+-- ---- words
 
--- words with a gap before the first one
+-- whether there are no words, or a gap is before the first one
 abbrev pub stand_apart : List Word → Bool
 stand_apart [] = true
 stand_apart (word ∷ words) = not (length word.gap == 0)
@@ -80,7 +80,7 @@ words_word l (m ∷ inside) after no_gap all apart =
     let more = words_word m inside after (not-true (is_gap m) both.0) both.1 apart in
     rw (more, no_gap) refl
 
--- no words at all stand apart from a word before them
+-- `stand_apart` holds for an empty list of words
 pub apart_end : stand_apart (words_of []) ≡ true
 apart_end = refl
 
@@ -150,7 +150,7 @@ pub word_pushed : (all new : List Word) (word : Word) (words rest total : List W
 word_pushed all new word words rest total pushed here is =
     ap (λ l. l ++ words) pushed ∙ append_assoc all (word ∷ []) words ∙ ap (λ l. all ++ l) (sym here) ∙ is
 
--- texts
+-- ---- texts
 
 -- the text of letters, in bytes
 abbrev pub spelt : List Letter → List ℕ

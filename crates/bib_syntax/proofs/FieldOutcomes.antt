@@ -86,7 +86,7 @@ line_comment_found percent rest =
     let line = run_found (λ c. not (c == 10)) rest in
     found_as (omega arith) line (record { inside = _; sign = percent; line = line.rule })
 
--- a gap matches at each place
+-- a gap matches at each place with `Left`
 pub gap_found : {n : ℕ} {u : Place} → Left n u → RuleEnd n (Gap longest u)
 gap_found left =
     let white = run_found is_whitespace left in

@@ -1,4 +1,4 @@
--- Each text has a raw reading or an error, and has a recovery.
+-- Each UTF-8 text has a raw reading or an error, and has a recovery.
 use Rattle.std.proofs.Common.{◌≡◌, ◌⊎◌, ℕ, zero, suc, ◌<◌, arith, Bool, true, false, List, [], ◌∷◌, ◌∙◌, inl, inr, refl, sym, subst}
 use Rattle.std.specs.Prelude.{not, ◌==◌, take}
 use Rattle.std.specs.Char.{is_whitespace}
@@ -183,7 +183,7 @@ data Step (n : ℕ) (u : Place) : Type 0 where
   line_comment : {m : ℕ} {v : Place} → LineComment u v → Left m v → m < n → Step n u
   at_sign : {m : ℕ} {v : Place} → CharAt u 64 v → Left m v → m < n → Step n u
 
--- one of these four steps applies at each place
+-- one of these four steps applies at each place with `Left`
 next_step : {n : ℕ} {u : Place} → Left n u → Step n u
 next_step (Left.none end) = Step.ended end
 next_step (Left.more {c = c} char rest) = elim (cases_Bool (c == 64)) [
@@ -196,7 +196,7 @@ next_step (Left.more {c = c} char rest) = elim (cases_Bool (c == 64)) [
   ]
 ]
 
--- from each place there is a raw reading or a reported error
+-- from each place with `Left` there is a raw reading or a reported error
 pub file_case : (bound : ℕ) {n : ℕ} {u : Place} → n < bound → Left n u → FileCase u
 file_case zero below left = absurd (omega (arith, below))
 file_case (suc bound) below left = elim (next_step left) [
@@ -227,7 +227,7 @@ line_case {u} {v} c char = elim (cases_Bool (c == 64)) [
   ]
 ]
 
--- from each place there is a place where recovery continues
+-- from each place with `Left` there is a place where recovery continues
 goes_on_found : {n : ℕ} {u : Place} → Left n u → RuleEnd n (GoesOnAt u)
 goes_on_found (Left.none end) = found_at (omega arith) (Left.none {n = zero} end) (record { passed = passed.stop; stands = inl end })
 goes_on_found {u = u} (Left.more {c = c} char rest) =
@@ -248,7 +248,7 @@ goes_on_found {u = u} (Left.more {c = c} char rest) =
 abbrev OpeningAt : Place → Place → Type 0
 OpeningAt u v = (p : Part) × Opening u p v
 
--- white space and line comments match at each place
+-- white space and line comments match at each place with `Left`
 comments_found : (bound : ℕ) {n : ℕ} {u : Place} → n < bound → Left n u → RuleEnd n (Comments u)
 comments_found zero below left = absurd (omega (arith, below))
 comments_found (suc bound) below left =
@@ -291,7 +291,7 @@ opening_found char left = elim (name_outcome left) [
       ]
 ]
 
--- complete fields match at each place
+-- complete fields match at each place with `Left`
 fields_kept : (bound : ℕ) {n : ℕ} {u : Place} → n < bound → Left n u → (fs : List FieldReading) × (v : Place) × CompleteFields u fs v
 fields_kept zero below left = absurd (omega (arith, below))
 fields_kept (suc bound) {u = u} below left = elim (name_outcome left) [
@@ -352,7 +352,7 @@ keeps_found true {u} {v} {w} char on =
 abbrev RecoveredFrom : Bool → Place → Type 0
 RecoveredFrom keeps u = (says : FileReading) × (errors : List SkippedBlock) × Recovered keeps u says errors
 
--- there is a recovery from each place on
+-- there is a recovery from each place with `Left` on
 pub recovery_found : (keeps : Bool) (bound : ℕ) {n : ℕ} {u : Place} → n < bound → Left n u → RecoveredFrom keeps u
 recovery_found keeps zero below left = absurd (omega (arith, below))
 recovery_found keeps (suc bound) below left = elim (next_step left) [

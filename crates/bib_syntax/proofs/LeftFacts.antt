@@ -16,7 +16,7 @@ pub data Left : ℕ → Place → Type 0 where
   none : {n : ℕ} {u : Place} → AtEnd u → Left n u
   more : {n : ℕ} {u v : Place} {c : ℕ} → CharAt u c v → Left n v → Left (suc n) u
 
--- a place is the end of its text, or a character is there
+-- a place with `Left` is the end of its text, or a character is there
 pub end_or_char : {n : ℕ} {u : Place} → Left n u → AtEnd u ⊎ ((c : ℕ) × (v : Place) × CharAt u c v)
 end_or_char (Left.none end) = inl end
 end_or_char (Left.more char rest) = inr (_, _, char)
@@ -61,7 +61,7 @@ pub outcome_within : {m n : ℕ} {Rule : Place → Type 0} {Fails : ParseErrorKi
 outcome_within fits (Outcome.read f) = Outcome.read (found_as fits f f.rule)
 outcome_within fits (Outcome.fails f) = Outcome.fails f
 
--- a longest run matches at each place
+-- a longest run matches at each place with `Left`
 pub run_found : (test : ℕ → Bool) {n : ℕ} {u : Place} → Left n u → RuleEnd n (Longest test u)
 run_found test (Left.none end) = found_at (omega arith) (Left.none {n = zero} end) (record { run = stop; stops = stops_at_end test end })
 run_found test {u = u} (Left.more {c = c} char rest) =

@@ -457,7 +457,7 @@ same_entry {u} {r = r} text e here b at =
 at_not_skipped : (c : ℕ) → is_skipped c ≡ true → c ≡ 64 → ⊥
 at_not_skipped c passes is = let fails : is_skipped 64 ≡ true = subst (λ d. is_skipped d ≡ true) is passes in cc
 
--- recovery from a reached place on finds each entry that could be parsed and doesn't begin before it
+-- `Found` holds, for a recovery from a reached place on, of each entry that could be parsed and doesn't begin before it
 pub nothing_lost : {keeps : Bool} {w : Place} {says : FileReading} {errors : List SkippedBlock} (text : List ℕ) (e : EntryReading)
     → Reached (place text 0) w → w.text ≡ text → w.at ≤ e.start → IsBlockOf text e → Recovered keeps w says errors
     → Found errors (place text e.start) says e

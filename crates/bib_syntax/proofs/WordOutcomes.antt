@@ -101,7 +101,7 @@ quote_step {u = u} {v = v} {c = c} char rest here hides fits hidden = elim (case
 quote_end : {n : ℕ} {u : Place} → AtEnd u → QuoteCase n u
 quote_end end = inr (λ w x. quote.quoted_stuck (stops_at_end is_quotable end) (λ v. no_char_at_end end) (λ v. no_char_at_end end))
 
--- at each place, a quote closes the text or none does
+-- at each place with `Left`, a quote closes the text or none does
 quote_case : {n : ℕ} {u : Place} → Left n u → QuoteCase n u
 quote_case (Left.none end) = quote_end end
 quote_case (Left.more {n = n} char (Left.none end)) =
@@ -181,7 +181,7 @@ brace_step depth {u = u} {v = v} {c = c} char rest here hides fits hidden = elim
 brace_end : (depth : ℕ) {n : ℕ} {u : Place} → AtEnd u → BraceCase depth n u
 brace_end depth end = inr (λ x y. brace.closes_end end)
 
--- at each place with `depth` open braces, a brace closes the text after these braces are closed, or none does
+-- at each place with `Left` and `depth` open braces, a brace closes the text after these braces are closed, or none does
 brace_case : (depth : ℕ) {n : ℕ} {u : Place} → Left n u → BraceCase depth n u
 brace_case depth (Left.none end) = brace_end depth end
 brace_case depth (Left.more {n = n} char (Left.none end)) =

@@ -3,15 +3,15 @@ use Rattle.std.proofs.Common.{◌≡◌, Bool, true, false, cond, refl, sym}
 use Rattle.std.specs.Prelude.{◌&&◌, ◌||◌, not}
 use Rattle.std.proofs.lemmas.Bool.{and_parts, not-false, or_parts}
 
--- if no test of two is passed, the first isn't
+-- if neither of two tests passes, the first doesn't
 pub or_false_left : (x y : Bool) → (x || y) ≡ false → x ≡ false
 or_false_left x y is = (or_parts x y is).0
 
--- if no test of two is passed, the second isn't
+-- if neither of two tests passes, the second doesn't
 pub or_false_right : (x y : Bool) → (x || y) ≡ false → y ≡ false
 or_false_right x y is = (or_parts x y is).1
 
--- if both tests are passed, the second is
+-- if both tests pass, the second does
 pub and_true_right : (x y : Bool) → (x && y) ≡ true → y ≡ true
 and_true_right x y is = (and_parts x y is).1
 
@@ -25,6 +25,6 @@ pub or_grouped : (x y z : Bool) → ((x || y) || z) ≡ (x || (y || z))
 or_grouped true y z = refl
 or_grouped false y z = refl
 
--- a test whose negation fails is passed
+-- a test whose negation fails passes
 pub true_from_not : (x : Bool) → false ≡ not x → x ≡ true
 true_from_not x is = not-false x (sym is)

@@ -70,7 +70,7 @@ element_at [] i within = absurd (omega (arith, within))
 element_at (x ∷ xs) zero within = (x, refl)
 element_at (x ∷ xs) (suc i) within = element_at xs i (omega (arith, within))
 
--- the element that was put at an index is there
+-- an element that replaces the one at an index is there
 pub get_set : {A : Type 0} (xs : List A) (k : ℕ) (x y : A) → slice_get xs k ≡ Some x → slice_get (slice_set xs k y) k ≡ Some y
 get_set [] k x y here = absurd (cc)
 get_set (z ∷ zs) zero x y here = refl

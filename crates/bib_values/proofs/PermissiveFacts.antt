@@ -1,4 +1,4 @@
--- Permissive values parse from their written form.
+-- Kept permissive values parse from their written form.
 use Rattle.std.proofs.Common.{◌≡◌, Option, Some, map, List, [], ◌∷◌, refl, ap, sym, ◌∙◌, length, arith}
 use Rattle.std.specs.List.{AllByRecursion}
 use Rattle.std.specs.Prelude.{ℕ, encode_utf8_all}
@@ -17,7 +17,7 @@ use Rattle.bib_values.specs.Permissive.Permissive.{typed, as_chunks}
 use Rattle.bib_chunks.proofs.AndListFacts.{parts_format}
 use Rattle.bib_values.proofs.EnumFacts.{name_utf8}
 
--- permissive values parse from their written form if the kept values of the type do
+-- kept permissive values parse from their written form if the kept values of the type do
 pub permissive_survives : {M : Type 0} (reads : Value → Option M) (writes : M → Value) (kept : M → Type 0)
     → ((m : M) → kept m → reads (writes m) ≡ Some m) → (p : Permissive M) → PermissiveKept kept reads p
     → Some (permissive (reads (permissive_written writes p)) (permissive_written writes p)) ≡ Some p

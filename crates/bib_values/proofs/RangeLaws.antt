@@ -1,4 +1,4 @@
--- Ranges parse from their written form.
+-- Kept ranges parse from their written form.
 use Rattle.std.proofs.Common.{◌≡◌, ℕ, ◌<◌, ◌^◌, Bool, true, false, not, List, [], ◌∷◌, ◌++◌, map, refl, sym, ap, ◌∙◌, arith, append_assoc, append-nil, Some}
 use Rattle.std.specs.Prelude.{codes, ◌==◌, ◌||◌}
 use Rattle.std.specs.List.{list_all, AllByRecursion}
@@ -28,7 +28,7 @@ use Rattle.bib_values.proofs.RangeFacts.{small_yes}
 abbrev is_byte : ℕ → Bool
 is_byte b = is_ascii_digit b || b == 45
 
--- a written number consists of ASCII digits
+-- a written number below 2^32 consists of ASCII digits
 pub decimal_digits : (n : ℕ) → n < 2 ^ 32 → list_all is_ascii_digit (decimal n) ≡ true
 decimal_digits n small = all_digits _ (decimal_is_IsNumeral n (omega arith)).0.1
 
@@ -59,7 +59,7 @@ byte_plain c is = grind (arith, nat_tests)
 byte_simple : (c : ℕ) → is_byte c ≡ true → is_simple c ≡ true
 byte_simple c is = grind (arith, nat_tests)
 
--- a number parses from its digits if no digit follows
+-- a number below 2^32 parses from its digits if no digit follows
 number_decimal : (n : ℕ) (rest : List ℕ) → n < 2 ^ 32 → leading_run is_ascii_digit rest ≡ []
     → rest_after is_ascii_digit rest ≡ rest → leading_number (decimal n ++ rest) ≡ Some (n, rest)
 unfolding leading_number
@@ -74,7 +74,7 @@ number_decimal n rest small none left =
     ∙ ap (λ v. Some (v, rest_after is_ascii_digit (decimal n ++ rest))) value
     ∙ ap (λ xs. Some (n, xs)) (split_after is_ascii_digit (decimal n) rest (decimal_digits n small) left)
 
--- a written range consists of digits and a hyphen
+-- a written kept range consists of digits and hyphens
 range_bytes : (r : Range ℕ) → RangeKept r → list_all is_byte (range_text r) ≡ true
 range_bytes r kept =
     passed_append is_byte (decimal r.start ++ codes "-") (decimal r.end)

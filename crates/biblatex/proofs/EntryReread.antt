@@ -1,4 +1,4 @@
--- The file grammar, with longest runs, parses the output for entries and files.
+-- The file grammar, with longest runs, parses the output for valid entries and files.
 use Rattle.std.proofs.Common.{◌≡◌, ℕ, false, List, [], ◌∷◌, ◌++◌, length, refl, sym, ap, ◌∙◌, subst, arith, drop}
 use Rattle.std.specs.Prelude.{encode_utf8_all, codes, ◌==◌}
 use Rattle.std.specs.Char.{is_whitespace}
@@ -91,7 +91,7 @@ gap_feed feed following =
     Gap.white (record { run = step feed refl stop; stops = stops_at is_whitespace following.here following.dark })
     (stops_at (λ c. c == 37) following.here following.plain)
 
--- lines followed by a closing brace are parsed as raw fields with their names and values
+-- valid lines in UTF-8 text, followed by a closing brace, are parsed as raw fields with their names and values
 pub fields_read : (ls : List Line) {u w x : Place} → AllByRecursion IsLine ls → IsUtf8 (drop u.at u.text)
     → Stands u (flat_map line_text ls) w → CharAt w 125 x
     → (fs : List FieldReading) × Fields longest u fs w × SayLines ls fs × IsUtf8 (drop w.at w.text)
@@ -150,7 +150,7 @@ key_first : {u v w : Place} → Run is_key u v → CharAt v 44 w → Stops is_wh
 key_first stop comma = stops_at is_whitespace comma refl
 key_first (step {c = c} char passes rest) comma = stops_at is_whitespace char (key_dark c passes)
 
--- a key is a run of key characters wherever it occurs
+-- a run of key characters is such a run wherever it occurs
 key_stands : {key : List ℕ} {u v : Place} → Stands u key v → Run is_key (place key 0) (place key (length key)) → Run is_key u v
 key_stands {key} {u} {v} stands run =
     let first : moved u (place key 0) ≡ u = same_place {u = moved u (place key 0)} {v = u} refl (omega arith) in
@@ -165,7 +165,7 @@ pub record BlockRead (e : WrittenEntry) (u v : Place) : Type 0 where
   pub says : SaysEntry e said
   pub utf8 : IsUtf8 (drop v.at v.text)
 
--- the bytes of an entry are parsed as a block with one raw entry
+-- if the parts of an entry are valid, its bytes, in UTF-8 text, are parsed as a block with one raw entry
 pub block_read : (e : WrittenEntry) {u w : Place} → IsWritten e → IsUtf8 (drop u.at u.text)
     → Stands u (entry_bytes e) w → BlockRead e u w
 unfolding encode
@@ -239,7 +239,7 @@ pub record FileAgain (es : List WrittenEntry) (u : Place) : Type 0 where
   pub file : File longest u (record { preamble = []; entries = said; abbreviations = [] })
   pub says : SayEntries es said
 
--- the bytes of entries are parsed as a file with one raw entry for each
+-- if the parts of entries are valid, their bytes, up to the end of UTF-8 text, are parsed as a file with one raw entry for each
 pub file_again : (es : List WrittenEntry) {u w : Place} → AllByRecursion IsWritten es → IsUtf8 (drop u.at u.text)
     → Stands u (file_bytes es) w → AtEnd w → FileAgain es u
 unfolding encode

@@ -1,4 +1,4 @@
--- The first error of a raw bibliography lies in its text.
+-- The first error of a raw bibliography lies in its text, or is an error of a date.
 use Rattle.std.proofs.Common.{◌≡◌, ℕ, zero, suc, ◌<◌, ◌^◌, Bool, List, [], ◌∷◌, length, refl, ap, subst, arith, inl, inr, ◌⊎◌, Option, None, Some, Result, Ok, Err}
 use Rattle.std.specs.Prelude.{reverse, find, bytes_eq, option_map}
 use Rattle.std.specs.Prelude.{IfErr, slice_get}
@@ -49,12 +49,12 @@ definitions_stand text abbreviations all name definition is =
     found_has (FieldStandsIn text) (λ f. bytes_eq name f.name.text) (reverse abbreviations) f
     (turned_all (FieldStandsIn text) abbreviations [] all tt) found) is
 
--- an error at a part of the text lies in the text
+-- an error with the span of a part of the text lies in the text
 part_lies : {text : List ℕ} {p : Part} → StandsIn text p → (e : ParseError) → e.span.start ≡ p.start
     → e.span.end ≡ p.end → LiesBetween 0 (length text) e
 part_lies stands e starts ends = (omega arith, omega (arith, stands.size, starts, ends), omega (arith, stands.within, ends))
 
--- the first error of pieces lies in the text, if these and the pieces of all definitions occur in it
+-- the first error of pieces lies in a text of fewer than 2^64 bytes, if these and the pieces of all definitions occur in it
 first_error_lies : {definitions : Definitions} {is_verbatim : Bool} {path : List (List ℕ)} {pieces : List Piece}
     {e : ParseError} (text : List ℕ) → length text < 2 ^ 64
     → DefinitionsStandIn text definitions → AllByRecursion (PieceStandsIn text) pieces
@@ -71,7 +71,7 @@ first_error_lies text small definitions all (first_error.inside {definition = de
     first_error_lies text small definitions (definitions _ definition d) error
 first_error_lies text small definitions all (first_error.following says error) = first_error_lies text small definitions all.1 error
 
--- the first error of raw fields lies in the text, if these and the pieces of all definitions occur in it
+-- the first error of raw fields lies in a text of fewer than 2^64 bytes, if these and the pieces of all definitions occur in it
 fields_error_lies : {definitions : Definitions} {fields : List FieldReading} {e : ParseError} (text : List ℕ)
     → length text < 2 ^ 64 → DefinitionsStandIn text definitions
     → AllByRecursion (FieldStandsIn text) fields → IsFirstErrorOfFields definitions fields e → LiesBetween 0 (length text) e
@@ -80,7 +80,7 @@ fields_error_lies text small definitions all (IsFirstErrorOfFields.here error un
 fields_error_lies text small definitions all (IsFirstErrorOfFields.following read error) =
     fields_error_lies text small definitions all.1 error
 
--- the first error of raw entries lies in the text, if these and the pieces of all definitions occur in it
+-- the first error of raw entries lies in a text of fewer than 2^64 bytes, if these and the pieces of all definitions occur in it
 entries_error_lies : {definitions : Definitions} {claimed : List (List ℕ)} {said : List EntryReading} {e : ParseError}
     (text : List ℕ) → length text < 2 ^ 64
     → DefinitionsStandIn text definitions → AllByRecursion (EntryStandsIn text) said
@@ -104,7 +104,8 @@ entry_stands {text} (first ∷ rest) zero one all there = subst (EntryStandsIn t
   same e = cc
 entry_stands (first ∷ rest) (suc index) one all there = entry_stands rest index one all.1 there
 
--- the first error of a raw bibliography whose parts occur in a text lies in the text, or is an error of a date
+-- if the parts of a raw bibliography occur in a text of fewer than 2^64 bytes,
+-- its first error lies in the text, or is an error of a date
 pub error_lies : {says : FileReading} {e : ParseError} (text : List ℕ) → length text < 2 ^ 64
     → ReadingStandsIn text says → IsFirstErrorOf says e → IsOfDate e ⊎ LiesBetween 0 (length text) e
 error_lies {says} text small stands (IsFirstErrorOf.entry error) =
@@ -119,7 +120,8 @@ error_lies {says} text small stands (IsFirstErrorOf.cycle {index = index} own fi
 error_lies text small stands (IsFirstErrorOf.date own none inherits looks earlier is) =
     inl (record { kind = is.kind; is = is.is; of_dates = is.of_dates })
 
--- each error of a result lies in the text, or is out of memory or an error of a date
+-- if each error of a result is out of memory or a first error of the raw reading of a text of fewer than 2^64 bytes,
+-- it lies in the text, or is out of memory or an error of a date
 pub refused_inside : {T : Type 0} (X : Type 0) {says : FileReading} (text : List ℕ) (r : Result T ParseError)
     → length text < 2 ^ 64 → IsRawReading text says
     → IfErr r (λ e. (e ≡ out_of_memory) ⊎ (IsFirstErrorOf says e × X))

@@ -157,7 +157,7 @@ joined_again atoms at all = record {
   placed = λ high within. placed_here at high (grouped atoms) within;
 }
 
--- If the output for chunks is a valid text, so are their characters
+-- ---- the characters of the output
 
 valid_by : (v grouping reserved tilde circumflex : Bool) (c : ℕ) → (c == 126) ≡ tilde → (c == 94) ≡ circumflex
     → scalars

@@ -1,5 +1,5 @@
--- The entries that are kept of a file: loading only the kept raw entries returns the same entries. If there are no errors,
--- all raw entries are kept. If all can be loaded, there are no errors.
+-- The kept entries of a file are entries of its kept raw entries. If there are no errors, all raw entries are kept.
+-- If all can be loaded, there are no errors.
 use Rattle.std.proofs.Common.{◌≡◌, ℕ, true, cond, List, [], ◌∷◌, ◌++◌, length, refl, sym, ap, ap₂, ◌∙◌, subst, inl, inr, ◌⊎◌, ◌||◌, is_some, Option, Some, None}
 use Rattle.std.specs.List.{AllZip}
 use Rattle.std.proofs.lemmas.Bool.{both_ways}

@@ -27,7 +27,7 @@ rise_weaker : (m n : ℕ) (es : List EntryReading) → m ≤ n → Rise n es →
 rise_weaker m n [] less rise = rise
 rise_weaker m n (e ∷ es) less rise = (omega (arith, less, rise.0), rise.1)
 
--- the starts of a block's entries and of the entries after it increase: a block has at most one entry, at its start
+-- a block has at most one entry, at its start; if `Rise` holds for the entries after it, it holds with this entry too
 block_rises : {start u v : Place} {kind : Part} {k : BlockKind} {says : FileReading} (end : ℕ)
     (rest : List EntryReading) → Body longest start kind k u says v → start.at < end → Rise end rest
     → Rise start.at (says.entries ++ rest)
@@ -94,7 +94,7 @@ starts_later n (x ∷ es) (suc i) e rise is = let later = starts_later (x.start 
 same_start : {a b : EntryReading} → Some a ≡ Some b → a.start ≡ b.start
 same_start is = cc
 
--- two raw entries with the same start have the same index
+-- if the starts of raw entries increase, two with the same start have the same index
 one_index : (n : ℕ) (es : List EntryReading) (i j : ℕ) (e f : EntryReading) → Rise n es → slice_get es i ≡ Some e
     → slice_get es j ≡ Some f → e.start ≡ f.start → i ≡ j
 one_index n [] i j e f rise one other same = cc
@@ -105,7 +105,7 @@ one_index n (x ∷ es) (suc i) zero e f rise one other same =
     let later = starts_later (x.start + 1) es i e rise.1 one in absurd (omega (arith, later, same_start other, same))
 one_index n (x ∷ es) (suc i) (suc j) e f rise one other same = ap suc (one_index (x.start + 1) es i j e f rise.1 one other same)
 
--- the same kept entries have the same indices
+-- if the starts of raw entries increase, the same kept entries have the same indices
 pub origins_once : (n : ℕ) (said : List EntryReading) (one other : List ℕ) (kept : List EntryReading) → Rise n said
     → AllZip (IsKeptFrom said) one kept → AllZip (IsKeptFrom said) other kept → one ≡ other
 origins_once n said [] [] kept rise first second = refl

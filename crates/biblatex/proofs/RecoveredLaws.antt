@@ -1,4 +1,4 @@
--- Laws of recovery: it is unique, and the recovery of an accepted text is its bibliography.
+-- Laws of recovery: two recoveries of a text agree, and the recovery of an accepted text is a bibliography of it.
 use Rattle.std.proofs.Common.{◌≡◌, ℕ, zero, suc, ◌+◌, ◌<◌, ◌≤◌, Bool, true, false, List, [], ◌∷◌, ◌++◌, length, map, drop, get_or, refl, sym, ap, ◌∙◌, subst, arith, inl, inr, ◌⊎◌, Option, Some, None}
 use Rattle.std.specs.Prelude.{slice_get, slice_index_or, ◌&&◌}
 use Rattle.std.specs.List.{AllZip, list_any}
@@ -186,7 +186,7 @@ accepted_recovered {text} {bibliography} {origins} accepted r =
     let same = raw.recovery_same r.recovery (raw.all_parsed accepted.reading) in
     (same.1, r.all ∙ nothing_told (subst IsAccepted (sym same.0) accepted.accepted) r.entries r.resolved)
 
--- ---- recovery is unique
+-- ---- two recoveries agree
 
 -- errors that agree as errors of pieces agree as errors of a file
 each_weaker : (errors faults : List ParseError) → AllZip AreOneError errors faults → AllZip AreOneErrorOf errors faults

@@ -104,7 +104,7 @@ refused {says} r e is (inr error) =
 not_accepted : {says : FileReading} (text : List ℕ) → IsRawReading text says → (IsAccepted says → ⊥) → IsAcceptedText text → ⊥
 not_accepted text reads none accepted = none (subst IsAccepted (file_same accepted.reading reads) accepted.accepted)
 
--- an error of a raw bibliography is an error of its text, which is then not accepted
+-- a first error of a raw bibliography is an error of its text, which is then not accepted
 pub refused_text : {T : Type 0} {says : FileReading} (text : List ℕ) (r : Result T ParseError) → IsRawReading text says
     → IfErr r (λ e. (e ≡ out_of_memory) ⊎ (IsFirstErrorOf says e × (IsAccepted says → ⊥)))
     → IfErr r (λ e. (e ≡ out_of_memory) ⊎ (IsErrorOf text e × (IsAcceptedText text → ⊥)))
@@ -112,7 +112,7 @@ refused_text text (Ok x) reads h = tt
 refused_text text (Err e) reads (inl memory) = inl memory
 refused_text text (Err e) reads (inr error) = inr (IsErrorOf.first reads error.0, not_accepted text reads error.1)
 
--- an error for a text that the file grammar doesn't accept is an error of the text, which is not accepted
+-- unless it is out of memory, an error for a text that the file grammar doesn't accept is an error of the text, which isn't accepted
 pub refused_syntax : {text : List ℕ} {e : ParseError} → Refuses text e (IsFile text → ⊥)
     → (e ≡ out_of_memory) ⊎ IsReported text e → (e ≡ out_of_memory) ⊎ (IsErrorOf text e × (IsAcceptedText text → ⊥))
 refused_syntax (inl memory) reported = inl memory

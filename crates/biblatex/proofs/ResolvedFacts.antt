@@ -1,4 +1,4 @@
--- The bibliography of a file is unique: its own entries, and the entries after inheriting.
+-- The styled texts of a file's bibliography are unique: those of its own entries, and those after inheriting.
 use Rattle.std.proofs.Common.{◌≡◌, ℕ, ◌+◌, ◌<◌, List, [], ◌∷◌, ◌++◌, Bool, true, false, cond, length, get_or, drop, map, refl, sym, ap, ◌∙◌, subst, arith, Option, Some, None, option_map, length-append, MatchOption}
 use Rattle.std.specs.Prelude.{◌&&◌, ◌||◌, find}
 use Rattle.std.specs.List.{list_any}
@@ -94,7 +94,7 @@ keys_go {definitions} claimed (AreEntries.next {said = s} {rest = rest} {entry =
     (keys_go (claimed ++ claims a) following
     (subst (λ names. AreEntries definitions (claimed ++ names) rest bs) (claims_same b a is' is) after'))
 
--- adding entries with the same claims gives the same names
+-- adding entries with the same claims to bibliographies of the same length and with the same names gives the same names
 pub names_go : (l m : Bibliography) (a b : List Entry) → length l.entries ≡ length m.entries → l.names ≡ m.names
     → map claims a ≡ map claims b → (loaded_after l a).names ≡ (loaded_after m b).names
 names_go l m [] [] n e c = e
@@ -164,7 +164,7 @@ names_below own =
 
 -- ---- the solution is unique
 
--- two solutions of one graph without cycles are equal
+-- if each name points to an entry and the graph has no cycle, two solutions are equal
 pub solutions_by : (names : ByText ℕ) (own : List Entry) (a b : List EntryTexts) → AreIndicesBelow (length own) names
     → HasNoCycle (graph_by names own)
     → Inherits (texts_of_entries own) (graph_by names own) a → Inherits (texts_of_entries own) (graph_by names own) b → a ≡ b

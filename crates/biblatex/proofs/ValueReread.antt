@@ -166,7 +166,7 @@ spelt false c rest settled hyphen space =
           ]
     ]
 
--- the output for a character, before text that parses, parses as the character
+-- if `IsSpelt` holds for a character, its output, before text that parses, parses as the character
 put : {v : Bool} {c : ℕ} {rest : List ℕ} {atoms : List Atom} (depth : ℕ) → IsSpelt v c rest → Reads v depth rest atoms
     → Reads v depth (char_spelling v c ++ rest) (character depth c ∷ atoms)
 put {v} {c} {rest} {atoms} depth one read =
@@ -342,7 +342,7 @@ read_opening {v} {rest} read =
     next {u = ContentUnit.opening} {inner = []} (record { fits = refl; spells = refl }) refl
     (λ text holds. no_text holds) read
 
--- math without a dollar sign, before text that parses, parses as math
+-- outside verbatim fields, math without a dollar sign, before text that parses, parses as math
 read_math : (depth : ℕ) (text rest : List ℕ) (atoms : List Atom) → list_any (λ c. c == 36) text ≡ false
     → Reads false depth rest atoms → Reads false depth (36 ∷ (text ++ 36 ∷ rest)) (Atom.math text ∷ atoms)
 read_math depth text rest atoms none read =

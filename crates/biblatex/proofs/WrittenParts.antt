@@ -96,7 +96,7 @@ settled_rest : (v : Bool) (f : ℕ → Atom) (cs : List ℕ) (atoms : List Atom)
 settled_rest v f [] atoms each = each
 settled_rest v f (c ∷ cs) atoms each = settled_rest v f cs atoms each.1
 
--- the output for a chunk and then for others is balanced if that for the others is
+-- the output for a settled chunk and then for settled others is balanced if that for the others is
 parts_chunk : (v o : Bool) (chunk : Chunk) (rest : List (Spanned Chunk)) {u w : Place}
     → AllByRecursion (IsSettledAtom v) (atoms_of chunk ++ styled rest)
     → ((b : Bool) (x : Place) → AllByRecursion (IsSettledAtom v) (styled rest) → Spells x (written_chunks v b rest) w → PartsOf b x w)

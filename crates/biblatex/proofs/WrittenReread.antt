@@ -162,7 +162,7 @@ same_rule name =
         refl
     go (inr first_not) (inr second_not) (inr third_not) = rw (first_not, second_not, third_not) refl
 
--- The output for entries
+-- ---- the output for entries
 
 -- the line of a field in the output
 abbrev pub line_of : List ℕ × Value' → Line
@@ -221,7 +221,7 @@ all_written : (es : List Entry) → AllByRecursion IsSettledEntry es → AllByRe
 all_written [] all = tt
 all_written (e ∷ es) all = (written_right e all.0, all_written es all.1)
 
--- the output for settled entries is parsed as a raw bibliography with the parts of these entries
+-- if the output for settled entries is valid UTF-8, it is parsed as a raw bibliography with the parts of these entries
 pub entries_again : (es : List Entry) → AllByRecursion IsSettledEntry es → IsUtf8 (entries_text biblatex_entry es)
     → FileAgain (map written_of es) (place (entries_text biblatex_entry es) 0)
 entries_again es settled utf8 =
