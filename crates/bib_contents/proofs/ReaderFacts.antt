@@ -171,7 +171,7 @@ unit_longer is_verbatim (ContentUnit.copied c) rest right = omega arith
 unit_longer is_verbatim (ContentUnit.formula text) rest right = omega arith
 unit_longer is_verbatim (ContentUnit.other c) rest right = omega arith
 
--- the text after a unit and the argument of the unit are shorter than the text before it
+-- the text after a unit, and the unit's argument in braces, are shorter than the text that begins with the unit
 pub unit_shorter : {is_verbatim : Bool} {u : ContentUnit} {text rest : List ℕ} → IsNext is_verbatim u text rest
     → (length rest < length text) × (inner_length u < length text)
 unit_shorter {is_verbatim} {u} {text} {rest} one =

@@ -80,8 +80,8 @@ impl<'s> Frame<'s> {
         self.is_flat || self.depth == 0
     }
 
-    // Writes a run of ordinary characters, and parses the unit after it, if there is one. The text begins at byte
-    // `offset` of the file.
+    // Appends a run of ordinary characters to `text`, and parses the unit after it, if there is one. The text that `s`
+    // reads begins at byte `offset` of the file.
     fn next(
         &mut self,
         text: &mut String,

@@ -42,7 +42,7 @@ abbrev pub is_foreign : List ℕ → Bool
 is_foreign name =
     is_known_name foreign_fields name || list_any (λ prefix. begins_in_any_case prefix name) foreign_prefixes
 
--- the fields of entries that other programs write for themselves, in order
+-- those fields of the entries, in order, that other programs write for themselves
 abbrev pub foreign_among : List EntryReading → List FieldReading
 foreign_among entries = filter (λ f. is_foreign f.name.text) (flat_map (λ e. e.fields) entries)
 

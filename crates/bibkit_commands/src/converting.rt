@@ -161,7 +161,8 @@ fn print_selected<K: Sink>(
     print_wanted(alloc, target, is_first, &keys, printed, output)
 }
 
-// Prints the entries of a file's text that meet all conditions. If parsing it as a bibliography fails, reports the error.
+// Prints the entries of a file's text that meet all conditions; in CSL-JSON and RIS no `xdata` entries. If parsing it as a bibliography
+// fails, reports the error.
 fn convert_text<K: Sink>(
     rt: &HostRuntime,
     converting: &Converting<'_>,
@@ -187,8 +188,8 @@ fn convert_text<K: Sink>(
     }
 }
 
-// Prints the entries of a file that meet all conditions. If the file can't be read, or parsing it as a bibliography fails, reports the
-// error.
+// Prints the entries of a file that meet all conditions; in CSL-JSON and RIS no `xdata` entries. If the file can't be read, or parsing
+// it as a bibliography fails, reports the error.
 fn convert_file<K: Sink>(
     rt: &HostRuntime,
     converting: &Converting<'_>,
@@ -231,8 +232,8 @@ fn print_end<K: Sink>(
     }
 }
 
-// Prints the entries of files that meet all conditions, and returns the greatest status of a file. With conditions, the status is at least
-// 1 if no entry is printed.
+// Prints the entries of files that meet all conditions; in CSL-JSON and RIS no `xdata` entries. Returns the greatest status of a file.
+// With conditions, the status is at least 1 if no entry is printed.
 fn convert_files(
     rt: &HostRuntime,
     converting: &Converting<'_>,

@@ -250,7 +250,7 @@ begins_written test of v true [] fails = of.closes
 begins_written test of v false [] fails = refl
 begins_written test of v o (c ∷ rest) fails = begins_chunk test of v o c.v rest (λ b. begins_written test of v b rest) fails
 
--- the tests for hyphens and for white space are such tests
+-- the tests for hyphens and for white space fail for a backslash, a brace and a dollar sign
 hyphens_of : IsOfCharacters (λ c. c == 45)
 hyphens_of = record { slash = refl; opens = refl; closes = refl; dollar = refl }
 

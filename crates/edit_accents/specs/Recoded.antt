@@ -45,8 +45,8 @@ abbrev pub changes_piece : Form → Piece → Bool
 changes_piece form (literal p) = not (bytes_eq (text_recoded form p.text) p.text)
 changes_piece form (abbreviation p) = false
 
--- whether a field with a name is one of another program, whose value also occurs elsewhere. These are groups of JabRef, groups and tags
--- of Mendeley, and the path of a file for BibDesk
+-- whether a field with this name belongs to another program, and its value also occurs elsewhere. Such fields contain groups of JabRef,
+-- groups or tags of Mendeley, or the path of a file for BibDesk.
 abbrev pub is_program_field : List ℕ → Bool
 is_program_field name =
     str_eq_ignore_ascii_case name (codes "groups") || str_eq_ignore_ascii_case name (codes "mendeley-groups")

@@ -33,7 +33,7 @@ use Rattle.edit_entries.proofs.NameStandsFacts.{name_stands}
 
 -- ---- one field
 
--- a field that can be inserted: its name is a name, and its value parses to its pieces anywhere
+-- a field that can be inserted: its name is an identifier, and its value parses to its pieces before each text that may follow a value
 pub record CanBePut (n : NewField) : Type 0 where
   pub name : CanBeName n.name
   pub value : CanBeRead n.value

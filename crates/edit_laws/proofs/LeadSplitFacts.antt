@@ -41,7 +41,7 @@ split_comma xs rest all =
     split_more xs (44 ∷ rest) [] (slice_split is_comma rest) all (slice_split-cons_yes is_comma 44 rest refl)
     ∙ ap (λ l. l ∷ slice_split is_comma rest) (append-nil xs)
 
--- elements without commas that are joined by commas are split into themselves
+-- one or more elements without commas, joined by commas, are split into the same elements
 split_joined : (f : List ℕ → List ℕ) (x : List ℕ) (xs : List (List ℕ)) → AllByRecursion (λ e. LacksComma (f e)) (x ∷ xs)
     → slice_split is_comma (join_by f (44 ∷ []) (x ∷ xs)) ≡ map f (x ∷ xs)
 split_joined f x [] all = split_more (f x) [] [] [] all.0 refl ∙ ap (λ l. l ∷ []) (append-nil (f x))

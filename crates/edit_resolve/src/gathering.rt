@@ -64,7 +64,7 @@ fn push_new<'a, 's>(
     Ok(())
 }
 
-// Offers a field of a parent that `xdata` names to `push_new`, if the field is inherited.
+// Passes a field of a parent to `push_new`, if its name can be inherited through `xdata`.
 fn push_passed<'a, 's>(
     gathered: &mut Gathered<'a, 's>,
     alloc: Global,

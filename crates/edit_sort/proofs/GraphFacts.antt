@@ -1,4 +1,4 @@
--- The longest chains in a graph, computed in a topological order of the graph without the references on cycles.
+-- The longest chains in a graph, computed in a topological order of the graph without the references of indices on cycles.
 use Rattle.std.proofs.Common.{◌≡◌, ℕ, zero, suc, ◌+◌, ◌<◌, Bool, true, false, cond, max, min, List, [], ◌∷◌, get_or, length, map, refl, sym, ap, ◌∙◌, subst, arith}
 use Rattle.std.specs.Prelude.{◌||◌}
 use Rattle.std.specs.List.{All, Contains, list_any}
@@ -65,7 +65,7 @@ longest_on_cycle graph most index cycle =
 no_edge : (r : ℕ) → Contains [] r → ⊥
 no_edge r edge = omega (arith, edge.1)
 
--- ---- without the references on cycles
+-- ---- without the references of indices on cycles
 
 module _ (graph left : Graph) (marks : List Bool) (is_cut : AreCyclesCut graph marks left) (on : AreOnCycles graph marks) where
   edge_kept : (a r : ℕ) → Contains (refs_of left a) r → Contains (refs_of graph a) r

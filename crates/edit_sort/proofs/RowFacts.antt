@@ -1,4 +1,4 @@
--- Rows of children with one more reference, and rows without the references on cycles.
+-- Rows of children with one more reference, and rows without the references of indices on cycles.
 use Rattle.std.proofs.Common.{◌≡◌, ◌≢◌, inl, inr, ℕ, ◌+◌, ◌<◌, ◌≤◌, Bool, true, false, cond, List, [], ◌∷◌, ◌++◌, length, set, take, refl, sym, ap, ◌∙◌, subst, arith}
 use Rattle.std.specs.Prelude.{◌==◌, ◌&&◌, ◌||◌}
 use Rattle.std.specs.List.{list_any}
@@ -33,7 +33,7 @@ child_added graph at child within test index =
           ∙ ap (λ b. list_any test (refs_of graph index) || (b && test child)) (sym other.0)
     ]
 
--- ---- rows without the references on cycles
+-- ---- rows without the references of indices on cycles
 
 -- the references of the marked indices below `i` are removed
 pub record AreFirstCut (graph : Graph) (marks : List Bool) (i : ℕ) (left : Graph) : Type 0 where

@@ -183,7 +183,7 @@ line_read b name text can_name can_text =
 
 -- ---- lines before a text
 
--- a reading after definitions
+-- a reading with these definitions before its own
 abbrev pub after_definitions : List FieldReading → FileReading → FileReading
 after_definitions definitions says = record says { abbreviations = definitions ++ says.abbreviations }
 
