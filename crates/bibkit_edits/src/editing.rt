@@ -36,7 +36,6 @@ use edit_strings::errors::ExpandError;
 use edit_strings::expanding::expand;
 use std::alloc::{AllocError, Global};
 use std::collections::BTreeSet;
-use std::mem;
 
 // The reason for refusing one edit of a document.
 #[derive(Debug, Drop)]
@@ -328,29 +327,17 @@ fn refusal(step: Step, index: usize) -> Refusal
     }
 }
 
-// Applies an edit to a text, and returns the new text. `index` is the index of the edit, for its refusal. If `is_last`, the parsed text
-// isn't freed, since the program soon ends.
-fn edit_once(
-    alloc: Global,
-    text: &str,
-    edit: &Edit<'_>,
-    index: usize,
-    is_last: bool,
-) -> Result<String, Refusal>
+// Applies an edit to a text, and returns the new text. `index` is the index of the edit, for its refusal.
+fn edit_once(alloc: Global, text: &str, edit: &Edit<'_>, index: usize) -> Result<String, Refusal>
     ensures made { IfOk result (λ new. IsMade edit.now text.now (string_bytes new)) }
     ensures refused { IfErr result (IsTextRefused edit.now text.now index) }
 {
-    let document = match RawDocument::parse(alloc, text) {
-        Ok(document) => document,
-        Err(error) => return Err(file_refusal(error)),
-    };
-    let edited = edit_safely(alloc, &document, edit);
-    if is_last {
-        mem::forget(document);
-    }
-    match edited {
-        Ok(new) => Ok(new),
-        Err(step) => Err(refusal(step, index)),
+    match RawDocument::parse(alloc, text) {
+        Ok(document) => match edit_safely(alloc, &document, edit) {
+            Ok(new) => Ok(new),
+            Err(step) => Err(refusal(step, index)),
+        },
+        Err(error) => Err(file_refusal(error)),
     }
 }
 
@@ -365,15 +352,14 @@ fn latest<'a>(new: &'a Option<String>, first: &'a str) -> &'a str
 }
 
 /// Applies edits to a text, each to the text after the previous one, and returns the new text. Without edits, returns `text`. If an edit
-/// is refused, returns its refusal. Never frees the text that it parsed for the last edit: the call is for a program that soon ends.
+/// is refused, returns its refusal.
 pub fn edit_text(alloc: Global, text: &str, edits: &[Edit<'_>]) -> Result<String, Refusal>
     ensures made { IfOk result (λ new. AreMade edits.now text.now (string_bytes new)) }
     ensures refused { IfErr result (AreRefused edits.now text.now) }
 {
     let mut new = None;
     'edits: for (index, edit) in edits.iter().enumerate() {
-        let is_last = index + 1 == edits.len();
-        new = Some(edit_once(alloc, latest(&new, text), edit, index, is_last)?);
+        new = Some(edit_once(alloc, latest(&new, text), edit, index)?);
     }
     match new {
         Some(new) => Ok(new),
