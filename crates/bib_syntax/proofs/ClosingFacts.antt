@@ -113,8 +113,8 @@ pub braces_same : {u v : Place} (text opened : List ℕ) (found : List Closing) 
 braces_same {u} {v} text opened found same braces = subst (λ p. AreBracesAt text opened found p) (sym same) braces
 
 -- at the start of a text, no brace is open and none is closed
-pub no_braces : (text : List ℕ) → AreBracesAt text [] [] (place text 0)
-no_braces text = record { same = refl; closings = λ k d below. absurd (omega (arith, below)); opens = _ }
+pub no_braces : (text : List ℕ) (here : Place) → here.text ≡ text → AreBracesAt text [] [] here
+no_braces text here same = record { same = same; closings = λ k d below. absurd (omega (arith, below)); opens = _ }
 
 -- `AllBetween` from an equal place
 pub moved_all : {Holds : ℕ → Type 0} {u v w : Place} → u ≡ v → AllBetween Holds u w → AllBetween Holds v w

@@ -10,6 +10,7 @@ pub mod FieldOutcomes
 pub mod FileFacts
 pub mod FileFailureFacts
 pub mod FileOutcomes
+pub mod FilesFacts
 pub mod KeptFacts
 pub mod LawFacts
 pub mod LeftFacts

@@ -3,6 +3,7 @@ pub mod Characters
 pub mod Closings
 pub mod Errors
 pub mod Failures
+pub mod Files
 pub mod Grammar
 pub mod Kept
 pub mod Views

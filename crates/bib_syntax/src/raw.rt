@@ -14,6 +14,7 @@ mod failing;
 mod failures;
 mod fields;
 mod file;
+mod files;
 mod kept;
 mod memo;
 mod reader;
@@ -27,6 +28,7 @@ use bib_text::spanned::{Span, Spanned};
 use bib_text::text::Text;
 use file::blocks;
 pub use file::is_word;
+pub use files::JoinedFiles;
 use reader::Reader;
 use recovery::recover;
 pub use recovery::{RawRecovery, SkippedBlock};
@@ -70,7 +72,7 @@ impl<'s> RawBibliography<'s> {
     pub fn recover(alloc: Global, src: &'s str) -> Result<RawRecovery<'s>, AllocError>
         ensures { IfOk result (λ found. IsRecovery src.now (file_of found.raw) found.skipped.items) }
     {
-        recover(alloc, src, false)
+        recover(alloc, src, 0, false)
     }
 
     /// Parses a file as `recover` does, and also keeps the complete parts of the skipped blocks. These are the key and the fields
@@ -79,7 +81,7 @@ impl<'s> RawBibliography<'s> {
     pub fn recover_parts(alloc: Global, src: &'s str) -> Result<RawRecovery<'s>, AllocError>
         ensures { IfOk result (λ found. IsFullRecovery src.now (file_of found.raw) found.skipped.items) }
     {
-        recover(alloc, src, true)
+        recover(alloc, src, 0, true)
     }
 }
 

@@ -1,6 +1,7 @@
 //! Finds where the braces of a text close, for a text whose parts are parsed more than once.
 
 ghost use Rattle.std.specs.Prelude.{◌≡◌, ◌<◌, ◌-◌, ◌++◌, ◌∷◌, [], ℕ, List, length, MatchBool, IfOk, OnOk};
+ghost use Rattle.std.specs.Str.{IsCharBoundary};
 ghost use Rattle.bib_text.specs.Places.{Place, AtEnd, CharAt};
 ghost use Rattle.bib_syntax.specs.Closings.{AreClosings};
 ghost use Rattle.bib_syntax.specs.OpenBraces.{AreBracesAt, ClosesLast};
@@ -85,15 +86,22 @@ impl Braces {
     }
 }
 
-// Returns a `Closing` for each opening brace of `text` that no backslash escapes, sorted by `start`.
-pub(crate) fn closings(alloc: Global, text: &str) -> Result<Vec<Closing>, AllocError>
+// Returns a `Closing` for each opening brace of `text` from the offset `start` on that no backslash escapes, sorted by `start`.
+pub(crate) fn closings(
+    alloc: Global,
+    text: &str,
+    start: usize,
+) -> Result<Vec<Closing>, AllocError>
+    requires { IsCharBoundary text.now start }
     ensures { IfOk result (λ found. AreClosings text.now found.items) }
 {
+    let mut s = Scanner::new(text);
+    s.jump(start);
     let mut braces = Braces {
         opened: Vec::new(alloc),
         found: Vec::new(alloc),
     };
-    braces.pass_all(&mut Scanner::new(text))?;
+    braces.pass_all(&mut s)?;
     braces.end()?;
     let mut found = braces.found;
     found.sort_unstable_by_key(|it| it.start);

@@ -1,13 +1,14 @@
 //! Parses blocks, and files of blocks.
 
 ghost use Rattle.std.specs.Prelude.{◌≡◌, ℕ, List, [], ◌∷◌, ◌==◌, ◌&&◌, ◌||◌, not, true, IfOk, IfErr, OnOk, OnErr};
+ghost use Rattle.std.specs.String.{string_bytes};
 ghost use Rattle.bib_text.specs.Characters as char;
 ghost use Rattle.bib_text.specs.Places.{Place, CharAt, place};
 ghost use Rattle.bib_syntax.specs.Blocks.{item_of, block_kind_of};
 ghost use Rattle.bib_syntax.specs.Grammar as grammar;
 ghost use Rattle.bib_syntax.specs.Grammar.{BlockKind as ABlock};
 ghost use Rattle.bib_syntax.specs.Grammar.{Head, Body, Block, LineComment, File, Quoted, longest};
-ghost use Rattle.bib_syntax.specs.Reading.{Part, FileReading, empty_reading, then};
+ghost use Rattle.bib_syntax.specs.Reading.{Part, FileReading, empty_reading, joined_preambles, then};
 ghost use Rattle.bib_syntax.specs.Errors.{IsSyntaxError, Refuses};
 ghost use Rattle.bib_syntax.specs.SyntaxErrors.{HeadFails, BodyFails, BlockFails, FileFails, Reports};
 ghost use Rattle.bib_syntax.specs.Views.{part_of, file_of};
@@ -153,18 +154,23 @@ pub(crate) fn block<'s>(s: &mut Reader<'s, '_>, alloc: Global) -> Result<Item<'s
     }
 }
 
+// Appends a preamble to the preambles before it.
+pub(crate) fn add_preamble(preambles: &mut String, text: &str) -> Result<(), AllocError>
+    ensures { OnOk result (string_bytes preambles.new ≡ joined_preambles (string_bytes preambles.old) text.now) }
+{
+    if !preambles.is_empty() && !text.is_empty() {
+        preambles.push_str(" # ")?;
+    }
+    preambles.push_str(text)
+}
+
 // Appends the content of a block to the content of the blocks before it.
 pub(crate) fn add<'s>(raw: &mut RawBibliography<'s>, item: Item<'s>) -> Result<(), AllocError>
     ensures { OnOk result (file_of raw.new ≡ then (file_of raw.old) (item_of item.entry)) }
 {
     match item {
         Item::Nothing => {}
-        Item::Preamble(text) => {
-            if !raw.preamble.is_empty() && !text.is_empty() {
-                raw.preamble.push_str(" # ")?;
-            }
-            raw.preamble.push_str(text)?;
-        }
+        Item::Preamble(text) => add_preamble(&mut raw.preamble, text)?,
         Item::Strings(mut pairs) => raw.abbreviations.append(&mut pairs)?,
         Item::Entry(entry) => raw.entries.push(entry)?,
     }

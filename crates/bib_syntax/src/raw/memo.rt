@@ -1,6 +1,7 @@
 //! Known facts about a text, kept because parts of the text are parsed more than once.
 
 ghost use Rattle.std.specs.Prelude.{IfOk};
+ghost use Rattle.std.specs.Str.{IsCharBoundary};
 ghost use Rattle.bib_syntax.specs.Stretches.{IsMemoOf};
 
 use crate::raw::closings::{Closing, closings};
@@ -19,14 +20,15 @@ pub(crate) struct Memo {
 }
 
 impl Memo {
-    // Returns the memo of `text`, without failures.
-    pub(crate) fn new(alloc: Global, text: &str) -> Result<Self, AllocError>
+    // Returns the memo of `text` from the offset `start` on, without failures.
+    pub(crate) fn new(alloc: Global, text: &str, start: usize) -> Result<Self, AllocError>
+        requires { IsCharBoundary text.now start }
         ensures { IfOk result (IsMemoOf text.now) }
     {
         Ok(Memo {
-            closings: closings(alloc, text)?,
-            lines: lines(alloc, text)?,
-            tail: tail(text),
+            closings: closings(alloc, text, start)?,
+            lines: lines(alloc, text, start)?,
+            tail: tail(text, start),
             failures: Failures::new(alloc),
         })
     }

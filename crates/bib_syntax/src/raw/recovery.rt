@@ -10,7 +10,7 @@ ghost use Rattle.bib_syntax.specs.Failures.{AllFail};
 ghost use Rattle.bib_syntax.specs.Grammar.{Block, longest};
 ghost use Rattle.bib_syntax.specs.Recovery as Spec;
 ghost use Rattle.bib_syntax.specs.Recovering.{RecoveredTo};
-ghost use Rattle.bib_syntax.specs.Reading.{FileReading, then};
+ghost use Rattle.bib_syntax.specs.Reading.{FileReading, empty_reading, then};
 ghost use Rattle.bib_syntax.specs.Recovery.{Recovered, GoesOnAt, Keeps, skipped_block};
 ghost use Rattle.bib_syntax.specs.Stretches.{IsMemoOf};
 ghost use Rattle.bib_syntax.specs.SyntaxErrors.{BlockFails, Reports};
@@ -18,7 +18,7 @@ ghost use Rattle.bib_syntax.specs.Views.{file_of};
 
 use crate::raw::failing::failing_fields;
 use crate::raw::fields::line_comment;
-use crate::raw::file::{Item, add, block};
+use crate::raw::file::{Item, add, add_preamble, block};
 use crate::raw::kept::kept;
 use crate::raw::memo::Memo;
 use crate::raw::reader::Reader;
@@ -161,6 +161,37 @@ fn add_parts<'s>(
 }
 
 impl<'s> RawRecovery<'s> {
+    // Returns the recovery of an empty text.
+    pub(crate) fn nothing(alloc: Global) -> Self
+        ensures content { file_of result.raw ≡ empty_reading }
+        ensures skipped { result.skipped.items ≡ [] }
+    {
+        RawRecovery {
+            raw: RawBibliography {
+                preamble: String::new(alloc),
+                entries: Vec::new(alloc),
+                abbreviations: Vec::new(alloc),
+            },
+            skipped: Vec::new(alloc),
+        }
+    }
+
+    // Appends the parsed and the skipped blocks of another file.
+    pub(crate) fn append(&mut self, file: RawRecovery<'s>) -> Result<(), AllocError>
+        ensures content { OnOk result (file_of self.new.raw ≡ then (file_of self.old.raw) (file_of file.entry.raw)) }
+        ensures skipped { OnOk result (self.new.skipped.items ≡ self.old.skipped.items ++ file.entry.skipped.items) }
+    {
+        let RawRecovery {
+            mut raw,
+            mut skipped,
+        } = file;
+        add_preamble(&mut self.raw.preamble, &raw.preamble)?;
+        self.raw.entries.append(&mut raw.entries)?;
+        self.raw.abbreviations.append(&mut raw.abbreviations)?;
+        self.skipped.append(&mut skipped)?;
+        Ok(())
+    }
+
     // Skips the block at this at sign, and keeps its error, and its complete parts if `keeps_parts` is true.
     fn skip(
         &mut self,
@@ -237,11 +268,12 @@ impl<'s> RawRecovery<'s> {
             RecoveredTo keeps_parts start (file_of self.new.raw) self.new.skipped.items s.new) }
         ensures end { OnOk result (AtEnd s.new) }
     {
+        let start = s.cursor();
         let mut memo = None;
         'file: while let Some(c) = s.peek() {
             if c == '@' {
                 if memo.is_none() && !self.skipped.is_empty() {
-                    memo = Some(Memo::new(alloc, text)?);
+                    memo = Some(Memo::new(alloc, text, start)?);
                 }
                 self.add_block(s, alloc, text, keeps_parts, &mut memo)?;
             } else if c == '%' {
@@ -254,23 +286,20 @@ impl<'s> RawRecovery<'s> {
     }
 }
 
-// Parses the blocks of a file, and skips those that can't be parsed. If `keeps_parts` is true, keeps the complete parts of
-// these.
+// Parses the blocks of a file that begins at the offset `start` and ends with `src`. Skips those that can't be parsed. If `keeps_parts` is
+// true, keeps the complete parts of these.
 pub(crate) fn recover(
     alloc: Global,
     src: &str,
+    start: usize,
     keeps_parts: bool,
 ) -> Result<RawRecovery<'_>, AllocError>
-    ensures { IfOk result (λ found. Recovered keeps_parts (place src.now 0) (file_of found.raw) found.skipped.items) }
+    requires { IsCharBoundary src.now start }
+    ensures { IfOk result (λ found. Recovered keeps_parts (place src.now start) (file_of found.raw) found.skipped.items) }
 {
-    let mut found = RawRecovery {
-        raw: RawBibliography {
-            preamble: String::new(alloc),
-            entries: Vec::new(alloc),
-            abbreviations: Vec::new(alloc),
-        },
-        skipped: Vec::new(alloc),
-    };
-    found.add_blocks(&mut Reader::new(Scanner::new(src)), alloc, src, keeps_parts)?;
+    let mut s = Reader::new(Scanner::new(src));
+    s.jump(start);
+    let mut found = RawRecovery::nothing(alloc);
+    found.add_blocks(&mut s, alloc, src, keeps_parts)?;
     Ok(found)
 }

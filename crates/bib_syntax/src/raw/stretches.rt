@@ -1,6 +1,7 @@
 //! Finds stretches of a text without some character, for a text whose parts are parsed more than once.
 
 ghost use Rattle.std.specs.Prelude.{◌≤◌, IfOk, IsTrue, ◌↔◌};
+ghost use Rattle.std.specs.Str.{IsCharBoundary};
 ghost use Rattle.bib_syntax.specs.Stretches.{AreLines, IsTail};
 
 use bib_text::scanner::Scanner;
@@ -22,11 +23,17 @@ impl Stretch {
     }
 }
 
-// Returns the lines of `text`, without their line feeds.
-pub(crate) fn lines(alloc: Global, text: &str) -> Result<Vec<Stretch>, AllocError>
+// Returns the lines of `text` from the offset `start` on, without their line feeds.
+pub(crate) fn lines(
+    alloc: Global,
+    text: &str,
+    start: usize,
+) -> Result<Vec<Stretch>, AllocError>
+    requires { IsCharBoundary text.now start }
     ensures { IfOk result (λ found. AreLines text.now found.items) }
 {
     let mut s = Scanner::new(text);
+    s.jump(start);
     let mut found = Vec::new(alloc);
     'lines: loop {
         let start = s.cursor();
@@ -39,11 +46,13 @@ pub(crate) fn lines(alloc: Global, text: &str) -> Result<Vec<Stretch>, AllocErro
     }
 }
 
-// Returns the stretch after the last closing brace of `text`; the whole text if it has none.
-pub(crate) fn tail(text: &str) -> Stretch
+// Returns the stretch after the last closing brace of `text`; the text from the offset `start` on if no closing brace occurs there.
+pub(crate) fn tail(text: &str, start: usize) -> Stretch
+    requires { IsCharBoundary text.now start }
     ensures { IsTail text.now result }
 {
     let mut s = Scanner::new(text);
+    s.jump(start);
     'braces: loop {
         let start = s.cursor();
         s.eat_until(|c| c == '}');

@@ -7,6 +7,3 @@ returns-in_ok-push-in-Entry c = grind (arith, common_steps)
 
 pub returns-in_ok-append-in-Strings : goal.returns-in_ok-append-in-Strings
 returns-in_ok-append-in-Strings c = grind (arith, common_steps)
-
-pub push_str-requires-in-Preamble-text-string : goal.push_str-requires-in-Preamble-text-string
-push_str-requires-in-Preamble-text-string c = grind (arith, common_steps)

@@ -20,7 +20,7 @@ more c =
 
 pub lines-init : goal.lines-init
 lines-init c = (
-  ap (λ p. p.text) c.new-s.ensures,
+  ap (λ p. p.text) c.jump.ensures ∙ ap (λ p. p.text) c.new-s.ensures,
   subst (AreLines c.args.text.now) (sym c.new-found.ensures.items) (λ k d below. absurd (omega (arith, below))),
 )
 

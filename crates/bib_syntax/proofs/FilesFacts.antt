@@ -1,0 +1,81 @@
+-- Files in one text: where they begin and end, and the recovery of the first ones.
+use Rattle.std.proofs.Common.{◌≡◌, ℕ, zero, suc, ◌+◌, ◌<◌, ◌≤◌, arith, length, List, [], ◌∷◌, ◌++◌, Some, refl, sym, ap, ◌∙◌, subst, append_assoc, length-append, take, drop, get_or}
+use Rattle.std.specs.Prelude.{slice_get}
+use Rattle.std.specs.Str.{IsCharBoundary, IsUtf8}
+use Rattle.std.specs.List.{slice_index}
+use Rattle.std.proofs.lemmas.List.{get_or-take, length-take-le}
+use Rattle.std.proofs.lemmas.Option.{get_or_from_slice_get, slice_get_within, slice_get-get_or}
+use Rattle.std.proofs.lemmas.Str.{IsCharBoundary-after_ascii, IsCharBoundary-before_ascii}
+use Rattle.std.proofs.Math.ListN.{get_or-append}
+use Rattle.std.proofs.Math.Seq.{drop-cons}
+use Rattle.bib_text.proofs.ListFacts.{get_here}
+use Rattle.bib_syntax.specs.Files.{AreFiles}
+
+-- an element of a list stays where it is if the list gets longer
+get_longer : (xs more : List ℕ) (i x : ℕ) → slice_get xs i ≡ Some x → slice_get (xs ++ more) i ≡ Some x
+get_longer xs more i x is =
+    let within = slice_get_within xs i x is in
+    let longer : i < length (xs ++ more) = omega (arith, within, length-append xs more) in
+    slice_get-get_or (xs ++ more) i 0 longer ∙ ap Some (get_or-append xs more 0 i within ∙ get_or_from_slice_get xs i x 0 is)
+
+-- files in a text are the same files if the text gets longer, and a file with a line feed after it is one more
+pub one_more : (text file : List ℕ) (start : ℕ) (ends : List ℕ) → start ≤ length text → AreFiles text start ends
+    → AreFiles (text ++ (file ++ 10 ∷ [])) start (ends ++ (length text + length file) ∷ [])
+one_more text file start [] within is = (
+  omega (arith, within),
+  ap (λ xs. slice_get xs (length text + length file)) (sym (append_assoc text file (10 ∷ [])))
+  ∙ ap (slice_get ((text ++ file) ++ 10 ∷ [])) (sym (length-append text file)) ∙ get_here (text ++ file) 10 [],
+  _,
+)
+one_more text file start (end ∷ ends) within is = (
+  is.0,
+  get_longer text (file ++ 10 ∷ []) end 10 is.1,
+  one_more text file (end + 1) ends (omega (arith, slice_get_within text end 10 is.1)) is.2,
+)
+
+-- the files from an index on are the file there and those after it
+pub next_file : (ends : List ℕ) (i : ℕ) → i < length ends → drop i ends ≡ get_or ends i 0 ∷ drop (i + 1) ends
+next_file ends i within =
+    let next : suc i ≡ i + 1 = omega arith in
+    drop-cons ends i 0 within ∙ ap (λ n. get_or ends i 0 ∷ drop n ends) next
+
+-- the file at an index and those after it are files in the text if the files from the index on are
+pub this_file : (text ends : List ℕ) (start i : ℕ) → i < length ends → AreFiles text start (drop i ends)
+    → AreFiles text start (get_or ends i 0 ∷ drop (i + 1) ends)
+this_file text ends start i within are = subst (AreFiles text start) (next_file ends i within) are
+
+-- nothing is left after all elements of a list
+pub drop_all : {A : Type 0} (xs : List A) (n : ℕ) → length xs ≤ n → drop n xs ≡ []
+drop_all [] zero all = refl
+drop_all [] (suc n) all = refl
+drop_all (x ∷ xs) zero all = absurd (omega (arith, all))
+drop_all (x ∷ xs) (suc n) all = drop_all xs n (omega (arith, all))
+
+-- files in a text are the same files if the text gets longer
+pub files_longer : (text more : List ℕ) (start : ℕ) (ends : List ℕ) → AreFiles text start ends → AreFiles (text ++ more) start ends
+files_longer text more start [] is = _
+files_longer text more start (end ∷ ends) is = (is.0, get_longer text more end 10 is.1, files_longer text more (end + 1) ends is.2)
+
+-- a file ends at a character boundary
+pub end_boundary : (text : List ℕ) (end : ℕ) → slice_get text end ≡ Some 10 → IsCharBoundary text end
+end_boundary text end is =
+    let here : get_or text end 0 ≡ 10 = get_or_from_slice_get text end 10 0 is in
+    IsCharBoundary-before_ascii text end (slice_get_within text end 10 is) (omega (arith, here))
+
+-- the next file begins at a character boundary
+pub next_boundary : (text : List ℕ) (end : ℕ) → IsUtf8 text → slice_get text end ≡ Some 10 → IsCharBoundary text (end + 1)
+next_boundary text end utf8 is =
+    let here : get_or text end 0 ≡ 10 = get_or_from_slice_get text end 10 0 is in
+    IsCharBoundary-after_ascii text end utf8 (slice_get_within text end 10 is) (omega (arith, here))
+
+-- a boundary is one of the text up to a later offset, too
+pub boundary_cut : (text : List ℕ) (start end : ℕ) → end ≤ length text → start ≤ end → IsCharBoundary text start
+    → IsCharBoundary (take end text) start
+boundary_cut text start end within ordered is =
+    let size = length-take-le end text within in (
+      omega (arith, size, ordered),
+      (λ inside high.
+      let inner : start < end = omega (arith, size, inside) in
+      let same : slice_index (take end text) start ≡ slice_index text start = get_or-take end text start 0 inner in
+      subst (λ b. 192 ≤ b) (sym same) (is.1 (omega (arith, inner, within)) (subst (λ b. 128 ≤ b) same high))),
+    )

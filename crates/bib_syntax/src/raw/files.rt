@@ -1,0 +1,80 @@
+//! Several files in one text.
+
+ghost use Rattle.std.specs.Prelude.{◌≡◌, [], IfOk, OnOk};
+ghost use Rattle.std.specs.String.{string_bytes};
+ghost use Rattle.bib_syntax.specs.Files.{AreFilesRecovered, no_files, with_file};
+ghost use Rattle.bib_syntax.specs.Views.{file_of};
+
+use crate::raw::recovery::{RawRecovery, recover};
+use std::alloc::{AllocError, Global};
+use std::marker::Model;
+
+/// The texts of several files in one text. A line feed follows each file.
+#[derive(Debug, Drop)]
+pub struct JoinedFiles {
+    text: String,
+    ends: Vec<usize>,
+}
+
+impl Model for JoinedFiles {
+    ghost use Rattle.std.specs.String.{string_bytes};
+    ghost use Rattle.bib_syntax.specs.Files.{AreFiles, FilesText};
+
+    ghost Value = { FilesText };
+
+    ghost view = { λ files. record { text = string_bytes files.text; ends = files.ends.items } };
+
+    ghost invariant = { λ files. AreFiles (string_bytes files.text) 0 files.ends.items };
+}
+
+impl JoinedFiles {
+    /// Returns the text of no files.
+    pub fn new(alloc: Global) -> Self
+        ensures { result ≡ no_files }
+    {
+        JoinedFiles {
+            text: String::new(alloc),
+            ends: Vec::new(alloc),
+        }
+    }
+
+    /// Adds a file with this text after the others. Fails only if out of memory. The value must not be used after that.
+    pub fn push(&mut self, file: &str) -> Result<(), AllocError>
+        ensures { OnOk result (self.new ≡ with_file self.old file.now) }
+    {
+        self.text.push_str(file)?;
+        let end = self.text.as_str().len();
+        self.text.push('\n')?;
+        self.ends.push(end)?;
+        Ok(())
+    }
+
+    /// Returns the text of all files.
+    pub fn text(&self) -> &str
+        ensures { result.now ≡ self.now.text }
+    {
+        &self.text
+    }
+
+    /// Returns the offset at which each file ends, in bytes of the text. The line feed after the file begins there.
+    pub fn ends(&self) -> &[usize]
+        ensures { result.now ≡ self.now.ends }
+    {
+        &self.ends
+    }
+
+    /// Parses each file like `RawBibliography::recover_parts`, as if the text ended with the file, and returns their content and
+    /// their skipped blocks in order. All spans are in bytes of the text of all files. Fails only if out of memory.
+    pub fn recover_parts(&self, alloc: Global) -> Result<RawRecovery<'_>, AllocError>
+        ensures { IfOk result (λ found. AreFilesRecovered self.now (file_of found.raw) found.skipped.items) }
+    {
+        let text = self.text();
+        let mut found = RawRecovery::nothing(alloc);
+        let mut start = 0;
+        'files: for end in &self.ends {
+            found.append(recover(alloc, &text[..*end], start, true)?)?;
+            start = *end + 1;
+        }
+        Ok(found)
+    }
+}
