@@ -104,12 +104,9 @@ pub record AreFindingsIn (skipped : List SkippedBlock) (lacking : List Bool) (er
   pub reports : AreOfEach AreOfKept said origins (with_flags lacking entries) of_entries
   pub sorted : AreSortedByPlace (map (block_finding said) skipped ++ (map error_finding errors ++ (of_entries ++ between))) found
 
--- whether these are all findings of a file with this text, with the complete parts of its skipped blocks. The findings of a kept entry also
--- use the fields that it inherits. The findings between entries use only the fields that each entry has itself.
-pub record AreFindings (text : List ℕ) (found : List Finding) : Type 0 where
-  pub says : FileReading
-  pub skipped : List SkippedBlock
-  pub recovery : IsFullRecovery text says skipped
+-- whether these are all findings of a recovered text: it has this content, with the complete parts of its skipped blocks. The findings of a
+-- kept entry also use the fields that it inherits. The findings between entries use only the fields that each entry has itself.
+pub record AreFindingsOf (text : List ℕ) (says : FileReading) (skipped : List SkippedBlock) (found : List Finding) : Type 0 where
   pub own : List Entry
   pub names : ByText ℕ
   pub places : List (Range ℕ)
@@ -124,3 +121,10 @@ pub record AreFindings (text : List ℕ) (found : List Finding) : Type 0 where
   pub between : List Finding
   pub are_between : AreBetween text skipped names says.entries origins own between
   pub are : AreFindingsIn skipped lacking (of_entries ++ of_references) says.entries origins entries between found
+
+-- whether these are all findings of a file with this text
+pub record AreFindings (text : List ℕ) (found : List Finding) : Type 0 where
+  pub says : FileReading
+  pub skipped : List SkippedBlock
+  pub recovery : IsFullRecovery text says skipped
+  pub are : AreFindingsOf text says skipped found

@@ -3,10 +3,10 @@
 ghost use Rattle.std.specs.Prelude.{◌≡◌, ◌<◌, ◌++◌, All, length, map, IfOk, OnOk};
 ghost use Rattle.std.specs.BTreeMap.{get_by_text};
 ghost use Rattle.bib_tables.specs.Requirements.{texts};
-ghost use Rattle.bib_syntax.specs.Views.{entry_reading_of};
+ghost use Rattle.bib_syntax.specs.Views.{entry_reading_of, file_of};
 ghost use Rattle.bib_findings.specs.Adding.{Adds};
 ghost use Rattle.bib_findings.specs.Entries.{AreOfEach};
-ghost use Rattle.bib_findings.specs.Findings.{AreBetween, AreFindings, AreFindingsIn, AreOfEntry, AreOfKept, AreSortedByPlace, entries_said, own_findings, single_findings, text_findings};
+ghost use Rattle.bib_findings.specs.Findings.{AreBetween, AreFindings, AreFindingsIn, AreFindingsOf, AreOfEntry, AreOfKept, AreSortedByPlace, entries_said, own_findings, single_findings, text_findings};
 ghost use Rattle.bib_findings.specs.Lacking.{with_flags};
 ghost use Rattle.bib_findings.specs.Met.{AreFieldNames};
 
@@ -164,8 +164,8 @@ pub fn between(
     Ok(found)
 }
 
-// Sorts findings by their starts. Findings with the same start keep their order.
-fn sorted_by_place(found: Vec<Finding>) -> Result<Vec<Finding>, AllocError>
+/// Sorts findings by their starts. Findings with the same start keep their order. Fails only if out of memory.
+pub fn sorted_by_place(found: Vec<Finding>) -> Result<Vec<Finding>, AllocError>
     ensures { IfOk result (λ sorted. AreSortedByPlace found.items sorted.items) }
 {
     let mut found = found;
@@ -201,6 +201,34 @@ pub fn findings_in(
     sorted_by_place(found)
 }
 
+/// Returns all findings of a recovered text, sorted by their starts. Spans are in bytes of the text. For the text of several files
+/// (`JoinedFiles`), these are the findings of the files as one database: a file can use the definitions and the entries of the others, and a
+/// key or a work can occur in two files. Fails only if out of memory.
+pub fn findings_of(
+    alloc: Global,
+    text: &str,
+    recovery: &RawRecovery<'_>,
+) -> Result<Vec<Finding>, AllocError>
+    ensures { IfOk result (λ found. AreFindingsOf text.now (file_of recovery.now.raw) recovery.now.skipped.items found.items) }
+{
+    let RawRecovery { raw, skipped } = recovery;
+    let KeptEntries {
+        mut entries,
+        names,
+        spans,
+        origins,
+        mut errors,
+    } = keep(alloc, raw)?;
+    let said = &raw.entries;
+    let linked = between(alloc, text, skipped, said, &origins, &names, &entries)?;
+    let lacking = lacking_flags(alloc, skipped, &names, said, &origins, &entries)?;
+    let mut unresolved = resolve_readable(alloc, &spans, &names, &mut entries)?;
+    errors.append(&mut unresolved)?;
+    findings_in(
+        alloc, skipped, &lacking, &errors, said, &origins, &entries, linked,
+    )
+}
+
 /// Returns all findings of the text of a bibliography file, sorted by their starts. Recovers the text as
 /// `Bibliography::recover` does, so the complete fields of an entry with a syntax error have findings too. Spans are in bytes of
 /// the text. The codes `UnreadBytes`, `MissingEntry` and `UnusedEntry` don't occur, because they are about the bytes of the file
@@ -208,20 +236,6 @@ pub fn findings_in(
 pub fn findings(alloc: Global, text: &str) -> Result<Vec<Finding>, AllocError>
     ensures { IfOk result (λ found. AreFindings text.now found.items) }
 {
-    let RawRecovery { raw, skipped } = RawBibliography::recover_parts(alloc, text)?;
-    let KeptEntries {
-        mut entries,
-        names,
-        spans,
-        origins,
-        mut errors,
-    } = keep(alloc, &raw)?;
-    let said = &raw.entries;
-    let linked = between(alloc, text, &skipped, said, &origins, &names, &entries)?;
-    let lacking = lacking_flags(alloc, &skipped, &names, said, &origins, &entries)?;
-    let mut unresolved = resolve_readable(alloc, &spans, &names, &mut entries)?;
-    errors.append(&mut unresolved)?;
-    findings_in(
-        alloc, &skipped, &lacking, &errors, said, &origins, &entries, linked,
-    )
+    let recovery = RawBibliography::recover_parts(alloc, text)?;
+    findings_of(alloc, text, &recovery)
 }

@@ -100,6 +100,20 @@ fn uncited_among<'s>(
     Ok(found)
 }
 
+/// Returns the keys, with their spans, of those of `entries` that have no name among `keys`.
+pub fn uncited_in<'s>(
+    alloc: Global,
+    entries: &[Spanned<RawEntry<'s>>],
+    keys: &[&str],
+) -> Result<Vec<Spanned<&'s str>>, AllocError>
+    ensures { IfOk result (λ found. map part_of found.items ≡
+        uncited_keys (map (λ k. k.now) keys.now) (map entry_reading_of entries.now)) }
+{
+    let set = name_set(alloc, keys)?;
+    let found = uncited_among(alloc, &set, entries)?;
+    Ok(found)
+}
+
 /// Returns the keys, with their spans, of the entries in `text` that have no name among `keys`. An entry with a syntax
 /// error has the key and the names in its complete parts. It is skipped if recovery keeps no part of it.
 pub fn find_uncited<'s>(
@@ -109,8 +123,7 @@ pub fn find_uncited<'s>(
 ) -> Result<Vec<Spanned<&'s str>>, AllocError>
     ensures { IfOk result (λ found. IsUncited text.now (map (λ k. k.now) keys.now) (map part_of found.items)) }
 {
-    let set = name_set(alloc, keys)?;
     let raw = RawBibliography::recover_parts(alloc, text)?.raw;
-    let found = uncited_among(alloc, &set, &raw.entries)?;
+    let found = uncited_in(alloc, &raw.entries, keys)?;
     Ok(found)
 }

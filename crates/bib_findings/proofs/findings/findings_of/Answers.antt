@@ -5,7 +5,7 @@ use Rattle.bib_inheritance.proofs.DatesRead.{all_taken}
 use Rattle.bib_syntax.specs.Views.{entry_reading_of, file_of}
 use Rattle.bib_findings.specs.Findings.{AreFindings, AreFindingsIn, entries_said}
 use Rattle.bib_findings.proofs.RecoveredFacts.{between_of, findings_of, if_ok_more, lacking_same, origins_count, origins_within, places_count, within_of}
-use Rattle.bib_findings.proofs.findings.findings.Goals as goal
+use Rattle.bib_findings.proofs.findings.findings_of.Goals as goal
 
 pub between-requires-clause-same_length : goal.between-requires-clause-same_length
 between-requires-clause-same_length c =
