@@ -186,7 +186,13 @@ pub(crate) fn cited_text(
     let definition_marks = used_definitions(alloc, raw, &marks, has_unread(text, &found.skipped))?;
     let line_end = line_end(text);
     let mut printed = String::new(alloc);
-    print_definitions(&mut printed, line_end, text, &raw.abbreviations, &definition_marks)?;
+    print_definitions(
+        &mut printed,
+        line_end,
+        text,
+        &raw.abbreviations,
+        &definition_marks,
+    )?;
     print_preambles(&mut printed, line_end, raw.preamble.as_str())?;
     print_all_unread(&mut printed, line_end, text, &found.skipped)?;
     print_entries(&mut printed, line_end, text, &raw.entries, &marks)?;

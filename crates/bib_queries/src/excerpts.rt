@@ -144,7 +144,13 @@ fn get(
     let line_end = line_end(text);
     let mut printed = String::new(alloc);
     'entries: for entry in entries {
-        print_if(&mut printed, line_end, text, entry, asked.contains(entry.v.key.v))?;
+        print_if(
+            &mut printed,
+            line_end,
+            text,
+            entry,
+            asked.contains(entry.v.key.v),
+        )?;
     }
     Ok(printed)
 }
@@ -163,7 +169,13 @@ fn grep(
     let line_end = line_end(text);
     let mut printed = String::new(alloc);
     'entries: for entry in entries {
-        print_if(&mut printed, line_end, text, entry, is_found_in(entry, search))?;
+        print_if(
+            &mut printed,
+            line_end,
+            text,
+            entry,
+            is_found_in(entry, search),
+        )?;
     }
     Ok(printed)
 }

@@ -6,9 +6,8 @@ ghost use Rattle.std.specs.String.{string_bytes};
 ghost use Rattle.bib_text.specs.Characters as char;
 ghost use Rattle.edit_entries.specs.LineEnds as spec;
 
-use std::alloc::{AllocError, Global};
-
 pub use bib_queries::line_ends::line_end;
+use std::alloc::{AllocError, Global};
 
 // Appends a carriage return if `c` is a line feed, and `before`, the character before it, isn't a carriage return.
 fn push_return(new: &mut String, before: char, c: char) -> Result<(), AllocError>
