@@ -375,6 +375,17 @@ printf '<bcf:datasource type="file" datatype="bibtex" glob="false">two.bib</bcf:
 run 'the members of a set' 0 $'@misc{a, title={A}, author={B}}\n@misc{b, title={x y}, author={Knuth, D.}, year={1984}}\n' cited set.bcf
 run 'a set is no key' 0 $'@misc{a, title={A}, author={B}}\n@misc{b, title={x y}, author={Knuth, D.}, year={1984}}\n' cited set.bcf two.bib
 
+# the line end after each entry, definition and preamble is that of the first line of the file
+printf '@string{acm = {ACM}}\r\n@preamble{"p"}\r\n@preamble{"q" # "r"}\r\n\r\n@misc{a,\r\n  title = {A},\r\n  publisher = acm\r\n}\r\n@misc{b, title={B}}\r\n' >crlf.bib
+printf '\\citation{a}\n' >crlf.aux
+run 'entries of a file with CR LF' 0 $'@misc{a,\r\n  title = {A},\r\n  publisher = acm\r\n}\r\n@misc{b, title={B}}\r\n' get b,a crlf.bib
+run 'an entry by a text, of a file with CR LF' 0 $'@misc{b, title={B}}\r\n' grep title B crlf.bib
+run 'cited entries of a file with CR LF' 0 $'@string{acm = {ACM}}\r\n@preamble{"p"}\r\n@preamble{"q" # "r"}\r\n@misc{a,\r\n  title = {A},\r\n  publisher = acm\r\n}\r\n' cited crlf.aux crlf.bib
+run 'keys of a file with CR LF' 0 $'a\nb\n' keys crlf.bib
+run 'entries of a file with CR LF and of another one' 0 $'@misc{b, title={B}}\r\n@misc{b, title={x y}, author={Knuth, D.}, year={1984}}\n' get b crlf.bib two.bib
+printf '%% c\n@misc{a, title={A}}\r\n@misc{b,\r\n title={B}}' >mixed.bib
+run 'CR LF, but not in the first line' 0 $'@misc{a, title={A}}\n@misc{b,\r\n title={B}}\n' get a,b mixed.bib
+
 # several files are one database: a definition, an entry that uses it, and its parent are in three files
 printf '@string{jsl = {Journal}}\n' >part1.bib
 printf '@article{x, title={X}, journal=jsl, crossref={par}}' >part2.bib
@@ -388,6 +399,9 @@ run 'keys of a selected entry of three files, and of what it uses' 0 $'x\npar\n'
 run 'one of three files that is absent' 2 "${parts%@book*}" select --complete --where 'key = x' part1.bib no.bib part2.bib
 holds 'it is named' grep -qx 'bibkit: no.bib: there is no such file' messages
 run 'no selected entry of two files' 1 '' select --complete --where 'key = z' part2.bib part3.bib
+printf '@string{jsl = {Journal}}\r\n' >part4.bib
+run 'three files, the first one with CR LF' 0 $'@string{jsl = {Journal}}\r\n@article{x, title={X}, journal=jsl, crossref={par}}\r\n@book{par, title={P}}\r\n' cited parts.aux part4.bib part2.bib part3.bib
+run 'three files, the last one with CR LF' 0 $'@string{jsl = {Journal}}\n@article{x, title={X}, journal=jsl, crossref={par}}\n@book{par, title={P}}\n' cited parts.aux part2.bib part3.bib part4.bib
 
 # what a document cites
 run 'a key that no file has' 1 $'paper.aux:3:1: error: no file has an entry "z" [missing-entry]\nerrors: 1, warnings: 0\n' lint --ignore missing-field --cited paper.aux two.bib
@@ -1496,6 +1510,10 @@ run 'selected keys of a file with an error' 0 $'a\n' select --keys --where 'has 
 run_messages 'a condition that ends too early' 2 $'bibkit: --where `year >`: expected a year at byte 6\n' select --where 'year >' select.bib
 run 'a condition that ends too early: nothing is printed' 2 '' select --where 'year >' select.bib
 run 'a file that is not there, and selected keys' 2 $'n\n' select --keys --where 'key = n' nothing.bib select.bib
+run 'a selected entry of a file with CR LF' 0 $'@misc{b, title={B}}\r\n' select --where 'key = b' crlf.bib
+run 'what a selected entry of a file with CR LF uses' 0 $'@string{acm = {ACM}}\r\n@preamble{"p"}\r\n@preamble{"q" # "r"}\r\n@misc{b, title={B}}\r\n' select --complete --where 'key = b' crlf.bib
+run 'keys of selected entries of a file with CR LF' 0 $'a\nb\n' select --keys --where 'has title' crlf.bib
+run 'an entry of a file with CR LF that meets a condition' 0 $'@misc{b, title={B}}\r\n' get a,b --where 'title = B' crlf.bib
 
 # keys, get and lint with conditions
 cp two.bib input

@@ -304,15 +304,15 @@ joint_smaller rest opened closed rest' n is cut next =
     )
 
 -- the preambles that are still to be printed: after them, the output is `whole`
-pub record IsLeft (rest printed whole : List ℕ) : Type 0 where
+pub record IsLeft (line_end rest printed whole : List ℕ) : Type 0 where
   pub left : List (List ℕ)
   pub are : ArePreambles rest left
-  pub same : printed ++ flat_map preamble_line left ≡ whole
+  pub same : printed ++ flat_map (preamble_line line_end) left ≡ whole
 
 -- at first, all preambles are still to be printed
-pub left_first : (joined printed : List ℕ) (insides : List (List ℕ)) → ArePreambles joined insides
-    → IsLeft joined printed (printed ++ flat_map preamble_line insides)
-left_first joined printed insides are = record { left = insides; are = are; same = refl }
+pub left_first : (line_end joined printed : List ℕ) (insides : List (List ℕ)) → ArePreambles joined insides
+    → IsLeft line_end joined printed (printed ++ flat_map (preamble_line line_end) insides)
+left_first line_end joined printed insides are = record { left = insides; are = are; same = refl }
 
 -- the text of the first preamble, and the text from its closing quote on
 record FirstPreamble (opened : List ℕ) (insides : List (List ℕ)) : Type 0 where
@@ -349,12 +349,12 @@ first_preamble rest opened (inside ∷ (next ∷ more)) is each joined =
     }
 
 -- after one more preamble is printed, the other ones are still to be printed
-pub left_next : (rest opened inside' closed rest' printed printed' whole : List ℕ) (n : ℕ)
+pub left_next : (line_end rest opened inside' closed rest' printed printed' whole : List ℕ) (n : ℕ)
     → text_after_prefix (codes "\"") rest ≡ Some opened
     → ((inside tail : List ℕ) → CanBeQuoted inside → opened ≡ inside ++ 34 ∷ tail → n ≡ length inside)
-    → inside' ≡ take n opened → closed ≡ drop n opened → rest' ≡ joint closed → printed' ≡ printed ++ preamble_line inside'
-    → IsLeft rest printed whole → IsLeft rest' printed' whole
-left_next rest opened inside' closed rest' printed printed' whole n is at front back next made before =
+    → inside' ≡ take n opened → closed ≡ drop n opened → rest' ≡ joint closed → printed' ≡ printed ++ preamble_line line_end inside'
+    → IsLeft line_end rest printed whole → IsLeft line_end rest' printed' whole
+left_next line_end rest opened inside' closed rest' printed printed' whole n is at front back next made before =
     let first = first_preamble rest opened before.left (after_is (codes "\"") rest opened is) before.are.each before.are.is in
     let size : n ≡ length first.inside = at first.inside first.tail first.hidden first.text in
     let inside_is : inside' ≡ first.inside =
@@ -365,9 +365,9 @@ left_next rest opened inside' closed rest' printed printed' whole n is at front 
       left = first.others;
       are = subst (λ t. ArePreambles t first.others) (sym (next ∙ ap joint closed_is)) first.are;
       same =
-          ap (λ t. t ++ flat_map preamble_line first.others) (made ∙ ap (λ t. printed ++ preamble_line t) inside_is)
-          ∙ append_assoc printed (preamble_line first.inside) (flat_map preamble_line first.others)
-          ∙ ap (λ l. printed ++ flat_map preamble_line l) (sym first.parts) ∙ before.same;
+          ap (λ t. t ++ flat_map (preamble_line line_end) first.others) (made ∙ ap (λ t. printed ++ preamble_line line_end t) inside_is)
+          ∙ append_assoc printed (preamble_line line_end first.inside) (flat_map (preamble_line line_end) first.others)
+          ∙ ap (λ l. printed ++ flat_map (preamble_line line_end) l) (sym first.parts) ∙ before.same;
     }
 
 -- if no text after a quote is found, the text doesn't begin with a quote
@@ -376,9 +376,10 @@ begun rest more none is =
     false≢true (ap is_some (sym none ∙ ap (text_after_prefix (codes "\"")) is ∙ after_begins (codes "\"") more))
 
 -- if the remaining text doesn't begin with a quote, the output is complete
-pub left_last : (rest printed whole : List ℕ) → text_after_prefix (codes "\"") rest ≡ None → IsLeft rest printed whole → printed ≡ whole
-left_last rest printed whole none before = by before.left before.are.is before.same where
-  by : (left : List (List ℕ)) → rest ≡ joined_quotes left → printed ++ flat_map preamble_line left ≡ whole → printed ≡ whole
+pub left_last : (line_end rest printed whole : List ℕ) → text_after_prefix (codes "\"") rest ≡ None
+    → IsLeft line_end rest printed whole → printed ≡ whole
+left_last line_end rest printed whole none before = by before.left before.are.is before.same where
+  by : (left : List (List ℕ)) → rest ≡ joined_quotes left → printed ++ flat_map (preamble_line line_end) left ≡ whole → printed ≡ whole
   by [] joined same = sym (append-nil printed) ∙ same
   by (inside ∷ []) joined same = absurd (begun rest (inside ++ 34 ∷ []) none joined)
   by (inside ∷ (next ∷ more)) joined same =

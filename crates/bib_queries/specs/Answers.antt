@@ -1,13 +1,14 @@
 -- Meaning: words of public contracts.
 -- The output for each request on a text.
-use Rattle.std.specs.Prelude.{◌≡◌, ◌==◌, ℕ, Bool, ◌||◌, ◌&&◌, not, if◌then◌else◌, List, [], ◌∷◌, eqb, length, map}
+use Rattle.std.specs.Prelude.{◌≡◌, ◌==◌, ℕ, Bool, ◌||◌, ◌&&◌, not, if◌then◌else◌, List, [], ◌∷◌, ◌++◌, codes, eqb, length, map}
 use Rattle.std.specs.List.{flat_map, list_any, starts_with}
 use Rattle.bib_syntax.specs.Grammar.{is_word}
 use Rattle.bib_syntax.specs.Reading.{EntryReading, FieldReading, FileReading, Piece}
 use Rattle.bib_syntax.specs.Reading.Piece.{abbreviation, literal}
 use Rattle.bib_syntax.specs.Recovery.{IsRecovery}
 use Rattle.bib_syntax.specs.declared.raw.recovery.SkippedBlock.{SkippedBlock}
-use Rattle.bib_queries.specs.Cited.{IsExcerpt, entry_line, with_line_feed}
+use Rattle.bib_queries.specs.Cited.{IsExcerpt, entry_line}
+use Rattle.bib_queries.specs.LineEnds.{line_end_of}
 use Rattle.bib_queries.specs.Needed.{is_listed}
 use Rattle.bib_queries.specs.declared.request.Request.{Request}
 use Rattle.bib_queries.specs.declared.request.Request.TheVariants.{Keys, Get, Grep, Cited}
@@ -28,11 +29,11 @@ is_found name part f = is_word f.name.text name && list_any (λ piece. has_part 
 
 -- the keys of entries, each followed by a line feed
 abbrev pub lines_of_keys : List EntryReading → List ℕ
-lines_of_keys entries = flat_map (λ e. with_line_feed e.key.text) entries
+lines_of_keys entries = flat_map (λ e. e.key.text ++ codes "\n") entries
 
--- the source text of the entries that pass a test, each followed by a line feed
+-- the source text of the entries that pass a test, each followed by the line end of the text
 abbrev pub passing_lines : (EntryReading → Bool) → List ℕ → List EntryReading → List ℕ
-passing_lines test text entries = flat_map (λ e. if test e then entry_line text e else []) entries
+passing_lines test text entries = flat_map (λ e. if test e then entry_line (line_end_of text) text e else []) entries
 
 -- whether the key of an entry is one of these
 abbrev pub has_key : List (List ℕ) → EntryReading → Bool

@@ -5,15 +5,12 @@ use Rattle.std.specs.Prelude.{◌≡◌, ℕ, ◌+◌, Bool, true, List, ◌++�
 use Rattle.std.specs.List.{flat_map, list_any}
 use Rattle.std.specs.Str.{trim_end}
 use Rattle.bib_syntax.specs.Reading.{EntryReading, FieldReading, FileReading}
+use Rattle.bib_queries.specs.LineEnds.{line_end_of}
 use Rattle.bib_queries.specs.Names.{definition_node, entry_node, used_in_fields}
 use Rattle.bib_queries.specs.Needed.{AreMarks, IsNeeded, Node, with_marks}
 use Rattle.bib_queries.specs.Preambles.{ArePreambles, preamble_line}
 use Rattle.bib_queries.specs.Unread.{has_unread_preamble, unread_line}
 use Rattle.bib_syntax.specs.declared.raw.recovery.SkippedBlock.{SkippedBlock}
-
--- a text and a line feed
-abbrev pub with_line_feed : List ℕ → List ℕ
-with_line_feed text = text ++ codes "\n"
 
 -- the source text of an entry, from its at sign to its closing brace
 abbrev pub excerpt : List ℕ → EntryReading → List ℕ
@@ -23,13 +20,13 @@ excerpt text e = slice_range text e.start (e.end + 1)
 abbrev pub definition_text : List ℕ → FieldReading → List ℕ
 definition_text text f = trim_end (slice_range text f.name.start f.value.end)
 
--- a block with a definition, and a line feed
-abbrev pub definition_line : List ℕ → FieldReading → List ℕ
-definition_line text f = codes "@string{" ++ (definition_text text f ++ with_line_feed (codes "}"))
+-- a block with a definition, and a line end
+abbrev pub definition_line : List ℕ → List ℕ → FieldReading → List ℕ
+definition_line line_end text f = codes "@string{" ++ (definition_text text f ++ (codes "}" ++ line_end))
 
--- the source text of an entry, and a line feed
-abbrev pub entry_line : List ℕ → EntryReading → List ℕ
-entry_line text e = with_line_feed (excerpt text e)
+-- the source text of an entry, and a line end
+abbrev pub entry_line : List ℕ → List ℕ → EntryReading → List ℕ
+entry_line line_end text e = excerpt text e ++ line_end
 
 -- the abbreviations that an entry uses
 abbrev pub used_in_entry : EntryReading → List (List ℕ)
@@ -46,8 +43,8 @@ pub data IsCited (names : List (List ℕ)) (all : Bool) (nodes : List Node) : �
   needed : {index : ℕ} → IsNeeded names nodes index → IsCited names all nodes index
 
 -- whether `printed` is the output for these citations (`all`: of all entries): the definitions with marks, the preambles of the file,
--- those of its skipped blocks, and the entries with marks. `has_entry` says whether an entry has a mark. A parsed preamble uses no
--- definition. A skipped one may use any, so if there is one, all definitions have marks.
+-- those of its skipped blocks, and the entries with marks, each followed by the line end of the text. `has_entry` says whether an entry
+-- has a mark. A parsed preamble uses no definition. A skipped one may use any, so if there is one, all definitions have marks.
 pub record IsExcerpt (names : List (List ℕ)) (all : Bool) (text : List ℕ) (says : FileReading) (skipped : List SkippedBlock)
     (printed : List ℕ) (has_entry : Bool) : Type 0 where
   pub entry_marks : List Bool
@@ -59,7 +56,8 @@ pub record IsExcerpt (names : List (List ℕ)) (all : Bool) (text : List ℕ) (s
       (map definition_node says.abbreviations))
       (length says.abbreviations) definition_marks
   pub preambles : ArePreambles says.preamble insides
-  pub is : printed ≡ flat_map (definition_line text) (with_marks definition_marks says.abbreviations)
-      ++ (flat_map preamble_line insides
-      ++ (flat_map (unread_line text) skipped ++ flat_map (entry_line text) (with_marks entry_marks says.entries)))
+  pub is : printed ≡ flat_map (definition_line (line_end_of text) text) (with_marks definition_marks says.abbreviations)
+      ++ (flat_map (preamble_line (line_end_of text)) insides
+      ++ (flat_map (unread_line (line_end_of text) text) skipped
+      ++ flat_map (entry_line (line_end_of text) text) (with_marks entry_marks says.entries)))
   pub found : has_entry ≡ list_any (λ mark. mark) entry_marks

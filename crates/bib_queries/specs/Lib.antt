@@ -4,6 +4,7 @@ pub mod Cited
 pub mod Collecting
 pub mod Elements
 pub mod Known
+pub mod LineEnds
 pub mod Lines
 pub mod Names
 pub mod Needed

@@ -31,6 +31,6 @@ pub record ArePreambles (joined : List ℕ) (insides : List (List ℕ)) : Type 0
   pub each : AllByRecursion CanBeQuoted insides
   pub is : joined ≡ joined_quotes insides
 
--- a block with a preamble whose quotes contain the text `inside`, and a line feed
-abbrev pub preamble_line : List ℕ → List ℕ
-preamble_line inside = codes "@preamble{\"" ++ (inside ++ codes "\"}\n")
+-- a block with a preamble whose quotes contain the text `inside`, and a line end
+abbrev pub preamble_line : List ℕ → List ℕ → List ℕ
+preamble_line line_end inside = codes "@preamble{\"" ++ (inside ++ (codes "\"}" ++ line_end))

@@ -26,6 +26,6 @@ is_unread_preamble text block = is_preamble (skipped_source text block)
 abbrev pub has_unread_preamble : List ℕ → List SkippedBlock → Bool
 has_unread_preamble text skipped = list_any (is_unread_preamble text) skipped
 
--- the source text of a skipped block and a line feed, if it is a preamble in braces
-abbrev pub unread_line : List ℕ → SkippedBlock → List ℕ
-unread_line text block = if is_unread_preamble text block then skipped_source text block ++ codes "\n" else []
+-- the source text of a skipped block and a line end, if it is a preamble in braces
+abbrev pub unread_line : List ℕ → List ℕ → SkippedBlock → List ℕ
+unread_line line_end text block = if is_unread_preamble text block then skipped_source text block ++ line_end else []

@@ -13,6 +13,7 @@ ghost use Rattle.bib_queries.specs.Standing.{IsFieldIn, IsSkippedIn};
 ghost use Rattle.bib_queries.specs.Texts.{text_list};
 
 use crate::excerpts::{TextAnswer, print_if};
+use crate::line_ends::line_end;
 use crate::names::{links_of_definitions, links_of_entries, push_used_in_fields};
 use crate::needed::mark_needed;
 use crate::preambles::print_preambles;
@@ -100,56 +101,60 @@ fn definition<'s>(text: &'s str, pair: &Pair<'_>) -> &'s str
     text[pair.key.span.start..pair.value.span.end].trim_end()
 }
 
-// Appends a block with a definition, if it has a mark.
+// Appends a block with a definition and a line end, if the definition has a mark.
 fn print_definition(
     printed: &mut String,
+    line_end: &str,
     text: &str,
     pair: &Pair<'_>,
     has_mark: bool,
 ) -> Result<(), AllocError>
     requires { IsFieldIn text.now (field_of pair.now) }
-    ensures { OnOk result (string_bytes printed.new ≡
-        string_bytes printed.old ++ (if has_mark then definition_line text.now (field_of pair.now) else [])) }
+    ensures { OnOk result (string_bytes printed.new ≡ string_bytes printed.old
+        ++ (if has_mark then definition_line line_end.now text.now (field_of pair.now) else [])) }
 {
     if !has_mark {
         return Ok(());
     }
     printed.push_str("@string{")?;
     printed.push_str(definition(text, pair))?;
-    printed.push_str("}\n")?;
+    printed.push_str("}")?;
+    printed.push_str(line_end)?;
     Ok(())
 }
 
-// Appends the definitions with marks.
+// Appends the definitions with marks, each as a block with a line end.
 fn print_definitions(
     printed: &mut String,
+    line_end: &str,
     text: &str,
     pairs: &[Pair<'_>],
     marks: &[bool],
 ) -> Result<(), AllocError>
     requires { AllByRecursion (IsFieldIn text.now) (map field_of pairs.now) }
-    ensures { OnOk result (string_bytes printed.new ≡
-        string_bytes printed.old ++ flat_map (definition_line text.now) (with_marks marks.now (map field_of pairs.now))) }
+    ensures { OnOk result (string_bytes printed.new ≡ string_bytes printed.old
+        ++ flat_map (definition_line line_end.now text.now) (with_marks marks.now (map field_of pairs.now))) }
 {
     'pairs: for (pair, mark) in pairs.iter().zip(marks) {
-        print_definition(printed, text, pair, *mark)?;
+        print_definition(printed, line_end, text, pair, *mark)?;
     }
     Ok(())
 }
 
-// Appends the source text of the entries with marks.
+// Appends the source text of the entries with marks, each with a line end.
 fn print_entries(
     printed: &mut String,
+    line_end: &str,
     text: &str,
     entries: &[Spanned<RawEntry<'_>>],
     marks: &[bool],
 ) -> Result<(), AllocError>
     requires { AllByRecursion (IsBlockOf text.now) (map entry_reading_of entries.now) }
-    ensures { OnOk result (string_bytes printed.new ≡
-        string_bytes printed.old ++ flat_map (entry_line text.now) (with_marks marks.now (map entry_reading_of entries.now))) }
+    ensures { OnOk result (string_bytes printed.new ≡ string_bytes printed.old
+        ++ flat_map (entry_line line_end.now text.now) (with_marks marks.now (map entry_reading_of entries.now))) }
 {
     'entries: for (entry, mark) in entries.iter().zip(marks) {
-        print_if(printed, text, entry, *mark)?;
+        print_if(printed, line_end, text, entry, *mark)?;
     }
     Ok(())
 }
@@ -179,11 +184,18 @@ pub(crate) fn cited_text(
     let raw = &found.raw;
     let marks = cited_entries(alloc, cited, &raw.entries)?;
     let definition_marks = used_definitions(alloc, raw, &marks, has_unread(text, &found.skipped))?;
+    let line_end = line_end(text);
     let mut printed = String::new(alloc);
-    print_definitions(&mut printed, text, &raw.abbreviations, &definition_marks)?;
-    print_preambles(&mut printed, raw.preamble.as_str())?;
-    print_all_unread(&mut printed, text, &found.skipped)?;
-    print_entries(&mut printed, text, &raw.entries, &marks)?;
+    print_definitions(
+        &mut printed,
+        line_end,
+        text,
+        &raw.abbreviations,
+        &definition_marks,
+    )?;
+    print_preambles(&mut printed, line_end, raw.preamble.as_str())?;
+    print_all_unread(&mut printed, line_end, text, &found.skipped)?;
+    print_entries(&mut printed, line_end, text, &raw.entries, &marks)?;
     let has_entry = has_mark(&marks);
     Ok(TextAnswer {
         text: printed,

@@ -13,6 +13,7 @@ ghost use Rattle.bib_queries.specs.Preambles.{ArePreambles};
 ghost use Rattle.bib_queries.specs.Standing.{IsFieldIn, IsSkippedIn};
 
 use crate::cited::cited_text;
+use crate::line_ends::line_end;
 use crate::names::is_name;
 use crate::request::{Request, Search};
 use crate::sets::name_set;
@@ -82,34 +83,36 @@ fn excerpt<'s>(text: &'s str, entry: &Spanned<RawEntry<'_>>) -> &'s str
     &text[entry.span.start..entry.span.end + 1]
 }
 
-// Appends the source text of an entry and a line feed.
+// Appends the source text of an entry and a line end.
 fn print_entry(
     printed: &mut String,
+    line_end: &str,
     text: &str,
     entry: &Spanned<RawEntry<'_>>,
 ) -> Result<(), AllocError>
     requires { IsBlockOf text.now (entry_reading_of entry.now) }
     ensures { OnOk result (string_bytes printed.new ≡
-        string_bytes printed.old ++ entry_line text.now (entry_reading_of entry.now)) }
+        string_bytes printed.old ++ entry_line line_end.now text.now (entry_reading_of entry.now)) }
 {
     printed.push_str(excerpt(text, entry))?;
-    printed.push('\n')?;
+    printed.push_str(line_end)?;
     Ok(())
 }
 
-// Appends the source text of an entry and a line feed, if it is requested.
+// Appends the source text of an entry and a line end, if it is requested.
 pub(crate) fn print_if(
     printed: &mut String,
+    line_end: &str,
     text: &str,
     entry: &Spanned<RawEntry<'_>>,
     is_asked: bool,
 ) -> Result<(), AllocError>
     requires { IsBlockOf text.now (entry_reading_of entry.now) }
-    ensures { OnOk result (string_bytes printed.new ≡
-        string_bytes printed.old ++ (if is_asked then entry_line text.now (entry_reading_of entry.now) else [])) }
+    ensures { OnOk result (string_bytes printed.new ≡ string_bytes printed.old
+        ++ (if is_asked then entry_line line_end.now text.now (entry_reading_of entry.now) else [])) }
 {
     if is_asked {
-        return print_entry(printed, text, entry);
+        return print_entry(printed, line_end, text, entry);
     }
     Ok(())
 }
@@ -126,7 +129,7 @@ fn keys(alloc: Global, entries: &[Spanned<RawEntry<'_>>]) -> Result<String, Allo
     Ok(printed)
 }
 
-// Returns the source text of the entries with these keys.
+// Returns the source text of the entries with these keys, each followed by the line end of the text.
 fn get(
     alloc: Global,
     keys: &[&str],
@@ -138,14 +141,21 @@ fn get(
         passing_lines (has_key (map (λ key. key.now) keys.now)) text.now (map entry_reading_of entries.now)) }
 {
     let asked = name_set(alloc, keys)?;
+    let line_end = line_end(text);
     let mut printed = String::new(alloc);
     'entries: for entry in entries {
-        print_if(&mut printed, text, entry, asked.contains(entry.v.key.v))?;
+        print_if(
+            &mut printed,
+            line_end,
+            text,
+            entry,
+            asked.contains(entry.v.key.v),
+        )?;
     }
     Ok(printed)
 }
 
-// Returns the source text of the entries that the search finds.
+// Returns the source text of the entries that the search finds, each followed by the line end of the text.
 fn grep(
     alloc: Global,
     search: &Search<'_>,
@@ -156,9 +166,16 @@ fn grep(
     ensures { IfOk result (λ printed. string_bytes printed ≡
         passing_lines (is_found_in search.now.field.now search.now.part.now) text.now (map entry_reading_of entries.now)) }
 {
+    let line_end = line_end(text);
     let mut printed = String::new(alloc);
     'entries: for entry in entries {
-        print_if(&mut printed, text, entry, is_found_in(entry, search))?;
+        print_if(
+            &mut printed,
+            line_end,
+            text,
+            entry,
+            is_found_in(entry, search),
+        )?;
     }
     Ok(printed)
 }

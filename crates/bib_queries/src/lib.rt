@@ -15,6 +15,7 @@ mod elements;
 pub mod excerpts;
 pub mod known;
 pub mod laws;
+pub mod line_ends;
 pub mod lines;
 pub mod names;
 mod needed;

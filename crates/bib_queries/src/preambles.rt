@@ -54,25 +54,30 @@ fn after_joint(text: &str) -> &str
     }
 }
 
-// Appends a block with a preamble. `inside` is its text without the quotes.
-fn print_preamble(printed: &mut String, inside: &str) -> Result<(), AllocError>
-    ensures { OnOk result (string_bytes printed.new ≡ string_bytes printed.old ++ preamble_line inside.now) }
+// Appends a block with a preamble, and a line end. `inside` is its text without the quotes.
+fn print_preamble(printed: &mut String, line_end: &str, inside: &str) -> Result<(), AllocError>
+    ensures { OnOk result (string_bytes printed.new ≡ string_bytes printed.old ++ preamble_line line_end.now inside.now) }
 {
     printed.push_str("@preamble{\"")?;
     printed.push_str(inside)?;
-    printed.push_str("\"}\n")?;
+    printed.push_str("\"}")?;
+    printed.push_str(line_end)?;
     Ok(())
 }
 
-// Appends a block for each preamble. `joined` contains the quoted texts of all preambles, joined by ` # `.
-pub(crate) fn print_preambles(printed: &mut String, joined: &str) -> Result<(), AllocError>
+// Appends a block for each preamble, with a line end. `joined` contains the quoted texts of all preambles, joined by ` # `.
+pub(crate) fn print_preambles(
+    printed: &mut String,
+    line_end: &str,
+    joined: &str,
+) -> Result<(), AllocError>
     ensures { OnOk result ((insides : List (List ℕ)) → ArePreambles joined.now insides →
-        string_bytes printed.new ≡ string_bytes printed.old ++ flat_map preamble_line insides) }
+        string_bytes printed.new ≡ string_bytes printed.old ++ flat_map (preamble_line line_end.now) insides) }
 {
     let mut rest = joined;
     'preambles: while let Some(opened) = after_prefix(rest, "\"") {
         let (inside, closed) = opened.split_at(closing_quote(opened));
-        print_preamble(printed, inside)?;
+        print_preamble(printed, line_end, inside)?;
         rest = after_joint(closed);
     }
     Ok(())

@@ -50,29 +50,36 @@ pub(crate) fn has_unread(text: &str, skipped: &[SkippedBlock]) -> bool
     false
 }
 
-// Appends the source text of a skipped block and a line feed, if it is a preamble in braces.
-fn print_unread(printed: &mut String, text: &str, block: &SkippedBlock) -> Result<(), AllocError>
+// Appends the source text of a skipped block and a line end, if it is a preamble in braces.
+fn print_unread(
+    printed: &mut String,
+    line_end: &str,
+    text: &str,
+    block: &SkippedBlock,
+) -> Result<(), AllocError>
     requires { IsSkippedIn text.now block.now }
-    ensures { OnOk result (string_bytes printed.new ≡ string_bytes printed.old ++ unread_line text.now block.now) }
+    ensures { OnOk result (string_bytes printed.new ≡ string_bytes printed.old ++ unread_line line_end.now text.now block.now) }
 {
     if is_unread(text, block) {
         printed.push_str(skipped_source(text, block))?;
-        printed.push('\n')?;
+        printed.push_str(line_end)?;
     }
     Ok(())
 }
 
-// Appends the source text of the skipped blocks that are preambles in braces, each with a line feed.
+// Appends the source text of the skipped blocks that are preambles in braces, each with a line end.
 pub(crate) fn print_all_unread(
     printed: &mut String,
+    line_end: &str,
     text: &str,
     skipped: &[SkippedBlock],
 ) -> Result<(), AllocError>
     requires { AllByRecursion (IsSkippedIn text.now) skipped.now }
-    ensures { OnOk result (string_bytes printed.new ≡ string_bytes printed.old ++ flat_map (unread_line text.now) skipped.now) }
+    ensures { OnOk result (string_bytes printed.new ≡
+        string_bytes printed.old ++ flat_map (unread_line line_end.now text.now) skipped.now) }
 {
     'spans: for block in skipped {
-        print_unread(printed, text, block)?;
+        print_unread(printed, line_end, text, block)?;
     }
     Ok(())
 }

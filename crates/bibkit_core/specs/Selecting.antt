@@ -24,7 +24,7 @@ pub record AreKeysPrinted (keys : List (List ℕ)) (text printed : List ℕ) (ha
   pub found : has_entry ≡ not (length printed == 0)
 
 -- `printed` has the source text of the entries of a text whose key is both in `wanted` and in `keys`, in the order of the text, each
--- followed by a line feed; `has_entry` says whether there is such an entry
+-- followed by the line end of the text; `has_entry` says whether there is such an entry
 pub record AreCommonPrinted (wanted keys : List (List ℕ)) (text printed : List ℕ) (has_entry : Bool) : Type 0 where
   pub says : FileReading
   pub skipped : List SkippedBlock

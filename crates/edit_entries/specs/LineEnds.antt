@@ -1,17 +1,9 @@
 -- Meaning: words of public contracts.
--- Line ends of a text.
-use Rattle.std.specs.Prelude.{◌&&◌, ◌==◌, ℕ, List, [], ◌∷◌, ◌++◌, bytes_eq, codes, cond, encode_utf8_all, if◌then◌else◌, length, nat_lt, not}
-use Rattle.std.specs.List.{before_first, ends_with, position_or_len}
+-- Texts with the line ends of a file.
+use Rattle.std.specs.Prelude.{◌&&◌, ◌==◌, ℕ, List, [], ◌∷◌, ◌++◌, bytes_eq, codes, encode_utf8_all, if◌then◌else◌, not}
 use Rattle.std.specs.Str.{chars}
 use Rattle.bib_text.specs.Characters as char
-use lib.Dec.{eqb}
-
--- the line end of a text: a carriage return and a line feed if its first line ends so, otherwise a line feed
-abbrev pub line_end_of : List ℕ → List ℕ
-line_end_of text =
-    cond
-    (nat_lt (position_or_len (λ b. eqb b char.line_feed) text) (length text)
-    && ends_with eqb (before_first (λ b. eqb b char.line_feed) text) (codes "\r")) (codes "\r\n") (codes "\n")
+pub use Rattle.bib_queries.specs.LineEnds.{line_end_of}
 
 -- a character after another one, with a carriage return before it if it is a line feed and has none
 abbrev pub with_return : ℕ → ℕ → List ℕ

@@ -1,23 +1,13 @@
-//! Line ends of a text.
+//! Texts with the line ends of a file.
 
 ghost use Rattle.std.specs.Prelude.{◌≡◌, ◌++◌, IfOk, OnOk, encode_utf8, encode_utf8_all};
 ghost use Rattle.std.specs.Str.{chars};
 ghost use Rattle.std.specs.String.{string_bytes};
 ghost use Rattle.bib_text.specs.Characters as char;
 ghost use Rattle.edit_entries.specs.LineEnds as spec;
-ghost use Rattle.edit_entries.specs.LineEnds.{line_end_of};
 
+pub use bib_queries::line_ends::line_end;
 use std::alloc::{AllocError, Global};
-
-/// Returns the line end of a text: `\r\n` if its first line ends so, otherwise `\n`.
-pub fn line_end(text: &str) -> &'static str
-    ensures { result.now ≡ line_end_of text.now }
-{
-    match text.split_once('\n') {
-        Some((line, _)) => if line.ends_with("\r") { "\r\n" } else { "\n" },
-        None => "\n",
-    }
-}
 
 // Appends a carriage return if `c` is a line feed, and `before`, the character before it, isn't a carriage return.
 fn push_return(new: &mut String, before: char, c: char) -> Result<(), AllocError>

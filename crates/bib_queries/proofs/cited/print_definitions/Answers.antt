@@ -29,10 +29,10 @@ pairs-preserved c =
     (λ n.
     string_bytes c.print_definition.new.printed
     ≡ string_bytes c.args.printed.now
-    ++ flat_map (definition_line c.args.text.now)
+    ++ flat_map (definition_line c.args.line_end.now c.args.text.now)
     (with_marks (take n c.args.marks.now) (map field_of (take n c.args.pairs.now))))
     (sym (length_push c.pairs.yielded (c.in-Some.pair, c.in-Some.mark)))
-    (marked_made field_of (definition_line c.args.text.now) c.args.marks.now c.args.pairs.now (length c.pairs.yielded)
+    (marked_made field_of (definition_line c.args.line_end.now c.args.text.now) c.args.marks.now c.args.pairs.now (length c.pairs.yielded)
     c.in-Some.mark.now c.in-Some.pair.now (string_bytes c.args.printed.now) (string_bytes c.pairs.printed)
     (string_bytes c.print_definition.new.printed)
     t.1 t.0 (sym (t.3 c.in-Some.mark.now)) (sym (t.2 c.in-Some.pair.now)) c.pairs.invariant c.in_ok-print_definition.ensures)
@@ -43,5 +43,5 @@ returns c =
     zip_end c.args.pairs.now c.args.marks.now c.pairs.yielded c.into_iter-pair-iterator.result c.pairs.pair-iterator
     c.next.new.self c.next.result (cc) (cc) c.pairs.yielded_by c.in-None.is c.next.ensures.steps in
     c.pairs.invariant
-    ∙ ap (λ l. string_bytes c.args.printed.now ++ flat_map (definition_line c.args.text.now) l)
+    ∙ ap (λ l. string_bytes c.args.printed.now ++ flat_map (definition_line c.args.line_end.now c.args.text.now) l)
     (marked_all field_of c.args.marks.now c.args.pairs.now (length c.pairs.yielded) end)

@@ -10,5 +10,5 @@ abbrev pub invariant-pairs : goal.invariant-pairs
 invariant-pairs l =
     string_bytes l.printed
     ≡ string_bytes l.initial.printed
-    ++ flat_map (definition_line l.text)
+    ++ flat_map (definition_line l.line_end l.text)
     (with_marks (take (length l.yielded) l.marks) (map field_of (take (length l.yielded) l.pairs)))

@@ -29,10 +29,10 @@ entries-preserved c =
     (λ n.
     string_bytes c.print_if.new.printed
     ≡ string_bytes c.args.printed.now
-    ++ flat_map (entry_line c.args.text.now)
+    ++ flat_map (entry_line c.args.line_end.now c.args.text.now)
     (with_marks (take n c.args.marks.now) (map entry_reading_of (take n c.args.entries.now))))
     (sym (length_push c.entries.yielded (c.in-Some.entry, c.in-Some.mark)))
-    (marked_made entry_reading_of (entry_line c.args.text.now) c.args.marks.now c.args.entries.now
+    (marked_made entry_reading_of (entry_line c.args.line_end.now c.args.text.now) c.args.marks.now c.args.entries.now
     (length c.entries.yielded) c.in-Some.mark.now c.in-Some.entry.now (string_bytes c.args.printed.now)
     (string_bytes c.entries.printed) (string_bytes c.print_if.new.printed)
     t.1 t.0 (sym (t.3 c.in-Some.mark.now)) (sym (t.2 c.in-Some.entry.now)) c.entries.invariant c.in_ok-print_if.ensures)
@@ -44,5 +44,5 @@ returns c =
     c.entries.entry-iterator c.next.new.self c.next.result (cc) (cc) c.entries.yielded_by c.in-None.is
     c.next.ensures.steps in
     c.entries.invariant
-    ∙ ap (λ l. string_bytes c.args.printed.now ++ flat_map (entry_line c.args.text.now) l)
+    ∙ ap (λ l. string_bytes c.args.printed.now ++ flat_map (entry_line c.args.line_end.now c.args.text.now) l)
     (marked_all entry_reading_of c.args.marks.now c.args.entries.now (length c.entries.yielded) end)

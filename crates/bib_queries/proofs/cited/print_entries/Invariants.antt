@@ -10,5 +10,5 @@ abbrev pub invariant-entries : goal.invariant-entries
 invariant-entries l =
     string_bytes l.printed
     ≡ string_bytes l.initial.printed
-    ++ flat_map (entry_line l.text)
+    ++ flat_map (entry_line l.line_end l.text)
     (with_marks (take (length l.yielded) l.marks) (map entry_reading_of (take (length l.yielded) l.entries)))

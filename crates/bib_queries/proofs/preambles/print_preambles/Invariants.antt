@@ -11,7 +11,7 @@ abbrev pub invariant-preambles : goal.invariant-preambles
 invariant-preambles l = record {
   utf8 : shadow (Utf8 l.rest);
   left : (insides : List (List ℕ)) → ArePreambles l.joined insides
-      → IsLeft l.rest (string_bytes l.printed) (string_bytes l.initial.printed ++ flat_map preamble_line insides);
+      → IsLeft l.line_end l.rest (string_bytes l.printed) (string_bytes l.initial.printed ++ flat_map (preamble_line l.line_end) insides);
 }
 
 abbrev pub decreases-preambles : goal.decreases-preambles

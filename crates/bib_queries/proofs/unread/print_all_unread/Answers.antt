@@ -13,10 +13,12 @@ print_unread-requires c =
 
 pub spans-preserved : goal.spans-preserved
 spans-preserved c =
+    let line_end = c.args.line_end.now in
     let text = c.args.text.now in
     let blocks = c.args.skipped.now in
     let i = c.spans.block-index in
-    c.in_ok-print_unread.ensures ∙ ap (λ t. t ++ unread_line text c.block-item.result) c.spans.invariant
-    ∙ append_assoc (string_bytes c.args.printed.now) (flat_map (unread_line text) (take i blocks)) (unread_line text c.block-item.result)
+    c.in_ok-print_unread.ensures ∙ ap (λ t. t ++ unread_line line_end text c.block-item.result) c.spans.invariant
+    ∙ append_assoc (string_bytes c.args.printed.now) (flat_map (unread_line line_end text) (take i blocks))
+    (unread_line line_end text c.block-item.result)
     ∙ ap (λ t. string_bytes c.args.printed.now ++ t)
-    (sym (lines_more (unread_line text) blocks i c.block-item.result c.spans-test.true (sym c.block-item.is)))
+    (sym (lines_more (unread_line line_end text) blocks i c.block-item.result c.spans-test.true (sym c.block-item.is)))

@@ -6,4 +6,4 @@ use Rattle.bib_queries.proofs.unread.print_all_unread.Given as goal
 
 abbrev pub invariant-spans : goal.invariant-spans
 invariant-spans l =
-    string_bytes l.printed ≡ string_bytes l.initial.printed ++ flat_map (unread_line l.text) (take l.block-index l.skipped)
+    string_bytes l.printed ≡ string_bytes l.initial.printed ++ flat_map (unread_line l.line_end l.text) (take l.block-index l.skipped)

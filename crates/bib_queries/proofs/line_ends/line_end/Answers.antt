@@ -1,12 +1,12 @@
 use Rattle.std.proofs.Common.{◌≡◌, Bool, false, ℕ, ◌<◌, List, Option, None, Some, codes, cond, length, sym, ap, ◌∙◌, arith}
 use Rattle.std.specs.Prelude.{MatchOption, nat_lt}
 use Rattle.std.specs.Borrow.{Bor}
-use Rattle.edit_entries.specs.LineEnds.{line_end_of}
+use Rattle.bib_queries.specs.LineEnds.{line_end_of}
 use lib.Dec.{eqb}
 use Rattle.std.specs.List.{after_first, before_first, ends_with, position_or_len}
 use Rattle.std.proofs.lemmas.Str.Pattern.{ends_text, split_once_first}
 use Rattle.std.proofs.lemmas.Bool.{and_right}
-use Rattle.edit_entries.proofs.line_ends.line_end.Goals as goal
+use Rattle.bib_queries.proofs.line_ends.line_end.Goals as goal
 
 -- the line end is a line feed if the first line doesn't end with a carriage return
 ends_alone : (text line : List ℕ) (r : Bool) → line ≡ before_first (λ b. eqb b 10) text
