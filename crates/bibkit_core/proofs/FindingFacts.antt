@@ -19,7 +19,7 @@ use Rattle.bibkit_core.specs.Conditions.{AreReportedFindings, findings_of_no_ent
 use Rattle.bib_source.specs.declared.decoding.Decoded.{Decoded}
 use Rattle.bib_findings.specs.Findings.{AreFindings}
 use Rattle.bibkit_core.specs.declared.request.Lint.{Lint}
-use Rattle.bibkit_core.specs.Linted.{AreShown, ArePrinted, IsPrintedFile, tally_after, unread_findings}
+use Rattle.bibkit_core.specs.Linted.{IsPrintedKept, AreShown, ArePrinted, IsPrintedFile, tally_after, unread_findings}
 use Rattle.bibkit_core.specs.Linted.AreShown.{none, next}
 use Rattle.bibkit_core.specs.Regions.{region_at}
 use Rattle.bibkit_core.specs.Printed.{IsShown, has_no_finding, one_more}
@@ -130,21 +130,15 @@ step_passed {style} {name} {bytes} s xs more f {a} {b} {d} grows isnt before sam
     (subst (λ ys. IsAdded (ArePrinted style name bytes ys) a b) (sym (ap (selected_findings s) grows ∙ asked_same s xs f isnt)) before)
 
 -- the output for the finding that a file isn't UTF-8, followed by the output for the findings of its text, is that for the file
-pub file_added : {lint : Lint} {name bytes : List ℕ} {decoded : Decoded} (found kept : List Finding) {a b c : Printed}
-    → AreFindings (string_bytes decoded.text) found
-    → AreReportedFindings lint.conditions.items (string_bytes decoded.text) found kept
+pub kept_added : {lint : Lint} {name bytes : List ℕ} {decoded : Decoded} (kept : List Finding) {a b c : Printed}
     → IsAdded
     (ArePrinted lint.style name bytes
     (selected_findings lint.selection (findings_of_no_entry lint.conditions.items (unread_findings decoded.invalid)))) a b
     → IsAdded (ArePrinted lint.style name (string_bytes decoded.text) (selected_findings lint.selection kept)) b c
-    → IsAdded (IsPrintedFile lint name bytes decoded) a c
-file_added found kept {a} {b} {c} are reported first second = record {
+    → IsAdded (IsPrintedKept lint name bytes decoded kept) a c
+kept_added kept {a} {b} {c} first second = record {
   text = first.text ++ second.text;
   are = record {
-    found = found;
-    are = are;
-    kept = kept;
-    reported = reported;
     between = b.tally;
     first = first.text;
     second = second.text;
@@ -153,6 +147,17 @@ file_added found kept {a} {b} {c} are reported first second = record {
     is = refl;
   };
   printed = second.printed ∙ ap (λ t. t ++ second.text) first.printed ∙ append_assoc (string_bytes a.text) first.text second.text;
+}
+
+-- the output for the reported findings of a file is that for the file
+pub file_added : {lint : Lint} {name bytes : List ℕ} {decoded : Decoded} (found kept : List Finding) {a c : Printed}
+    → AreFindings (string_bytes decoded.text) found
+    → AreReportedFindings lint.conditions.items (string_bytes decoded.text) found kept
+    → IsAdded (IsPrintedKept lint name bytes decoded kept) a c → IsAdded (IsPrintedFile lint name bytes decoded) a c
+file_added found kept are reported printed = record {
+  text = printed.text;
+  are = record { found = found; are = are; kept = kept; reported = reported; printed = printed.are };
+  printed = printed.printed;
 }
 
 -- if a text was empty, the text that was appended to it is the whole text

@@ -1,6 +1,6 @@
 -- Meaning: words of public contracts.
 -- The output of a request on files, and the status.
-use Rattle.std.specs.Prelude.{◌≡◌, ℕ, List, [], ◌++◌, codes, map, Bool, Option, Some, None}
+use Rattle.std.specs.Prelude.{◌≡◌, ℕ, List, [], ◌++◌, ◌&&◌, codes, false, length, map, nat_lt, not, true, Bool, Option, Some, None}
 use Rattle.std.specs.Borrow.{Bor}
 use Rattle.bib_queries.specs.declared.citations.Citations.{Citations}
 use Rattle.bib_queries.specs.declared.request.CitedKeys.{CitedKeys}
@@ -9,11 +9,14 @@ use Rattle.bib_queries.specs.declared.request.Request.TheVariants as excerpts
 use Rattle.bib_findings.specs.Codes.{code_name, severity_name, severity_of}
 use Rattle.bib_findings.specs.declared.codes.Code.{Code}
 use Rattle.bibkit_core.specs.Compared.{EndsCompared, PrintsCompared, ReadsDocument, cited_keys, compared_begins, none_compared}
+use Rattle.bibkit_core.specs.Database.{BeginsDatabase, EndsDatabase, StoresFile, database_begins}
 use Rattle.bibkit_core.specs.Outcomes.{HasPrinted, IsRefusedAfter}
 use Rattle.bibkit_core.specs.Running.{IsTaskPrinted}
 use Rattle.bibkit_core.specs.Selecting.{BeginsSelecting, selecting_begins, selecting_ends, selecting_prints}
 use Rattle.bibkit_core.specs.Stats.{EndsCounted, PrintsCounted, counted_begins, none_counted}
 use Rattle.bibkit_core.specs.Tasks.{BeginsEntries, BeginsLinting, entries_begins, entries_ends, entries_prints, linting_begins, linting_ends, linting_prints}
+use Rattle.bibkit_core.specs.declared.cited.Document.{Document}
+use Rattle.bibkit_core.specs.declared.database.Database.{Database}
 use Rattle.bibkit_core.specs.declared.entries.Entries.{Entries}
 use Rattle.bibkit_core.specs.declared.linting.Linting.{Linting}
 use Rattle.bibkit_core.specs.declared.request.Cited.{Cited}
@@ -32,18 +35,37 @@ pub record AsksForCited (found : Citations) (asked : CitedKeys) : Type 0 where
   pub keys : map (λ key. key.now) asked.keys.items ≡ cited_keys found
   pub all : asked.all ≡ found.all
 
+-- whether files with these names are one database for `lint`: there are several, and they aren't separate by request
+abbrev pub is_database : Lint → List (List ℕ) → Bool
+is_database lint names = not lint.is_each && nat_lt 1 (length names)
+
+-- `document` is that of a request: with the name and the setting of the request, and with the citations of its file, which is read
+pub record IsDocumentFor {F : Type 0} (reads : F → List ℕ → Option (List ℕ) → F → Type 0) (files : F) (cited : Cited)
+    (files' : F) (document : Document) : Type 0 where
+  pub name_is : document.name.now ≡ cited.name.now
+  pub unused_is : document.has_unused ≡ cited.has_unused
+  pub read : ReadsDocument reads files cited.name.now files' document.text.now document.citations
+
 -- an output of a request on the files with these names, and the status if the output is whole; `reads` relates the state before
 -- reading a file, its name, its bytes (`None` for an error) and the state afterwards
 pub data IsCallAnswer {F : Type 0} (reads : F → List ℕ → Option (List ℕ) → F → Type 0) (files : F)
     (names : List (List ℕ)) : Request → List ℕ → Option ℕ → Type 0 where
-  findings : {lint : Lint} {text : List ℕ} {status : Option ℕ} (task : Linting) → lint.cited ≡ None → BeginsLinting lint task
-      → IsTaskPrinted reads linting_begins linting_prints linting_ends files task names text status
+  findings : {lint : Lint} {text : List ℕ} {status : Option ℕ} (task : Linting) → is_database lint names ≡ false → lint.cited ≡ None
+      → BeginsLinting lint task → IsTaskPrinted reads linting_begins linting_prints linting_ends files task names text status
       → IsCallAnswer reads files names (request.Lint lint) text status
   compared : {lint : Lint} {text : List ℕ} {status : Option ℕ} (cited : Cited) (found : Citations) (document : List ℕ)
-      (files' : F) → lint.cited ≡ Some cited
+      (files' : F) → is_database lint names ≡ false → lint.cited ≡ Some cited
       → ReadsDocument reads files cited.name.now files' document found
       → IsTaskPrinted reads (compared_begins lint) (PrintsCompared lint cited.has_unused found)
       (EndsCompared lint cited.name.now document found) files' none_compared names text status
+      → IsCallAnswer reads files names (request.Lint lint) text status
+  database : {lint : Lint} {text : List ℕ} {status : Option ℕ} (task : Database) → is_database lint names ≡ true → lint.cited ≡ None
+      → BeginsDatabase lint None task → IsTaskPrinted reads database_begins StoresFile EndsDatabase files task names text status
+      → IsCallAnswer reads files names (request.Lint lint) text status
+  compared_database : {lint : Lint} {text : List ℕ} {status : Option ℕ} (cited : Cited) (document : Document) (files' : F)
+      (task : Database) → is_database lint names ≡ true → lint.cited ≡ Some cited → IsDocumentFor reads files cited files' document
+      → BeginsDatabase lint (Some document) task
+      → IsTaskPrinted reads database_begins StoresFile EndsDatabase files' task names text status
       → IsCallAnswer reads files names (request.Lint lint) text status
   meaning : {c : Code} (text : List ℕ) → IsCallAnswer reads files names (request.Explain c) (meaning_text c text) (Some 0)
   no_meaning : {c : Code} → IsCallAnswer reads files names (request.Explain c) [] None

@@ -58,6 +58,10 @@ missing_finding c = record {
 abbrev pub missing_findings : List FileReading → List Citation → List Finding
 missing_findings readings citations = map missing_finding (filter (λ c. not (is_in_files readings c.key)) citations)
 
+-- the findings of the citations that are the names of none of these entries
+abbrev pub missing_among : List EntryReading → List Citation → List Finding
+missing_among entries citations = map missing_finding (filter (λ c. not (is_listed (all_names entries) c.key)) citations)
+
 -- the finding of an entry with this key, which the document doesn't cite
 abbrev pub unused_finding : Part → Finding
 unused_finding key = record {

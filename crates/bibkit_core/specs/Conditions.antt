@@ -102,20 +102,30 @@ is_about skipped entries f =
     is_in_one skipped entries (finding_place f.code f.span.start)
     || option_map_or (is_listed (all_names entries)) (name_of_earlier f.code f.message) false
 
--- `kept` are the findings that are about an entry of the text whose key is that of an entry that meets all conditions. An entry with a
--- syntax error counts with its complete parts.
-pub record AreAboutSelected (conditions : List Selection) (text : List ℕ) (found kept : List Finding) : Type 0 where
-  pub says : FileReading
-  pub skipped : List SkippedBlock
-  pub recovery : IsFullRecovery text says skipped
+-- `kept` are the findings that are about an entry with this content whose key is that of an entry that meets all conditions. An entry with
+-- a syntax error counts with its complete parts.
+pub record AreAboutSelected (conditions : List Selection) (says : FileReading) (skipped : List SkippedBlock) (found kept : List Finding)
+    : Type 0 where
   pub keys : List (List ℕ)
   pub selected : AreSelectedKeys conditions says keys
   pub are : kept ≡ filter (is_about skipped (entries_with keys says.entries)) found
 
+-- `kept` are the findings of a recovered text that are reported: all without conditions, otherwise those about the selected entries
+abbrev pub AreReportedAmong : List Selection → FileReading → List SkippedBlock → List Finding → List Finding → Type 0
+AreReportedAmong [] says skipped found kept = kept ≡ found
+AreReportedAmong (condition ∷ rest) says skipped found kept = AreAboutSelected (condition ∷ rest) says skipped found kept
+
+-- `kept` are the findings that are about an entry of the text whose key is that of an entry that meets all conditions
+pub record AreAboutText (conditions : List Selection) (text : List ℕ) (found kept : List Finding) : Type 0 where
+  pub says : FileReading
+  pub skipped : List SkippedBlock
+  pub recovery : IsFullRecovery text says skipped
+  pub are : AreAboutSelected conditions says skipped found kept
+
 -- `kept` are the findings of a text that are reported: all without conditions, otherwise those about the selected entries
 abbrev pub AreReportedFindings : List Selection → List ℕ → List Finding → List Finding → Type 0
 AreReportedFindings [] text found kept = kept ≡ found
-AreReportedFindings (condition ∷ rest) text found kept = AreAboutSelected (condition ∷ rest) text found kept
+AreReportedFindings (condition ∷ rest) text found kept = AreAboutText (condition ∷ rest) text found kept
 
 -- the findings to report among findings that are about no entry of a file: all of them without conditions, otherwise none
 abbrev pub findings_of_no_entry : List Selection → List Finding → List Finding

@@ -5,6 +5,7 @@ pub mod Checkstyle
 pub mod Commands
 pub mod Compared
 pub mod Conditions
+pub mod Database
 pub mod Escapes
 pub mod Joining
 pub mod Linted

@@ -45,15 +45,11 @@ abbrev pub unread_findings : Option ℕ → List Finding
 unread_findings None = []
 unread_findings (Some at) = unread_finding at ∷ []
 
--- `text` is the output for the selected findings of a file, with the counts before and after them. The finding that the file isn't UTF-8
--- comes first, at its position in the bytes, if the file isn't and there are no conditions. The reported findings of the decoded text
--- follow, at their positions in that text.
-pub record IsPrintedFile (lint : Lint) (name bytes : List ℕ) (decoded : Decoded) (before : Tally) (text : List ℕ)
-    (after : Tally) : Type 0 where
-  pub found : List Finding
-  pub are : AreFindings (string_bytes decoded.text) found
-  pub kept : List Finding
-  pub reported : AreReportedFindings lint.conditions.items (string_bytes decoded.text) found kept
+-- `text` is the output for a file with these reported findings of its decoded text, with the counts before and after them. The finding that
+-- the file isn't UTF-8 comes first, at its position in the bytes, if the file isn't and there are no conditions. The selected ones of the
+-- reported findings follow, at their positions in the decoded text.
+pub record IsPrintedKept (lint : Lint) (name bytes : List ℕ) (decoded : Decoded) (kept : List Finding) (before : Tally)
+    (text : List ℕ) (after : Tally) : Type 0 where
   pub between : Tally
   pub first : List ℕ
   pub second : List ℕ
@@ -61,3 +57,12 @@ pub record IsPrintedFile (lint : Lint) (name bytes : List ℕ) (decoded : Decode
       (selected_findings lint.selection (findings_of_no_entry lint.conditions.items (unread_findings decoded.invalid))) before first between
   pub of_text : ArePrinted lint.style name (string_bytes decoded.text) (selected_findings lint.selection kept) between second after
   pub is : text ≡ first ++ second
+
+-- `text` is the output for the selected findings of a file, with the counts before and after them
+pub record IsPrintedFile (lint : Lint) (name bytes : List ℕ) (decoded : Decoded) (before : Tally) (text : List ℕ)
+    (after : Tally) : Type 0 where
+  pub found : List Finding
+  pub are : AreFindings (string_bytes decoded.text) found
+  pub kept : List Finding
+  pub reported : AreReportedFindings lint.conditions.items (string_bytes decoded.text) found kept
+  pub printed : IsPrintedKept lint name bytes decoded kept before text after

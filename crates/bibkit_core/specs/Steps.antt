@@ -6,12 +6,15 @@ use Rattle.bib_source.specs.declared.decoding.Decoded.{Decoded}
 use Rattle.bib_queries.specs.declared.citations.Citations.{Citations}
 use Rattle.bib_queries.specs.declared.request.Request.{Request}
 use Rattle.bib_findings.specs.declared.codes.Code.{Code}
-use Rattle.bibkit_core.specs.Answered.{meaning_text}
+use Rattle.bibkit_core.specs.Answered.{IsDocumentFor, meaning_text}
 use Rattle.bibkit_core.specs.Compared.{EndsCompared, PrintsCompared, ReadsDocument, compared_begins, none_compared}
+use Rattle.bibkit_core.specs.Database.{BeginsDatabase, EndsDatabase, StoresFile, database_begins}
 use Rattle.bibkit_core.specs.Outcomes.{IsRefusedAfter}
 use Rattle.bibkit_core.specs.Running.{AreRun, IsStep, IsTaskPrinted}
 use Rattle.bibkit_core.specs.Selecting.{BeginsSelecting, selecting_begins, selecting_ends, selecting_prints}
 use Rattle.bibkit_core.specs.Tasks.{AreDecoded, BeginsEntries, BeginsLinting, entries_begins, entries_ends, entries_prints, linting_begins, linting_ends, linting_prints}
+use Rattle.bibkit_core.specs.declared.cited.Document.{Document}
+use Rattle.bibkit_core.specs.declared.database.Database.{Database}
 use Rattle.bibkit_core.specs.declared.entries.Entries.{Entries}
 use Rattle.bibkit_core.specs.declared.linting.Linting.{Linting}
 use Rattle.bibkit_core.specs.declared.request.Cited.{Cited}
@@ -94,6 +97,21 @@ pub record AreComparedPrinted {F : Type 0} (reads : F → List ℕ → Option (L
   pub read : ReadsDocument reads files cited.name.now files' document found
   pub printed : IsTaskPrinted reads (compared_begins lint) (PrintsCompared lint cited.has_unused found)
       (EndsCompared lint cited.name.now document found) files' none_compared names text status
+
+-- the output of `lint` for files as one database, with this document if there is one
+pub record IsDatabasePrinted {F : Type 0} (reads : F → List ℕ → Option (List ℕ) → F → Type 0) (lint : Lint) (document : Option Document)
+    (files : F) (names : List (List ℕ)) (text : List ℕ) (status : Option ℕ) : Type 0 where
+  pub task : Database
+  pub begins : BeginsDatabase lint document task
+  pub printed : IsTaskPrinted reads database_begins StoresFile EndsDatabase files task names text status
+
+-- the output of `lint` for files as one database, with the document of a request
+pub record IsComparedDatabase {F : Type 0} (reads : F → List ℕ → Option (List ℕ) → F → Type 0) (lint : Lint) (cited : Cited)
+    (files : F) (names : List (List ℕ)) (text : List ℕ) (status : Option ℕ) : Type 0 where
+  pub document : Document
+  pub files' : F
+  pub read : IsDocumentFor reads files cited files' document
+  pub printed : IsDatabasePrinted reads lint (Some document) files' names text status
 
 -- the output of a request for entries
 pub record AreEntriesPrinted {F : Type 0} (reads : F → List ℕ → Option (List ℕ) → F → Type 0) (asked : Request)

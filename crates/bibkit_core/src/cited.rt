@@ -2,15 +2,17 @@
 
 ghost use Rattle.std.specs.Prelude.{◌≡◌, ◌&&◌, ◌||◌, not, [], ◌∷◌, ◌++◌, codes, eqb, if◌then◌else◌, map, IfOk, OnOk};
 ghost use Rattle.std.specs.List.{ends_with};
-ghost use Rattle.bib_syntax.specs.Views.{part_of};
-ghost use Rattle.bibkit_core.specs.Compared.{AreCitedBy, cited_keys, missing_finding, unused_finding};
+ghost use Rattle.bib_syntax.specs.Views.{entry_reading_of, part_of};
+ghost use Rattle.bibkit_core.specs.Compared.{AreCitedBy, cited_keys, missing_among, missing_finding, unused_finding, unused_findings};
 ghost use Rattle.bibkit_core.specs.Marks.{AreKnownWith, AreUncited, AreUnused, BeginsDocument, IsSameDocument, either_mark, unmarked_findings};
 
+use crate::conditions::{all_names, name_set};
 use crate::lint::Origin;
 use bib_findings::codes::Code;
 use bib_findings::finding::Finding;
 use bib_queries::citations::{Citation, Citations, in_aux, in_bcf};
-use bib_queries::known::{find_uncited, mark_known};
+use bib_queries::known::{find_uncited, mark_known, uncited_in};
+use bib_syntax::raw::RawEntry;
 use bib_text::spanned::Spanned;
 use bib_text::text::Text;
 use std::alloc::{AllocError, Global};
@@ -221,6 +223,43 @@ impl<'t> Document<'t> {
         } else {
             Ok(Vec::new(alloc))
         }
+    }
+
+    /// Returns the findings of those of these entries that the document doesn't cite. Returns none if they aren't requested, or if the
+    /// document cites all entries.
+    pub fn unused_among(
+        &self,
+        alloc: Global,
+        entries: &[Spanned<RawEntry<'_>>],
+    ) -> Result<Vec<Finding>, AllocError>
+        ensures { IfOk result (λ found. found.items ≡
+            unused_findings self.now.has_unused self.now.citations (map entry_reading_of entries.now)) }
+    {
+        if !self.asks_for_unused() {
+            return Ok(Vec::new(alloc));
+        }
+        let keys = keys(alloc, &self.citations)?;
+        let uncited = uncited_in(alloc, entries, &keys)?;
+        let found = unused_entries(alloc, &uncited)?;
+        Ok(found)
+    }
+
+    /// Returns the findings of the citations that are the names of none of these entries.
+    pub fn missing_among(
+        &self,
+        alloc: Global,
+        entries: &[Spanned<RawEntry<'_>>],
+    ) -> Result<Vec<Finding>, AllocError>
+        ensures { IfOk result (λ found. found.items ≡
+            missing_among (map entry_reading_of entries.now) self.now.citations.keys.items) }
+    {
+        let names = all_names(alloc, entries)?;
+        let set = name_set(alloc, &names)?;
+        let mut found = Vec::new(alloc);
+        'citations: for citation in &self.citations.keys {
+            push_unless_known(alloc, &mut found, citation, set.contains(citation.key.as_str()))?;
+        }
+        Ok(found)
     }
 
     /// Returns the findings of the citations for which no file so far has an entry.

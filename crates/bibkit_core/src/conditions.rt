@@ -13,7 +13,7 @@ ghost use Rattle.bib_queries.specs.Known as known;
 ghost use Rattle.bib_queries.specs.Needed.{is_listed};
 ghost use Rattle.bib_queries.specs.Sets.{is_in_set};
 ghost use Rattle.bibkit_core.specs.Conditions as spec;
-ghost use Rattle.bibkit_core.specs.Conditions.{AreAboutSelected, AreResolvedEntries, AreReportedFindings, begins_one, entries_with, is_in, is_in_block, is_in_one};
+ghost use Rattle.bibkit_core.specs.Conditions.{AreAboutSelected, AreResolvedEntries, AreReportedAmong, AreReportedFindings, begins_one, entries_with, is_in, is_in_block, is_in_one};
 
 use bib_entry::entry::Entry;
 use bib_file_entries::keeping::{KeptEntries, keep};
@@ -103,7 +103,7 @@ pub fn resolved_entries(alloc: Global, raw: &RawBibliography<'_>) -> Result<Vec<
 }
 
 // Returns the set of these names.
-fn name_set<'a>(alloc: Global, names: &[&'a str]) -> Result<BTreeSet<&'a str>, AllocError>
+pub(crate) fn name_set<'a>(alloc: Global, names: &[&'a str]) -> Result<BTreeSet<&'a str>, AllocError>
     ensures { IfOk result (λ set. (name : List ℕ) → is_in_set set name ≡ is_listed (map (λ n. n.now) names.now) name) }
 {
     let mut set = BTreeSet::new(alloc);
@@ -269,7 +269,7 @@ fn covered_with(
 }
 
 // Returns the names of all entries.
-fn all_names<'s>(
+pub(crate) fn all_names<'s>(
     alloc: Global,
     entries: &[Spanned<RawEntry<'s>>],
 ) -> Result<Vec<&'s str>, AllocError>
@@ -389,16 +389,17 @@ fn findings_about(
     Ok(kept)
 }
 
-// Returns the findings of a text that are about entries whose key is that of an entry that meets all conditions.
+// Returns the findings of a recovered text that are about entries whose key is that of an entry that meets all conditions.
 fn about_selected(
     alloc: Global,
     conditions: &[Selection],
-    text: &str,
+    recovery: RawRecovery<'_>,
     found: Vec<Finding>,
 ) -> Result<Vec<Finding>, AllocError>
-    ensures { IfOk result (λ kept. AreAboutSelected conditions.now text.now found.items kept.items) }
+    ensures { IfOk result (λ kept. AreAboutSelected conditions.now (file_of recovery.entry.raw) recovery.entry.skipped.items
+        found.items kept.items) }
 {
-    let RawRecovery { raw, skipped } = RawBibliography::recover_parts(alloc, text)?;
+    let RawRecovery { raw, skipped } = recovery;
     let entries = resolved_entries(alloc, &raw)?;
     let keys = keys_of_selected(alloc, conditions, &entries)?;
     let selected = entries_with(alloc, &keys, raw.entries)?;
@@ -419,7 +420,25 @@ pub fn reported_findings(
     if conditions.is_empty() {
         return Ok(found);
     }
-    about_selected(alloc, conditions, text, found)
+    let recovery = RawBibliography::recover_parts(alloc, text)?;
+    let kept = about_selected(alloc, conditions, recovery, found)?;
+    Ok(kept)
+}
+
+/// Returns the findings of a recovered text that are reported, as `reported_findings` does. The only error is out of memory.
+pub fn reported_among(
+    alloc: Global,
+    conditions: &[Selection],
+    recovery: RawRecovery<'_>,
+    found: Vec<Finding>,
+) -> Result<Vec<Finding>, AllocError>
+    ensures { IfOk result (λ kept. AreReportedAmong conditions.now (file_of recovery.entry.raw) recovery.entry.skipped.items
+        found.items kept.items) }
+{
+    if conditions.is_empty() {
+        return Ok(found);
+    }
+    about_selected(alloc, conditions, recovery, found)
 }
 
 /// Returns the findings to report among findings that are about no entry of a file: all of them without conditions, otherwise none.

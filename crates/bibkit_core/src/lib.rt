@@ -22,6 +22,7 @@ mod commands;
 mod comparing;
 pub mod conditions;
 mod counting;
+mod database;
 mod decoding;
 mod entries;
 mod escapes;

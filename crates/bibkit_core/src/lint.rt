@@ -6,7 +6,7 @@ ghost use Rattle.bibkit_core.specs.Printed.{IsShown};
 ghost use Rattle.bibkit_core.specs.Asked.{selected_findings};
 ghost use Rattle.bibkit_core.specs.Adding.{IsAdded, IsPrintedOne};
 ghost use Rattle.bibkit_core.specs.Conditions.{findings_of_no_entry};
-ghost use Rattle.bibkit_core.specs.Linted.{ArePrinted, IsPrintedFile, unread_finding, unread_findings};
+ghost use Rattle.bibkit_core.specs.Linted.{IsPrintedKept, ArePrinted, IsPrintedFile, unread_finding, unread_findings};
 ghost use Rattle.bibkit_core.specs.Printed as spec;
 
 use crate::checkstyle::error_element;
@@ -150,6 +150,28 @@ fn print_unread(
     print_findings(alloc, printed, lint, origin, &kept)
 }
 
+/// Appends the selected ones of the reported findings of a file's decoded text to `printed`, and counts them. If the file isn't UTF-8 and
+/// there are no conditions, a finding says so first, with its position in the file's bytes.
+pub fn print_kept(
+    alloc: Global,
+    printed: &mut Printed,
+    lint: &Lint<'_>,
+    origin: &Origin<'_>,
+    decoded: &Decoded,
+    kept: &[Finding],
+) -> Result<(), AllocError>
+    ensures { OnOk result (IsAdded (IsPrintedKept lint.now origin.now.name.now origin.now.bytes.now decoded.now kept.now)
+        printed.old printed.new) }
+{
+    print_unread(alloc, printed, lint, origin, decoded.invalid)?;
+    let text = Origin {
+        name: origin.name,
+        bytes: decoded.text.as_bytes(),
+    };
+    print_findings(alloc, printed, lint, &text, kept)?;
+    Ok(())
+}
+
 /// Appends the selected findings of a file to `printed`, and counts them. If the file isn't UTF-8, a finding says so first, with its
 /// position in the file's bytes. The findings of the decoded text follow, with their positions in this text. If there are conditions,
 /// only findings about entries whose key is that of an entry that meets all of them are appended.
@@ -162,13 +184,8 @@ pub fn print_file(
 ) -> Result<(), AllocError>
     ensures { OnOk result (IsAdded (IsPrintedFile lint.now origin.now.name.now origin.now.bytes.now decoded.now) printed.old printed.new) }
 {
-    print_unread(alloc, printed, lint, origin, decoded.invalid)?;
-    let text = Origin {
-        name: origin.name,
-        bytes: decoded.text.as_bytes(),
-    };
     let found = findings(alloc, decoded.text.as_str())?;
     let kept = reported_findings(alloc, &lint.conditions, decoded.text.as_str(), found)?;
-    print_findings(alloc, printed, lint, &text, &kept)?;
+    print_kept(alloc, printed, lint, origin, decoded, &kept)?;
     Ok(())
 }

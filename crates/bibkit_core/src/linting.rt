@@ -105,7 +105,7 @@ impl<'r, 'a> Linting<'r, 'a> {
 
 // Returns the text before all findings: the start of the array in JSON, or of the document for Checkstyle and SARIF. It is empty in the
 // other styles.
-fn opening(style: Style) -> &'static str
+pub(crate) fn opening(style: Style) -> &'static str
     ensures { result.now ≡ spec.opening style }
 {
     match style {
@@ -118,7 +118,7 @@ fn opening(style: Style) -> &'static str
 
 // Returns the text after all findings. It is the line with the counts in the styles `Plain` and `Colored`, the end of the array in JSON,
 // and the end of the document for Checkstyle and SARIF. In the other styles, it is empty.
-fn closing(alloc: Global, style: Style, tally: Tally) -> Result<String, AllocError>
+pub(crate) fn closing(alloc: Global, style: Style, tally: Tally) -> Result<String, AllocError>
     ensures { IfOk result (λ text. IsEndOfFindings style tally (string_bytes text)) }
 {
     match style {
@@ -142,7 +142,7 @@ pub fn in_file(alloc: Global, style: Style, name: &str, text: String) -> Result<
 }
 
 // Returns the status: 1 if findings of the severities that `fail_on` names were printed, otherwise 0.
-fn lint_status(fail_on: FailOn, tally: Tally) -> u8
+pub(crate) fn lint_status(fail_on: FailOn, tally: Tally) -> u8
     ensures { result ≡ spec.lint_status fail_on tally }
 {
     if tally.has_failing(fail_on) { 1 } else { 0 }

@@ -57,6 +57,8 @@ pub struct Lint<'a> {
     pub fail_on: FailOn,
     /// The document whose citations are compared with the files.
     pub cited: Option<Cited<'a>>,
+    /// Whether each of several files is a database of its own. Otherwise they are one database.
+    pub is_each: bool,
     /// The conditions on entries. If there is one, only findings about entries whose key is that of an entry that meets all conditions
     /// are reported.
     pub conditions: Vec<Condition>,

@@ -7,14 +7,10 @@ use Rattle.bibkit_core.proofs.conditions.about_selected.Goals as goal
 
 pub returns : goal.returns
 returns c =
-    let said = c.in_ok-raw.field-0 in
-    let says : FileReading = file_of said.raw in
-    let skipped = said.skipped.items in
+    let says : FileReading = file_of c.args.recovery.raw in
+    let skipped = c.args.recovery.skipped.items in
     let keys = map (λ key. key.now) c.in_ok-keys.keys.items in
     record {
-      says = says;
-      skipped = skipped;
-      recovery = c.in_ok-raw.ensures;
       keys = keys;
       selected = record {
         entries = c.in_ok-entries.entries.items;
