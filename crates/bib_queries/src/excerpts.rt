@@ -212,7 +212,8 @@ fn answer_found(
     }
 }
 
-/// Returns the answer to a request on a text. Blocks that can't be parsed are skipped, except preambles in braces for `Cited`.
+/// Returns the answer to a request on a text. Blocks that can't be parsed are skipped, except preambles in braces for `Cited`. The line
+/// end of the text follows each printed entry, definition and preamble. A line feed follows each key for `Keys`.
 pub fn answer(alloc: Global, request: &Request<'_>, text: &str) -> Result<TextAnswer, AllocError>
     ensures { IfOk result (λ answer. IsTextAnswer request.now text.now (string_bytes answer.text) answer.has_entry) }
 {
