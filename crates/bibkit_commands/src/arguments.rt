@@ -26,6 +26,8 @@ pub enum Asked<'a> {
         settings: Settings,
         /// The document whose citations are compared with the files.
         cited: Option<Cited<'a>>,
+        /// Whether each of several files is a database of its own.
+        is_each: bool,
         /// The conditions on the entries that findings are about. An entry must meet all of them.
         conditions: Vec<&'a str>,
         /// The name of standard input in findings, if it isn't `-`.
@@ -121,6 +123,7 @@ fn lint_asked<'a>(alloc: Global, matches: &ArgMatches<'a>) -> Result<Asked<'a>, 
     Ok(Asked::Lint {
         settings,
         cited,
+        is_each: matches.get_flag("each"),
         conditions: texts(alloc, matches, "where")?,
         input_name: matches.get_str("stdin-filename"),
     })

@@ -65,18 +65,33 @@ fn first<'a>(names: &[&'a str]) -> &'a str {
     names.first().copied().unwrap_or("-")
 }
 
+// The words of `lint`, except the names of the files.
+#[derive(Drop)]
+struct LintWords<'a> {
+    // The settings of the command line.
+    settings: Settings,
+    // The document whose citations are compared with the files.
+    cited: Option<Cited<'a>>,
+    // Whether each of several files is a database of its own.
+    is_each: bool,
+    // The conditions on the entries that findings are about.
+    conditions: Vec<&'a str>,
+}
+
 // Returns the request for `lint`, with the settings of the command line and of the project of the first file, and these conditions.
 fn lint_request<'a>(
     rt: &HostRuntime,
-    settings: Settings,
-    cited: Option<Cited<'a>>,
+    words: LintWords<'a>,
     conditions: Vec<Selection>,
     names: &[&str],
 ) -> Result<Request<'a>, ConfigurationError> {
     let project = project_settings(rt, Reader::Lint, first(names))?;
-    let mut lint = settings
-        .over(project.lint)
-        .lint(rt.alloc(), are_colors_shown(rt), cited);
+    let mut lint = words.settings.over(project.lint).lint(
+        rt.alloc(),
+        are_colors_shown(rt),
+        words.cited,
+        words.is_each,
+    );
     lint.conditions = conditions;
     Ok(Request::Lint(lint))
 }
@@ -106,19 +121,12 @@ fn refuse_settings(rt: &HostRuntime, error: ConfigurationError) -> u8 {
 }
 
 // Runs `lint`, and returns the status. The file `input` is standard input.
-fn run_lint<'a>(
-    rt: &HostRuntime,
-    settings: Settings,
-    cited: Option<Cited<'a>>,
-    conditions: &[&str],
-    names: Vec<&'a str>,
-    input: &str,
-) -> u8 {
-    let conditions = match parse_conditions(rt.alloc(), conditions) {
+fn run_lint<'a>(rt: &HostRuntime, words: LintWords<'a>, names: Vec<&'a str>, input: &str) -> u8 {
+    let conditions = match parse_conditions(rt.alloc(), &words.conditions) {
         Ok(conditions) => conditions,
         Err(stop) => return say(rt, &stop),
     };
-    match lint_request(rt, settings, cited, conditions, &names) {
+    match lint_request(rt, words, conditions, &names) {
         Ok(request) => run_request(rt, request, names, input),
         Err(error) => refuse_settings(rt, error),
     }
@@ -140,14 +148,12 @@ fn rename_input<'a>(names: &mut [&'a str], name: &'a str) -> bool {
 // name.
 fn run_named_lint<'a>(
     rt: &HostRuntime,
-    settings: Settings,
-    cited: Option<Cited<'a>>,
-    conditions: &[&str],
+    words: LintWords<'a>,
     names: Vec<&'a str>,
     name: &'a str,
 ) -> u8 {
     let mut names = names;
-    if names.iter().any(|one| *one == name) || cited.is_some_and(|cited| cited.name == name) {
+    if names.iter().any(|one| *one == name) || words.cited.is_some_and(|cited| cited.name == name) {
         return refuse_words(
             rt,
             "`--stdin-filename` requires a name that no other file has",
@@ -156,7 +162,7 @@ fn run_named_lint<'a>(
     if !rename_input(&mut names, name) {
         return refuse_words(rt, "`--stdin-filename` requires the file `-`, or no file");
     }
-    run_lint(rt, settings, cited, conditions, names, name)
+    run_lint(rt, words, names, name)
 }
 
 // Prints entries of files that conditions select, or their keys, and returns the status.
@@ -243,12 +249,21 @@ fn answer(rt: &HostRuntime, words: Words<'_>) -> u8 {
         Asked::Lint {
             settings,
             cited,
+            is_each,
             conditions,
             input_name,
-        } => match input_name {
-            Some(name) => run_named_lint(rt, settings, cited, &conditions, names, name),
-            None => run_lint(rt, settings, cited, &conditions, names, "-"),
-        },
+        } => {
+            let words = LintWords {
+                settings,
+                cited,
+                is_each,
+                conditions,
+            };
+            match input_name {
+                Some(name) => run_named_lint(rt, words, names, name),
+                None => run_lint(rt, words, names, "-"),
+            }
+        }
         Asked::Edits(editing) => run_edits(rt, &editing),
         Asked::Format {
             settings,

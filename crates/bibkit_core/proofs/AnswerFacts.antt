@@ -6,14 +6,16 @@ use Rattle.bib_queries.specs.declared.request.CitedKeys.{CitedKeys}
 use Rattle.bib_queries.specs.declared.request.Request.{Request as Excerpts}
 use Rattle.bib_queries.specs.declared.request.Request.TheVariants as excerpts
 use Rattle.bib_findings.specs.declared.codes.Code.{Code}
-use Rattle.bibkit_core.specs.Answered.{AsksForCited, CantReadDocument, HasFailed, IsCallAnswer}
+use Rattle.bibkit_core.specs.Answered.{AsksForCited, CantReadDocument, HasFailed, IsCallAnswer, IsDocumentFor, is_database}
 use Rattle.bibkit_core.specs.Compared.{AreCitedBy, ReadsDocument}
+use Rattle.bibkit_core.specs.Marks.{BeginsDocument}
 use Rattle.bibkit_core.specs.Outcomes.{HasPrinted}
 use Rattle.bibkit_core.specs.Printed.{has_failing}
 use Rattle.bibkit_core.specs.Running.{IsTaskPrinted}
 use Rattle.bibkit_core.specs.Selecting.{selecting_status}
-use Rattle.bibkit_core.specs.Steps.{AreComparedPrinted, AreEntriesPrinted, AreFindingsPrinted, AreSelectedPrinted, HasNoText, HasStopped, IsMeaningPrinted, ReadsText}
+use Rattle.bibkit_core.specs.Steps.{AreComparedPrinted, AreEntriesPrinted, AreFindingsPrinted, AreSelectedPrinted, HasNoText, HasStopped, IsComparedDatabase, IsDatabasePrinted, IsMeaningPrinted, ReadsText}
 use Rattle.bibkit_core.specs.Tasks.{entries_status, is_search, lint_status}
+use Rattle.bibkit_core.specs.declared.cited.Document.{Document}
 use Rattle.bibkit_core.specs.declared.request.Cited.{Cited}
 use Rattle.bibkit_core.specs.declared.request.FailOn.{FailOn}
 use Rattle.bibkit_core.specs.declared.request.Lint.{Lint}
@@ -26,15 +28,27 @@ use Rattle.bibkit_core.specs.declared.run.Stop.TheVariants.{Refused, NoDocument,
 
 -- the output of `lint` without a document is an output of the request for it; the next lemmas state this for the other tasks
 pub findings_answer : {F : Type 0} {reads : F → List ℕ → Option (List ℕ) → F → Type 0} {files : F}
-    {names : List (List ℕ)} {lint : Lint} → lint.cited ≡ None → (text : List ℕ) (status : Option ℕ)
+    {names : List (List ℕ)} {lint : Lint} → is_database lint names ≡ false → lint.cited ≡ None → (text : List ℕ) (status : Option ℕ)
     → AreFindingsPrinted reads lint files names text status → IsCallAnswer reads files names (request.Lint lint) text status
-findings_answer none text status are = IsCallAnswer.findings are.task none are.begins are.printed
+findings_answer each none text status are = IsCallAnswer.findings are.task each none are.begins are.printed
 
 pub compared_answer : {F : Type 0} {reads : F → List ℕ → Option (List ℕ) → F → Type 0} {files : F}
-    {names : List (List ℕ)} {lint : Lint} (cited : Cited) → lint.cited ≡ Some cited
+    {names : List (List ℕ)} {lint : Lint} (cited : Cited) → is_database lint names ≡ false → lint.cited ≡ Some cited
     → (text : List ℕ) (status : Option ℕ)
     → AreComparedPrinted reads lint cited files names text status → IsCallAnswer reads files names (request.Lint lint) text status
-compared_answer cited some text status are = IsCallAnswer.compared cited are.found are.document are.files' some are.read are.printed
+compared_answer cited each some text status are = IsCallAnswer.compared cited are.found are.document are.files' each some are.read are.printed
+
+pub database_answer : {F : Type 0} {reads : F → List ℕ → Option (List ℕ) → F → Type 0} {files : F}
+    {names : List (List ℕ)} {lint : Lint} → is_database lint names ≡ true → lint.cited ≡ None → (text : List ℕ) (status : Option ℕ)
+    → IsDatabasePrinted reads lint None files names text status → IsCallAnswer reads files names (request.Lint lint) text status
+database_answer one none text status is = IsCallAnswer.database is.task one none is.begins is.printed
+
+pub compared_database_answer : {F : Type 0} {reads : F → List ℕ → Option (List ℕ) → F → Type 0} {files : F}
+    {names : List (List ℕ)} {lint : Lint} (cited : Cited) → is_database lint names ≡ true → lint.cited ≡ Some cited
+    → (text : List ℕ) (status : Option ℕ)
+    → IsComparedDatabase reads lint cited files names text status → IsCallAnswer reads files names (request.Lint lint) text status
+compared_database_answer cited one some text status is =
+    IsCallAnswer.compared_database cited is.document is.files' is.printed.task one some is.read is.printed.begins is.printed.printed
 
 pub entries_answer : {F : Type 0} {reads : F → List ℕ → Option (List ℕ) → F → Type 0} {files : F}
     {names : List (List ℕ)} {asked : Excerpts} (text : List ℕ) (status : Option ℕ)
@@ -72,6 +86,18 @@ document_read document same read cited = record {
   of_bytes = read.of_bytes;
   text_is = same ∙ read.text_is;
   cited = cited;
+}
+
+-- if a file is decoded to a text, then a document with this text, the name and the setting of a request is that of the request
+pub document_for : {F : Type 0} {reads : F → List ℕ → Option (List ℕ) → F → Type 0} {files files' : F} {text : List ℕ}
+    {document : Document} (cited : Cited) (file : List ℕ) → file ≡ text → ReadsText reads files cited.name.now files' text
+    → BeginsDocument cited.name.now file cited.has_unused document → IsDocumentFor reads files cited files' document
+document_for {reads = reads} {files = files} {files' = files'} {document = document} cited file same read begins = record {
+  name_is = begins.name_is;
+  unused_is = begins.unused_is;
+  read =
+      subst (λ t. ReadsDocument reads files cited.name.now files' t document.citations) (sym begins.text_is)
+      (document_read file same read begins.cited);
 }
 
 -- a run stops if the text of its document is missing
@@ -142,9 +168,13 @@ task_bounded bound (IsTaskPrinted.all answer) =
 call_bounded : {F : Type 0} {reads : F → List ℕ → Option (List ℕ) → F → Type 0} {files : F} {names : List (List ℕ)}
     {asked : Request} {text : List ℕ} {status : Option ℕ} → IsCallAnswer reads files names asked text status
     → IfSome status (λ s. s ≤ 2)
-call_bounded (IsCallAnswer.findings task none begins printed) =
+call_bounded (IsCallAnswer.findings task each none begins printed) =
     task_bounded (λ t last s e. subst (λ n. n ≤ 2) (sym e.1) (lint_bounded t.lint.now.fail_on t.tally)) printed
-call_bounded (IsCallAnswer.compared cited found document files' some read printed) =
+call_bounded (IsCallAnswer.compared cited found document files' each some read printed) =
+    task_bounded (λ t last s e. subst (λ n. n ≤ 2) (sym e.status_is) (lint_bounded _ e.after)) printed
+call_bounded (IsCallAnswer.database task one none begins printed) =
+    task_bounded (λ t last s e. subst (λ n. n ≤ 2) (sym e.status_is) (lint_bounded _ e.after)) printed
+call_bounded (IsCallAnswer.compared_database cited document files' task one some read begins printed) =
     task_bounded (λ t last s e. subst (λ n. n ≤ 2) (sym e.status_is) (lint_bounded _ e.after)) printed
 call_bounded (IsCallAnswer.meaning text) = omega arith
 call_bounded IsCallAnswer.no_meaning = tt

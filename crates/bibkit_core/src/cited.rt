@@ -257,7 +257,12 @@ impl<'t> Document<'t> {
         let set = name_set(alloc, &names)?;
         let mut found = Vec::new(alloc);
         'citations: for citation in &self.citations.keys {
-            push_unless_known(alloc, &mut found, citation, set.contains(citation.key.as_str()))?;
+            push_unless_known(
+                alloc,
+                &mut found,
+                citation,
+                set.contains(citation.key.as_str()),
+            )?;
         }
         Ok(found)
     }

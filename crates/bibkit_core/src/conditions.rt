@@ -103,7 +103,10 @@ pub fn resolved_entries(alloc: Global, raw: &RawBibliography<'_>) -> Result<Vec<
 }
 
 // Returns the set of these names.
-pub(crate) fn name_set<'a>(alloc: Global, names: &[&'a str]) -> Result<BTreeSet<&'a str>, AllocError>
+pub(crate) fn name_set<'a>(
+    alloc: Global,
+    names: &[&'a str],
+) -> Result<BTreeSet<&'a str>, AllocError>
     ensures { IfOk result (λ set. (name : List ℕ) → is_in_set set name ≡ is_listed (map (λ n. n.now) names.now) name) }
 {
     let mut set = BTreeSet::new(alloc);

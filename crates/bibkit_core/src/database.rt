@@ -180,7 +180,9 @@ fn print_file(
         tally: printed.tally,
     };
     print_kept(alloc, &mut of_file, lint, &origin, &file.decoded, &kept)?;
-    printed.text.push_str(&in_file(alloc, lint.style, &file.name, of_file.text)?)?;
+    printed
+        .text
+        .push_str(&in_file(alloc, lint.style, &file.name, of_file.text)?)?;
     printed.tally = of_file.tally;
     Ok(())
 }
@@ -206,7 +208,14 @@ fn print_files(
     let mut first = 0usize;
     'files: for (file, end) in files.iter().zip(texts.ends()) {
         let count = count_to(&found[first..], *end);
-        print_file(alloc, &mut printed, lint, start, file, &found[first..first + count])?;
+        print_file(
+            alloc,
+            &mut printed,
+            lint,
+            start,
+            file,
+            &found[first..first + count],
+        )?;
         first += count;
         start = *end + 1;
     }
@@ -265,7 +274,9 @@ impl<'r, 'a> Task for Database<'r, 'a> {
         let Found { kept, missing } = find(alloc, self.lint, &self.document, &texts)?;
         let mut printed = print_files(alloc, self.lint, &self.files, &texts, &kept)?;
         print_missing(alloc, &mut printed, self.lint, &self.document, missing)?;
-        printed.text.push_str(&closing(alloc, self.lint.style, printed.tally)?)?;
+        printed
+            .text
+            .push_str(&closing(alloc, self.lint.style, printed.tally)?)?;
         Ok(End {
             text: printed.text,
             status: lint_status(self.lint.fail_on, printed.tally),

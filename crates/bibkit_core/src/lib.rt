@@ -32,6 +32,7 @@ mod frames;
 pub mod laws;
 mod lines;
 mod lint;
+mod lint_run;
 pub mod linting;
 mod messages;
 mod objects;

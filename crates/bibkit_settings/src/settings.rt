@@ -201,18 +201,21 @@ impl Settings {
 
     /// Returns the request for `lint` with these settings. If `only` is empty or isn't set, all codes except the ignored ones are reported.
     /// If `color` is `Auto` or isn't set, `are_colors_shown` says whether lines are printed in colours. Only lines have colours. If
-    /// `fail_on` isn't set, the status is 1 for errors and warnings. The request has no conditions.
+    /// `fail_on` isn't set, the status is 1 for errors and warnings. `is_each` says whether each of several files is a database of its own.
+    /// The request has no conditions.
     pub fn lint<'a>(
         self,
         alloc: Global,
         are_colors_shown: bool,
         cited: Option<Cited<'a>>,
+        is_each: bool,
     ) -> Lint<'a>
         ensures only { result.selection.only.items ≡ listed_codes self.only }
         ensures ignored { result.selection.ignored.items ≡ listed_codes self.ignored }
         ensures fail_on { result.fail_on ≡ unwrap_or self.fail_on Warning }
         ensures style { result.style ≡ style_of self.format (is_colored self.color are_colors_shown) }
         ensures cited { result.cited ≡ cited.entry }
+        ensures each { result.is_each ≡ is_each }
         ensures conditions { result.conditions.items ≡ [] }
     {
         let style = style(self.format, is_colored(self.color, are_colors_shown));
@@ -224,6 +227,7 @@ impl Settings {
             style,
             fail_on: self.fail_on.unwrap_or(FailOn::Warning),
             cited,
+            is_each,
             conditions: Vec::new(alloc),
         }
     }

@@ -26,6 +26,7 @@ fn faults_of(alloc: Global, bytes: &[u8]) -> Result<String, Status>
         style: Style::Json,
         fail_on: FailOn::Warning,
         cited: None,
+        is_each: false,
         conditions: Vec::new(alloc),
     };
     let mut linting = Linting::new(&lint);

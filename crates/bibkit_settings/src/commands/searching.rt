@@ -8,8 +8,11 @@ const LINT_HELP: &str = "\
 Findings are lines FILE:LINE:COLUMN: error|warning|info: TEXT [CODE]. A file bibkit.toml in the folder of the first file, or in one
 above it, has the settings of a project: ignore, only, color, format and fail-on.
 
---where leaves out findings that are about no entry, such as syntax errors and bytes that aren't UTF-8. It keeps a finding about two
-entries, such as a duplicate, if one of them meets the conditions. `bibkit help select` has the conditions.
+Several files are one database: a file can use the definitions and the entries of the others, and a key of one is a duplicate in another.
+With --each, each file is a database of its own.
+
+--where leaves out findings that are about no entry, such as bytes that aren't UTF-8. It keeps a finding about two entries, such as a
+duplicate, if one of them meets the conditions. `bibkit help select` has the conditions.
 
 Examples:
   bibkit lint --ignore unknown-field refs.bib
@@ -19,7 +22,7 @@ Status: 0 no finding of at least the severity of --fail-on, 1 such a finding, 2 
 memory";
 
 // The arguments of `lint`.
-const LINT: [Argument; 10] = [
+const LINT: [Argument; 11] = [
     Argument {
         name: "only",
         takes: Takes::Codes,
@@ -59,6 +62,11 @@ const LINT: [Argument; 10] = [
         name: "unused",
         takes: Takes::Flag(Flag::Beside("cited")),
         help: "Report entries that the document doesn't cite",
+    },
+    Argument {
+        name: "each",
+        takes: Takes::Flag(Flag::Plain),
+        help: "Check each file by itself, not all files as one database",
     },
     Argument {
         name: "where",

@@ -1,6 +1,6 @@
 use Rattle.std.proofs.lemmas.Result.{err_from_is_err_and}
 use Rattle.bibkit_core.proofs.RunFacts.{printed_so, stopped_so}
-use Rattle.bibkit_core.proofs.run.run_findings.Goals as goal
+use Rattle.bibkit_core.proofs.lint_run.run_findings.Goals as goal
 
 pub returns-clause-printed : goal.returns-clause-printed
 returns-clause-printed g c =

@@ -6,7 +6,7 @@ use Rattle.bibkit_core.specs.declared.cited.Document.{Document}
 use Rattle.bibkit_core.proofs.AnswerFacts.{document_read, stopped_without_text}
 use Rattle.bibkit_core.proofs.ComparedFacts.{compared_seen}
 use Rattle.bibkit_core.proofs.RunFacts.{printed_so, stopped_at_once, stopped_so}
-use Rattle.bibkit_core.proofs.run.run_compared.Goals as goal
+use Rattle.bibkit_core.proofs.lint_run.run_compared.Goals as goal
 
 pub returns-in_err-text-clause-stopped : goal.returns-in_err-text-clause-stopped
 returns-in_err-text-clause-stopped g c =
