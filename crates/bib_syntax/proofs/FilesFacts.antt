@@ -79,3 +79,10 @@ boundary_cut text start end within ordered is =
       let same : slice_index (take end text) start ≡ slice_index text start = get_or-take end text start 0 inner in
       subst (λ b. 192 ≤ b) (sym same) (is.1 (omega (arith, inner, within)) (subst (λ b. 128 ≤ b) same high))),
     )
+
+-- each file ends in the text
+pub ends_within : (text : List ℕ) (start : ℕ) (ends : List ℕ) → AreFiles text start ends → (k d : ℕ) → k < length ends
+    → get_or ends k d < length text
+ends_within text start [] are k d below = absurd (omega (arith, below))
+ends_within text start (end ∷ ends) are zero d below = slice_get_within text end 10 are.1
+ends_within text start (end ∷ ends) are (suc k) d below = ends_within text (end + 1) ends are.2 k d (omega (arith, below))

@@ -1,6 +1,6 @@
 //! Several files in one text.
 
-ghost use Rattle.std.specs.Prelude.{◌≡◌, [], IfOk, OnOk};
+ghost use Rattle.std.specs.Prelude.{◌≡◌, ◌<◌, All, length, IfOk, OnOk};
 ghost use Rattle.std.specs.String.{string_bytes};
 ghost use Rattle.bib_syntax.specs.Files.{AreFilesRecovered, no_files, with_file};
 ghost use Rattle.bib_syntax.specs.Views.{file_of};
@@ -58,7 +58,8 @@ impl JoinedFiles {
 
     /// Returns the offset at which each file ends, in bytes of the text. The line feed after the file begins there.
     pub fn ends(&self) -> &[usize]
-        ensures { result.now ≡ self.now.ends }
+        ensures ends { result.now ≡ self.now.ends }
+        ensures within { All (λ end. end < length self.now.text) result.now }
     {
         &self.ends
     }
