@@ -1,5 +1,6 @@
 pub mod AllowedFacts
 pub mod BaseFacts
+pub mod CommandFacts
 pub mod CountFacts
 pub mod KeyFacts
 pub mod LawFacts

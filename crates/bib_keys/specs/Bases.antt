@@ -10,6 +10,7 @@ use Rattle.bib_chunks.specs.Values.{text}
 use Rattle.bib_entry.specs.Fields.{field_or}
 use Rattle.bib_entry.specs.declared.entry.Entry.{Entry}
 use Rattle.bib_keys.specs.Characters.{is_in_keys}
+use Rattle.bib_keys.specs.Commands.{text_in_key}
 use Rattle.bib_keys.specs.Names.{names_in_key}
 use Rattle.bib_keys.specs.Words.{in_case, significant_words}
 use Rattle.bib_keys.specs.Years.{year_digits}
@@ -25,7 +26,7 @@ authors_in_key case count entry =
 -- the first significant words of the field `title`; one word if there is no number
 abbrev pub title_in_key : Case → Option ℕ → Entry → List ℕ
 title_in_key case count entry =
-    option_map_or (λ title. flat_map (in_case case) (take (unwrap_or count 1) (significant_words (text title))))
+    option_map_or (λ title. flat_map (in_case case) (take (unwrap_or count 1) (significant_words (text_in_key title))))
     (by_name.get entry.fields (codes "title")) []
 
 -- the year: the first four ASCII digits in a row in the field `date`, or in `year` if there is no `date`; only the last two of them if

@@ -1,5 +1,6 @@
 pub mod Bases
 pub mod Characters
+pub mod Commands
 pub mod Keys
 pub mod Letters
 pub mod Names

@@ -1,18 +1,20 @@
 -- Meaning: words of public contracts.
 -- The family names in a key.
-use Rattle.std.specs.Prelude.{ℕ, if◌then◌else◌, List, [], ◌∷◌, ◌++◌, length, map, take, nat_lt, codes, bytes_eq, Option, Some, None}
+use Rattle.std.specs.Prelude.{ℕ, false, if◌then◌else◌, List, [], ◌∷◌, ◌++◌, length, map, take, nat_lt, codes, bytes_eq, Option, Some, None}
 use Rattle.bib_chunks.specs.Values.{Value}
 use Rattle.bib_people.specs.People.{people_of}
 use Rattle.bib_people.specs.declared.person.Person.{Person}
+use Rattle.bib_keys.specs.Commands.{without_names}
 use Rattle.bib_keys.specs.Letters.{key_letters}
 
 -- the words for the authors that aren't named
 abbrev pub others : List ℕ
 others = codes "EtAl"
 
--- the family name of a person as plain text; `others` in a list of authors means the authors that aren't named
+-- the family name of a person as plain text, without the names of commands; `others` in a list of authors means the authors that aren't
+-- named
 abbrev pub shown_family_name : Person → List ℕ
-shown_family_name p = if bytes_eq p.name (codes "others") then others else key_letters p.name
+shown_family_name p = if bytes_eq p.name (codes "others") then others else key_letters (without_names false p.name)
 
 -- the names in a key. Without a number, this is only the first name. With a number `n`, these are the first `n` names, and then `others` if
 -- there are more.

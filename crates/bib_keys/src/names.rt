@@ -3,6 +3,7 @@
 ghost use Rattle.std.specs.Prelude.{◌≡◌, IfOk, map};
 ghost use Rattle.bib_keys.specs.Names as spec;
 
+use crate::commands::without_names;
 use crate::letters::key_letters;
 use bib_chunks::chunk::ChunksRef;
 use bib_people::people::read_people;
@@ -13,14 +14,15 @@ use std::alloc::{AllocError, Global};
 // The words for the authors that aren't named.
 const OTHERS: &str = "EtAl";
 
-// Returns the family name of a person as plain text, or `EtAl` for the family name `others`.
+// Returns the family name of a person as plain text, without the names of commands, or `EtAl` for the family name `others`.
 fn shown_family_name(alloc: Global, person: &Person) -> Result<Text, AllocError>
     ensures { IfOk result (λ name. name ≡ spec.shown_family_name person.now) }
 {
     if person.name.as_str() == "others" {
         return Text::from_str(alloc, OTHERS);
     }
-    Ok(Text::from_string(key_letters(alloc, person.name.as_str())?))
+    let name = without_names(alloc, false, person.name.as_str())?;
+    Ok(Text::from_string(key_letters(alloc, name.as_str())?))
 }
 
 // Returns the family names of people.

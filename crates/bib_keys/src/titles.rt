@@ -3,11 +3,12 @@
 ghost use Rattle.std.specs.Prelude.{◌≡◌, IfOk, map, take};
 ghost use Rattle.std.specs.List.{list_any};
 ghost use Rattle.std.specs.Str.{str_eq_ignore_ascii_case};
-ghost use Rattle.bib_chunks.specs.Values.{text};
+ghost use Rattle.bib_keys.specs.Commands.{text_in_key};
 ghost use Rattle.bib_keys.specs.Words as spec;
 
+use crate::commands::text_in_key;
 use crate::letters::key_letters;
-use bib_chunks::chunk::{ChunksRef, format_verbatim};
+use bib_chunks::chunk::ChunksRef;
 use bib_text::text::Text;
 use std::alloc::{AllocError, Global};
 
@@ -47,9 +48,9 @@ pub(crate) fn first_words(
     count: usize,
     title: ChunksRef<'_>,
 ) -> Result<Vec<Text>, AllocError>
-    ensures { IfOk result (λ words. words.items ≡ take count (spec.significant_words (text title.now))) }
+    ensures { IfOk result (λ words. words.items ≡ take count (spec.significant_words (text_in_key title.now))) }
 {
-    let title = format_verbatim(alloc, title)?;
+    let title = text_in_key(alloc, title)?;
     let letters = key_letters(alloc, title.as_str())?;
     let mut words = Vec::new(alloc);
     'words: for word in letters.split(' ') {

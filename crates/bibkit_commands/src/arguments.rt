@@ -153,6 +153,7 @@ fn editing_of<'a>(
         edits: edits_of(alloc, name, matches)?,
         name: matches.get_str("file").unwrap_or("-"),
         mode: mode_of(matches, false),
+        is_last: true,
     })
 }
 

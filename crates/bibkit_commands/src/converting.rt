@@ -321,42 +321,56 @@ fn note_line(
     )
 }
 
-// Prints the notes on the fields of a document.
-fn say_notes(
-    rt: &HostRuntime,
+// Returns the notes on the fields of a document.
+fn document_notes(
+    alloc: Global,
     dialect: Dialect,
     name: &str,
     document: &RawDocument<'_>,
-) -> Result<(), AllocError> {
+) -> Result<String, AllocError> {
     let mut positions = Positions::new(document.text());
-    'notes: for note in notes(rt.alloc(), document, dialect)? {
+    let mut lines = String::new(alloc);
+    'notes: for note in notes(alloc, document, dialect)? {
         if let Some(entry) = document.raw().entries.get(note.entry) {
             if let Some(field) = entry.v.fields.get(note.field) {
-                let line = note_line(rt.alloc(), name, &mut positions, field, note.kind)?;
-                let _ = eprint!(rt; "{line}");
+                let line = note_line(alloc, name, &mut positions, field, note.kind)?;
+                lines.push_str(&line)?;
             }
         }
     }
-    Ok(())
+    Ok(lines)
 }
 
-// Prints a file with the types and fields of a dialect, and notes on fields.
-fn rewrite_file(rt: &HostRuntime, dialect: Dialect, name: &str) -> Result<(), Stop> {
-    let bytes = bytes_of(rt, name)?;
-    print(rt, name, &bytes, &[edit_of(dialect)])?;
-    if let Ok(text) = from_utf8(after_mark(&bytes)) {
-        if let Ok(document) = RawDocument::parse(rt.alloc(), text) {
-            say_notes(rt, dialect, name, &document)?;
+// Returns the notes on the fields of a file's bytes; none if they can't be parsed.
+fn notes_on(
+    alloc: Global,
+    dialect: Dialect,
+    name: &str,
+    bytes: &[u8],
+) -> Result<String, AllocError> {
+    if let Ok(text) = from_utf8(after_mark(bytes)) {
+        if let Ok(document) = RawDocument::parse(alloc, text) {
+            return document_notes(alloc, dialect, name, &document);
         }
     }
+    Ok(String::new(alloc))
+}
+
+// Prints a file with the types and fields of a dialect, and notes on fields. `is_last` says whether it is the last one.
+fn rewrite_file(rt: &HostRuntime, dialect: Dialect, name: &str, is_last: bool) -> Result<(), Stop> {
+    let bytes = bytes_of(rt, name)?;
+    let notes = notes_on(rt.alloc(), dialect, name, &bytes)?;
+    print(rt, name, &bytes, &[edit_of(dialect)], is_last)?;
+    let _ = eprint!(rt; "{notes}");
     Ok(())
 }
 
 /// Prints each file in turn with the types and fields of a dialect, and returns the greatest status.
 pub fn run_rewrite(rt: &HostRuntime, dialect: Dialect, names: &[&str]) -> u8 {
     let mut status = 0;
-    'names: for name in names {
-        if let Err(stop) = rewrite_file(rt, dialect, name) {
+    'names: for (index, name) in names.iter().enumerate() {
+        let is_last = index + 1 == names.len();
+        if let Err(stop) = rewrite_file(rt, dialect, name, is_last) {
             status = say(rt, &stop).max(status);
         }
     }

@@ -68,6 +68,8 @@ pub struct Editing<'a> {
     pub name: &'a str,
     /// The use of the new text.
     pub mode: Mode,
+    /// Whether the process ends after this file, so that memory needn't be freed.
+    pub is_last: bool,
 }
 
 /// The use of the new text of a file.
@@ -167,23 +169,32 @@ fn write(rt: &HostRuntime, name: &str, old: &[u8], text: &str) -> Result<(), Sto
     }
 }
 
-/// Applies edits to a file's bytes, and prints the new text.
-pub fn print(rt: &HostRuntime, name: &str, bytes: &[u8], edits: &[Edit<'_>]) -> Result<(), Stop> {
+/// Applies edits to a file's bytes, and prints the new text. `is_last` says whether the process ends after this file, so that memory
+/// needn't be freed.
+pub fn print(
+    rt: &HostRuntime,
+    name: &str,
+    bytes: &[u8],
+    edits: &[Edit<'_>],
+    is_last: bool,
+) -> Result<(), Stop> {
     let mut output = Output::new(io::writer(rt));
-    match print_edited(rt.alloc(), bytes, edits, &mut output) {
+    match print_edited(rt.alloc(), bytes, edits, is_last, &mut output) {
         Ok(()) => Ok(()),
         Err(why) => Err(printing_stop(rt.alloc(), name, bytes, edits, &why)?),
     }
 }
 
-/// Applies edits to a file's bytes, and returns the new text.
+/// Applies edits to a file's bytes, and returns the new text. `is_last` says whether the process ends after this file, so that memory
+/// needn't be freed.
 pub fn new_text(
     alloc: Global,
     name: &str,
     bytes: &[u8],
     edits: &[Edit<'_>],
+    is_last: bool,
 ) -> Result<String, Stop> {
-    match edit_file(alloc, bytes, edits) {
+    match edit_file(alloc, bytes, edits, is_last) {
         Ok(new) => Ok(new),
         Err(refusal) => {
             let why = Unprinted::Refused(refusal);
@@ -201,14 +212,15 @@ pub fn write_new(rt: &HostRuntime, name: &str, bytes: &[u8], new: &str) -> Resul
     write(rt, name, bytes, new)
 }
 
-// Applies edits to a file's bytes, and writes the new text into the file if it differs from them.
+// Applies edits to a file's bytes, and writes the new text into the file if it differs from them. `is_last` is that of `new_text`.
 fn write_edited(
     rt: &HostRuntime,
     name: &str,
     bytes: &[u8],
     edits: &[Edit<'_>],
+    is_last: bool,
 ) -> Result<(), Stop> {
-    let new = new_text(rt.alloc(), name, bytes, edits)?;
+    let new = new_text(rt.alloc(), name, bytes, edits, is_last)?;
     write_new(rt, name, bytes, &new)
 }
 
@@ -218,9 +230,15 @@ fn style_stop(alloc: Global, name: &str) -> Result<Stop, AllocError> {
     Ok(Stop::Said(said, 1))
 }
 
-// Fails if edits would change a file's bytes.
-fn check_edited(alloc: Global, name: &str, bytes: &[u8], edits: &[Edit<'_>]) -> Result<(), Stop> {
-    let new = new_text(alloc, name, bytes, edits)?;
+// Fails if edits would change a file's bytes. `is_last` is that of `new_text`.
+fn check_edited(
+    alloc: Global,
+    name: &str,
+    bytes: &[u8],
+    edits: &[Edit<'_>],
+    is_last: bool,
+) -> Result<(), Stop> {
+    let new = new_text(alloc, name, bytes, edits, is_last)?;
     if new.as_bytes() == bytes {
         Ok(())
     } else {
@@ -266,10 +284,11 @@ pub fn apply(
     bytes: &[u8],
     edits: &[Edit<'_>],
 ) -> Result<(), Stop> {
+    let is_last = editing.is_last;
     match editing.mode {
-        Mode::Print => print(rt, editing.name, bytes, edits),
-        Mode::Write => write_edited(rt, editing.name, bytes, edits),
-        Mode::Check => check_edited(rt.alloc(), editing.name, bytes, edits),
+        Mode::Print => print(rt, editing.name, bytes, edits, is_last),
+        Mode::Write => write_edited(rt, editing.name, bytes, edits, is_last),
+        Mode::Check => check_edited(rt.alloc(), editing.name, bytes, edits, is_last),
         Mode::Diff { is_check } => show_difference(rt, editing.name, bytes, edits, is_check),
     }
 }

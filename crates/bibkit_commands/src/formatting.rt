@@ -20,13 +20,14 @@ fn edits_of<'a>(
     Ok(edits)
 }
 
-// Formats a file, and returns the status.
+// Formats a file, and returns the status. `is_last` says whether it is the last one.
 fn format_file(
     rt: &HostRuntime,
     style: Style<'_>,
     sort: Option<Order>,
     mode: Mode,
     name: &str,
+    is_last: bool,
 ) -> u8 {
     match edits_of(rt.alloc(), style, sort) {
         Ok(edits) => run_edits(
@@ -35,6 +36,7 @@ fn format_file(
                 edits: Edits::These(edits),
                 name,
                 mode,
+                is_last,
             },
         ),
         Err(_) => {
@@ -53,8 +55,9 @@ pub fn run_format(
     names: &[&str],
 ) -> u8 {
     let mut status = 0;
-    'names: for name in names {
-        status = format_file(rt, style, sort, mode, name).max(status);
+    'names: for (index, name) in names.iter().enumerate() {
+        let is_last = index + 1 == names.len();
+        status = format_file(rt, style, sort, mode, name, is_last).max(status);
     }
     status
 }

@@ -90,25 +90,33 @@ fn edit_of<'a>(dialect: Dialect) -> Edit<'a> {
     }
 }
 
-// Prints the entries of the items of a text, and notes on members that are lost or changed.
-fn import_text(rt: &HostRuntime, dialect: Dialect, name: &str, text: &str) -> Result<(), Stop> {
+// Prints the entries of the items of a text, and notes on members that are lost or changed. `is_last` says whether the process ends after
+// this text.
+fn import_text(
+    rt: &HostRuntime,
+    dialect: Dialect,
+    name: &str,
+    text: &str,
+    is_last: bool,
+) -> Result<(), Stop> {
     let converted = convert_items(rt.alloc(), name, text)?;
     print(
         rt,
         name,
         converted.text.as_str().as_bytes(),
         &[edit_of(dialect)],
+        is_last,
     )?;
     say_losses(rt, name, converted.losses.as_slice());
     Ok(())
 }
 
-// Prints the entries of the items of a file.
-fn import_file(rt: &HostRuntime, dialect: Dialect, name: &str) -> Result<(), Stop> {
+// Prints the entries of the items of a file. `is_last` says whether it is the last one.
+fn import_file(rt: &HostRuntime, dialect: Dialect, name: &str, is_last: bool) -> Result<(), Stop> {
     let bytes = bytes_of(rt, name)?;
     let json = after_mark(&bytes);
     match from_utf8(json) {
-        Ok(text) => import_text(rt, dialect, name, text),
+        Ok(text) => import_text(rt, dialect, name, text, is_last),
         Err(error) => {
             let said = "not UTF-8 from here on";
             let line = error_line(rt.alloc(), name, json, error.valid_up_to(), said)?;
@@ -120,8 +128,9 @@ fn import_file(rt: &HostRuntime, dialect: Dialect, name: &str) -> Result<(), Sto
 /// Prints the entries of the items of each file in turn, with the types and fields of a dialect. Returns the greatest status.
 pub fn run_import(rt: &HostRuntime, dialect: Dialect, names: &[&str]) -> u8 {
     let mut status = 0;
-    'names: for name in names {
-        if let Err(stop) = import_file(rt, dialect, name) {
+    'names: for (index, name) in names.iter().enumerate() {
+        let is_last = index + 1 == names.len();
+        if let Err(stop) = import_file(rt, dialect, name, is_last) {
             status = say(rt, &stop).max(status);
         }
     }

@@ -279,7 +279,7 @@ fn edit_keys(
     if editing.mode == Mode::Write {
         apply(rt, editing, bytes, &edits)?;
     } else {
-        let _new = new_text(rt.alloc(), editing.name, bytes, &edits)?;
+        let _new = new_text(rt.alloc(), editing.name, bytes, &edits, editing.is_last)?;
     }
     print(rt, &map_text(rt.alloc(), entries, keys)?)
 }

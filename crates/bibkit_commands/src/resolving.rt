@@ -33,11 +33,12 @@ pub fn resolve(rt: &HostRuntime, editing: &Editing<'_>, has_notes: bool) -> Resu
 /// don't inherit.
 pub fn run_resolve(rt: &HostRuntime, mode: Mode, has_notes: bool, names: &[&str]) -> u8 {
     let mut status = 0;
-    'names: for name in names {
+    'names: for (index, name) in names.iter().enumerate() {
         let editing = Editing {
             edits: Edits::Resolve { has_notes },
             name,
             mode,
+            is_last: index + 1 == names.len(),
         };
         status = run_edits(rt, &editing).max(status);
     }

@@ -36,6 +36,7 @@ use edit_strings::errors::ExpandError;
 use edit_strings::expanding::expand;
 use std::alloc::{AllocError, Global};
 use std::collections::BTreeSet;
+use std::mem;
 
 // The reason for refusing one edit of a document.
 #[derive(Debug, Drop)]
@@ -327,14 +328,26 @@ fn refusal(step: Step, index: usize) -> Refusal
     }
 }
 
-// Applies an edit to a text, and returns the new text. `index` is the index of the edit, for its refusal.
-fn edit_once(alloc: Global, text: &str, edit: &Edit<'_>, index: usize) -> Result<String, Refusal>
+// Applies an edit to a text, and returns the new text. `index` is the index of the edit, for its refusal. `is_last` says whether the
+// process ends after this edit. If so, the parsed text isn't freed, unless the edit is refused.
+fn edit_once(
+    alloc: Global,
+    text: &str,
+    edit: &Edit<'_>,
+    index: usize,
+    is_last: bool,
+) -> Result<String, Refusal>
     ensures made { IfOk result (λ new. IsMade edit.now text.now (string_bytes new)) }
     ensures refused { IfErr result (IsTextRefused edit.now text.now index) }
 {
     match RawDocument::parse(alloc, text) {
         Ok(document) => match edit_safely(alloc, &document, edit) {
-            Ok(new) => Ok(new),
+            Ok(new) => {
+                if is_last {
+                    mem::forget(document);
+                }
+                Ok(new)
+            }
             Err(step) => Err(refusal(step, index)),
         },
         Err(error) => Err(file_refusal(error)),
@@ -352,14 +365,20 @@ fn latest<'a>(new: &'a Option<String>, first: &'a str) -> &'a str
 }
 
 /// Applies edits to a text, each to the text after the previous one, and returns the new text. Without edits, returns `text`. If an edit
-/// is refused, returns its refusal.
-pub fn edit_text(alloc: Global, text: &str, edits: &[Edit<'_>]) -> Result<String, Refusal>
+/// is refused, returns its refusal. `is_last` says whether the process ends after this text, so that memory needn't be freed.
+pub fn edit_text(
+    alloc: Global,
+    text: &str,
+    edits: &[Edit<'_>],
+    is_last: bool,
+) -> Result<String, Refusal>
     ensures made { IfOk result (λ new. AreMade edits.now text.now (string_bytes new)) }
     ensures refused { IfErr result (AreRefused edits.now text.now) }
 {
     let mut new = None;
     'edits: for (index, edit) in edits.iter().enumerate() {
-        new = Some(edit_once(alloc, latest(&new, text), edit, index)?);
+        let is_end = is_last && index + 1 == edits.len();
+        new = Some(edit_once(alloc, latest(&new, text), edit, index, is_end)?);
     }
     match new {
         Some(new) => Ok(new),
@@ -368,14 +387,20 @@ pub fn edit_text(alloc: Global, text: &str, edits: &[Edit<'_>]) -> Result<String
 }
 
 /// Applies edits to the bytes of a file as [`edit_text`] does, and returns the new text. A byte order mark at their start is kept, and the
-/// text after it is edited. Returns `NotUtf8` if the bytes aren't UTF-8, or the refusal of the first refused edit.
-pub fn edit_file(alloc: Global, bytes: &[u8], edits: &[Edit<'_>]) -> Result<String, Refusal>
+/// text after it is edited. Returns `NotUtf8` if the bytes aren't UTF-8, or the refusal of the first refused edit. `is_last` says whether
+/// the process ends after this file, so that memory needn't be freed.
+pub fn edit_file(
+    alloc: Global,
+    bytes: &[u8],
+    edits: &[Edit<'_>],
+    is_last: bool,
+) -> Result<String, Refusal>
     ensures made { IfOk result (λ new. IsFileMade edits.now bytes.now (string_bytes new)) }
     ensures refused { IfErr result (IsFileRefused edits.now bytes.now) }
 {
     match text_after_mark(bytes) {
         Ok(text) => {
-            let new = edit_text(alloc, text, edits)?;
+            let new = edit_text(alloc, text, edits, is_last)?;
             Ok(with_mark(alloc, bytes, new)?)
         }
         Err(at) => Err(Refusal::NotUtf8 { at }),

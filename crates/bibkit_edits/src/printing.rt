@@ -74,17 +74,19 @@ fn hand_over<K: Sink>(text: &str, output: &mut K) -> Result<(), Unprinted>
     }
 }
 
-/// Applies edits to the bytes of a file, and prints the new text. If the edits are refused, the output is unchanged.
+/// Applies edits to the bytes of a file, and prints the new text. If the edits are refused, the output is unchanged. `is_last` says whether
+/// the process ends after this file, so that memory needn't be freed.
 pub fn print_edited<K: Sink>(
     alloc: Global,
     bytes: &[u8],
     edits: &[Edit<'_>],
+    is_last: bool,
     output: &mut K,
 ) -> Result<(), Unprinted>
     ensures printed { OnOk result (HasPrintedEdited K.taken edits.now bytes.now output.old output.new) }
     ensures not_printed { IfErr result (IsNotPrinted K.hands_over edits.now bytes.now output.old output.new) }
 {
-    let new = edit_file(alloc, bytes, edits)?;
+    let new = edit_file(alloc, bytes, edits, is_last)?;
     hand_over(&new, output)
 }
 
@@ -100,7 +102,7 @@ fn difference(alloc: Global, name: &str, bytes: &[u8], new: &str) -> Result<Stri
 }
 
 /// Applies edits to the bytes of a file, and prints a unified diff with the file name, as `diff -u` does. Returns whether
-/// the diff isn't empty. If the edits are refused, the output is unchanged.
+/// the diff isn't empty. If the edits are refused, the output is unchanged. The memory of the edits is freed before the diff is made.
 pub fn print_difference<K: Sink>(
     alloc: Global,
     name: &str,
@@ -111,7 +113,7 @@ pub fn print_difference<K: Sink>(
     ensures printed { IfOk result (λ differs. HasPrintedDifference K.taken name.now edits.now bytes.now differs output.old output.new) }
     ensures not_printed { IfErr result (IsDifferenceNotPrinted K.hands_over name.now edits.now bytes.now output.old output.new) }
 {
-    let edited = edit_file(alloc, bytes, edits)?;
+    let edited = edit_file(alloc, bytes, edits, false)?;
     let diff = difference(alloc, name, bytes, &edited)?;
     hand_over(&diff, output)?;
     Ok(!diff.as_str().is_empty())
