@@ -24,7 +24,7 @@ pub one_more : (text file : List ℕ) (start : ℕ) (ends : List ℕ) → start 
 one_more text file start [] within is = (
   omega (arith, within),
   ap (λ xs. slice_get xs (length text + length file)) (sym (append_assoc text file (10 ∷ [])))
-  ∙ ap (slice_get ((text ++ file) ++ 10 ∷ [])) (sym (length-append text file)) ∙ get_here (text ++ file) 10 [],
+      ∙ ap (slice_get ((text ++ file) ++ 10 ∷ [])) (sym (length-append text file)) ∙ get_here (text ++ file) 10 [],
   _,
 )
 one_more text file start (end ∷ ends) within is = (
@@ -75,9 +75,9 @@ boundary_cut text start end within ordered is =
     let size = length-take-le end text within in (
       omega (arith, size, ordered),
       (λ inside high.
-      let inner : start < end = omega (arith, size, inside) in
-      let same : slice_index (take end text) start ≡ slice_index text start = get_or-take end text start 0 inner in
-      subst (λ b. 192 ≤ b) (sym same) (is.1 (omega (arith, inner, within)) (subst (λ b. 128 ≤ b) same high))),
+          let inner : start < end = omega (arith, size, inside) in
+          let same : slice_index (take end text) start ≡ slice_index text start = get_or-take end text start 0 inner in
+          subst (λ b. 192 ≤ b) (sym same) (is.1 (omega (arith, inner, within)) (subst (λ b. 128 ≤ b) same high))),
     )
 
 -- each file ends in the text

@@ -18,8 +18,8 @@ abbrev pub no_files : FilesText
 no_files = record { text = []; ends = [] }
 
 -- the text of these files and of one more
-abbrev pub with_file : FilesText → List ℕ → FilesText
-with_file files file = record {
+abbrev pub with_next : FilesText → List ℕ → FilesText
+with_next files file = record {
   text = files.text ++ (file ++ char.line_feed ∷ []);
   ends = files.ends ++ (length files.text + length file) ∷ [];
 }

@@ -36,7 +36,8 @@ pub compared_answer : {F : Type 0} {reads : F → List ℕ → Option (List ℕ)
     {names : List (List ℕ)} {lint : Lint} (cited : Cited) → is_database lint names ≡ false → lint.cited ≡ Some cited
     → (text : List ℕ) (status : Option ℕ)
     → AreComparedPrinted reads lint cited files names text status → IsCallAnswer reads files names (request.Lint lint) text status
-compared_answer cited each some text status are = IsCallAnswer.compared cited are.found are.document are.files' each some are.read are.printed
+compared_answer cited each some text status are =
+    IsCallAnswer.compared cited are.found are.document are.files' each some are.read are.printed
 
 pub database_answer : {F : Type 0} {reads : F → List ℕ → Option (List ℕ) → F → Type 0} {files : F}
     {names : List (List ℕ)} {lint : Lint} → is_database lint names ≡ true → lint.cited ≡ None → (text : List ℕ) (status : Option ℕ)

@@ -6,7 +6,7 @@ use Rattle.std.specs.List.{prefix_len}
 use Rattle.bib_findings.specs.Findings.{AreFindingsOf, AreSortedByPlace}
 use Rattle.bib_findings.specs.declared.finding.Finding.{Finding}
 use Rattle.bib_queries.specs.declared.citations.Citations.{Citations}
-use Rattle.bib_syntax.specs.Files.{AreFilesRecovered, FilesText, no_files, with_file}
+use Rattle.bib_syntax.specs.Files.{AreFilesRecovered, FilesText, no_files, with_next}
 use Rattle.bib_syntax.specs.Reading.{EntryReading, FileReading}
 use Rattle.bib_syntax.specs.declared.raw.recovery.SkippedBlock.{SkippedBlock}
 use Rattle.bibkit_core.specs.Asked.{selected_findings}
@@ -22,7 +22,7 @@ use Rattle.bibkit_core.specs.declared.tally.Tally.{Tally}
 
 -- the decoded texts of these files in one text
 abbrev pub joined_texts : List StoredFile → FilesText
-joined_texts files = fold (λ texts file. with_file texts (string_bytes file.decoded.text)) no_files files
+joined_texts files = fold (λ texts file. with_next texts (string_bytes file.decoded.text)) no_files files
 
 -- the findings of the entries that the document, if there is one, doesn't cite
 abbrev pub unused_by : Option Document → List EntryReading → List Finding
@@ -36,7 +36,8 @@ missing_by (Some document) entries = missing_among entries document.citations.ke
 
 -- `found` are the findings of these files as one database, and those of the entries that the document doesn't cite, in order of their
 -- places in the text of all files; of these, `kept` are reported
-pub record AreOfDatabase (lint : Lint) (document : Option Document) (texts : FilesText) (says : FileReading) (kept : List Finding) : Type 0 where
+pub record AreOfDatabase (lint : Lint) (document : Option Document) (texts : FilesText) (says : FileReading) (kept : List Finding)
+    : Type 0 where
   pub skipped : List SkippedBlock
   pub recovery : AreFilesRecovered texts says skipped
   pub of_files : List Finding

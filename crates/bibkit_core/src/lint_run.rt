@@ -106,8 +106,8 @@ fn run_compared_database<F: Files, K: Sink, M: Sink>(
         ((files' : F) × F.reads files.old cited.entry.name.now None files') output.old output.new) }
 {
     let text = document_text(alloc, cited.name, files, messages)?;
-    let document = Document::new(alloc, cited.name, text.as_str(), cited.has_unused)?;
-    let status = run_database(alloc, lint, Some(document), names, files, output, messages)?;
+    let compared = Document::new(alloc, cited.name, text.as_str(), cited.has_unused)?;
+    let status = run_database(alloc, lint, Some(compared), names, files, output, messages)?;
     Ok(status)
 }
 

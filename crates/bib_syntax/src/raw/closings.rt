@@ -87,11 +87,7 @@ impl Braces {
 }
 
 // Returns a `Closing` for each opening brace of `text` from the offset `start` on that no backslash escapes, sorted by `start`.
-pub(crate) fn closings(
-    alloc: Global,
-    text: &str,
-    start: usize,
-) -> Result<Vec<Closing>, AllocError>
+pub(crate) fn closings(alloc: Global, text: &str, start: usize) -> Result<Vec<Closing>, AllocError>
     requires { IsCharBoundary text.now start }
     ensures { IfOk result (λ found. AreClosings text.now found.items) }
 {

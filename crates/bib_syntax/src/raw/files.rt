@@ -2,7 +2,7 @@
 
 ghost use Rattle.std.specs.Prelude.{◌≡◌, ◌<◌, All, length, IfOk, OnOk};
 ghost use Rattle.std.specs.String.{string_bytes};
-ghost use Rattle.bib_syntax.specs.Files.{AreFilesRecovered, no_files, with_file};
+ghost use Rattle.bib_syntax.specs.Files.{AreFilesRecovered, no_files, with_next};
 ghost use Rattle.bib_syntax.specs.Views.{file_of};
 
 use crate::raw::recovery::{RawRecovery, recover};
@@ -40,7 +40,7 @@ impl JoinedFiles {
 
     /// Adds a file with this text after the others. Fails only if out of memory. The value must not be used after that.
     pub fn push(&mut self, file: &str) -> Result<(), AllocError>
-        ensures { OnOk result (self.new ≡ with_file self.old file.now) }
+        ensures { OnOk result (self.new ≡ with_next self.old file.now) }
     {
         self.text.push_str(file)?;
         let end = self.text.as_str().len();

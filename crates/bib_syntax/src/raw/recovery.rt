@@ -268,12 +268,12 @@ impl<'s> RawRecovery<'s> {
             RecoveredTo keeps_parts start (file_of self.new.raw) self.new.skipped.items s.new) }
         ensures end { OnOk result (AtEnd s.new) }
     {
-        let start = s.cursor();
+        let file_start = s.cursor();
         let mut memo = None;
         'file: while let Some(c) = s.peek() {
             if c == '@' {
                 if memo.is_none() && !self.skipped.is_empty() {
-                    memo = Some(Memo::new(alloc, text, start)?);
+                    memo = Some(Memo::new(alloc, text, file_start)?);
                 }
                 self.add_block(s, alloc, text, keeps_parts, &mut memo)?;
             } else if c == '%' {

@@ -24,11 +24,7 @@ impl Stretch {
 }
 
 // Returns the lines of `text` from the offset `start` on, without their line feeds.
-pub(crate) fn lines(
-    alloc: Global,
-    text: &str,
-    start: usize,
-) -> Result<Vec<Stretch>, AllocError>
+pub(crate) fn lines(alloc: Global, text: &str, start: usize) -> Result<Vec<Stretch>, AllocError>
     requires { IsCharBoundary text.now start }
     ensures { IfOk result (λ found. AreLines text.now found.items) }
 {

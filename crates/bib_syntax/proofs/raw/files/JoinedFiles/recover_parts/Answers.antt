@@ -28,9 +28,9 @@ files-init c =
     let ends = c.deref-end-items.result.now in
     let same : string_bytes c.self.inside.text ≡ text = ap (λ files. files.text) c.self.view_is ∙ sym c.text-text.ensures in (
       (λ says errors x.
-      subst (λ r. RecoveredFrom text 0 ends (then r says) (c.nothing-found.result.skipped.items ++ errors))
-      (sym c.nothing-found.ensures.content)
-      (subst (λ xs. RecoveredFrom text 0 ends (then empty_reading says) (xs ++ errors)) (sym c.nothing-found.ensures.skipped) x)),
+          subst (λ r. RecoveredFrom text 0 ends (then r says) (c.nothing-found.result.skipped.items ++ errors))
+          (sym c.nothing-found.ensures.content)
+          (subst (λ xs. RecoveredFrom text 0 ends (then empty_reading says) (xs ++ errors)) (sym c.nothing-found.ensures.skipped) x)),
       subst (λ t. AreFiles t 0 ends) same
           (subst (AreFiles (string_bytes c.self.inside.text) 0) (sym c.deref-end-items.ensures.value) c.self.invariant),
       IsCharBoundary-start text c.text-text.utf8,
@@ -61,21 +61,22 @@ files-preserved c =
     let ends = c.deref-end-items.result.now in
     let end = get_or ends c.files.end-index 0 in
     let are = this_file text ends c.files.start c.files.end-index c.files-test.true c.files.invariant.1 in
-    let file : Recovered true (place (take end text) c.files.start) (file_of c.in_ok-recover.field-0.raw) c.in_ok-recover.field-0.skipped.items =
-    subst (λ t. Recovered true (place t c.files.start) (file_of c.in_ok-recover.field-0.raw) c.in_ok-recover.field-0.skipped.items)
+    let found = c.in_ok-recover.field-0 in
+    let file : Recovered true (place (take end text) c.files.start) (file_of found.raw) found.skipped.items =
+    subst (λ t. Recovered true (place t c.files.start) (file_of found.raw) found.skipped.items)
     (cut at.After-range) c.in_ok-recover.ensures in (
       (λ says errors x.
-      let here = subst (λ xs. RecoveredFrom text c.files.start xs
+          let here = subst (λ xs. RecoveredFrom text c.files.start xs
           (then (file_of c.in_ok-recover.field-0.raw) says) (c.in_ok-recover.field-0.skipped.items ++ errors))
           (sym (next_file ends c.files.end-index c.files-test.true)) (recovered.file file x) in
-      let all = c.files.invariant.0 _ _ here in
-      subst (λ r. RecoveredFrom text 0 ends r (c.append.new.self.skipped.items ++ errors))
-      (sym (ap (λ r. then r says) c.in_ok-append.ensures.content
-      ∙ then-then (file_of c.files.found.raw) (file_of c.in_ok-recover.field-0.raw) says))
-      (subst (λ xs. RecoveredFrom text 0 ends
-      (then (file_of c.files.found.raw) (then (file_of c.in_ok-recover.field-0.raw) says)) xs)
-      (sym (ap (λ xs. xs ++ errors) c.in_ok-append.ensures.skipped
-      ∙ append_assoc c.files.found.skipped.items c.in_ok-recover.field-0.skipped.items errors)) all)),
+          let all = c.files.invariant.0 _ _ here in
+          subst (λ r. RecoveredFrom text 0 ends r (c.append.new.self.skipped.items ++ errors))
+          (sym (ap (λ r. then r says) c.in_ok-append.ensures.content
+          ∙ then-then (file_of c.files.found.raw) (file_of c.in_ok-recover.field-0.raw) says))
+          (subst (λ xs. RecoveredFrom text 0 ends
+          (then (file_of c.files.found.raw) (then (file_of c.in_ok-recover.field-0.raw) says)) xs)
+          (sym (ap (λ xs. xs ++ errors) c.in_ok-append.ensures.skipped
+          ∙ append_assoc c.files.found.skipped.items c.in_ok-recover.field-0.skipped.items errors)) all)),
       are.2,
       next_boundary text end c.text-text.utf8 are.1,
     )
