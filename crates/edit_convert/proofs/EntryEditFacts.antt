@@ -51,21 +51,21 @@ pub entry_edited : {A E : Type 0} (r : Result A E) (old mid new : List Edit) (di
     (text : List ℕ) (e : EntryReading) (kind : EntryType) (changes : Changes) (other missing : Option (List ℕ))
     → IsFound dialect defines text e kind changes → missing ≡ missing_type dialect kind e.fields
     → other ≡ type_for dialect kind (printed_of changes.printed) missing (keeps_one (replacement_by changes) e.fields)
-    → mid ≡ old ++ part_edits e.kind other → OnOk r (new ≡ mid ++ change_edits changes missing text e.fields)
+    → mid ≡ old ++ part_edits e.kind other → OnOk r (new ≡ mid ++ change_edits changes text e.fields missing e.fields)
     → OnOk r (new ≡ old ++ conversion_edits dialect defines text e)
 entry_edited (Err x) old mid new dialect defines text e kind changes other missing found missing_is other_is mid_is new_is = _
 entry_edited (Ok x) old mid new dialect defines text e kind changes other missing found missing_is other_is mid_is new_is =
     let made : EntryType → Option PrintedType → Option (List ℕ) → (FieldReading → Option Replacement) → List Edit =
     λ (k : EntryType) (p : Option PrintedType) (m : Option (List ℕ)) (x : FieldReading → Option Replacement).
     part_edits e.kind (type_for dialect k p m (keeps_one x e.fields))
-    ++ edits_of_fields text e.fields (with_missing_type m (field_changes text x e.fields)) in
+    ++ edits_of_fields text e.fields (with_missing_type text e.fields m e.fields (field_changes text e.fields x e.fields)) in
     let by_kind : EntryType → List Edit =
     λ (k : EntryType).
     made k (printed_type dialect k e.fields) (missing_type dialect k e.fields) (field_replacement dialect defines text e) in
-    new_is ∙ ap (λ m. m ++ change_edits changes missing text e.fields) (mid_is ∙ ap (λ o. old ++ part_edits e.kind o) other_is)
+    new_is ∙ ap (λ m. m ++ change_edits changes text e.fields missing e.fields) (mid_is ∙ ap (λ o. old ++ part_edits e.kind o) other_is)
     ∙ append_assoc old
     (part_edits e.kind (type_for dialect kind (printed_of changes.printed) missing (keeps_one (replacement_by changes) e.fields)))
-    (change_edits changes missing text e.fields)
+    (change_edits changes text e.fields missing e.fields)
     ∙ ap (λ x. old ++ made kind (printed_of changes.printed) missing x) (found_replacements dialect defines text e kind changes found)
     ∙ ap (λ p. old ++ made kind p missing (field_replacement dialect defines text e)) found.printed
     ∙ ap (λ m. old ++ made kind (printed_type dialect kind e.fields) m (field_replacement dialect defines text e)) missing_is

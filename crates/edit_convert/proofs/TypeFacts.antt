@@ -14,7 +14,7 @@ use Rattle.edit_entries.proofs.NewFieldFacts.{CanBePut}
 use Rattle.edit_strings.proofs.NameFacts.{plain_can}
 use Rattle.edit_strings.specs.Collecting.{is_plain_name}
 use Rattle.edit_convert.specs.Conversions.{is_field_there, literal_of, missing_type, printed_type, read_type, times_named, type_if_named}
-use Rattle.edit_convert.specs.Types.{PrintedType, reports_by_value, theses_by_value, type_by_value, type_field, type_value, types_by_value}
+use Rattle.edit_convert.specs.Types.{PrintedType, key_in, reports_by_value, theses_by_value, type_by_value, type_field, type_value, types_by_value}
 use Rattle.edit_convert.proofs.DateFacts.{is_plain_ascii, plain_read}
 
 -- the name of a type is plain and that of an entry block, and its text can be inserted as a field `type`
@@ -59,7 +59,7 @@ row_printed (row ∷ rows) value type all is =
 value_printed : (kind : EntryType) (value : Option (List ℕ)) (type : PrintedType) → type_by_value kind value ≡ Some type
     → IsPrinted type
 value_printed kind None type is = absurd (cc)
-value_printed kind (Some value) type is = row_printed (types_by_value kind) value type (rows_printed kind) is
+value_printed kind (Some value) type is = row_printed (types_by_value kind) (key_in value) type (rows_printed kind) is
 
 read_printed : (kind : EntryType) (fields : List FieldReading) (type : PrintedType) → read_type kind fields ≡ Some type → IsPrinted type
 read_printed kind fields type is = by_case (times_named fields (codes "type") == 1) is

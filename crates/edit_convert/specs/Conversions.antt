@@ -13,9 +13,10 @@ use Rattle.bib_tables.specs.declared.dialects.Dialect.TheVariants.{Biblatex, Bib
 use Rattle.edit_entries.specs.Documents.{Document, has_name}
 use Rattle.edit_format.specs.Formatted.{has_percent}
 use Rattle.edit_strings.specs.Collected.{single_text}
-use Rattle.edit_entries.specs.Changes.{EntryChange, FieldChange, IsChanged, NewField, braced_field}
+use Rattle.edit_entries.specs.Changes.{EntryChange, FieldChange, IsChanged, NewField, braced_field, braced_value}
+use Rattle.edit_entries.specs.Layouts.{sign_at}
+use Rattle.edit_entries.specs.Setting.{white_before}
 use Rattle.edit_convert.specs.Types.{PrintedType, type_by_value, type_field, type_value}
-use Rattle.bib_text.specs.Characters as char
 use Rattle.edit_convert.specs.Dates.{Sides, date_sides, from_names, more_fields, part_names, to_fields, side_year}
 use Rattle.edit_convert.specs.Joined.{is_month_name, joined_text, month_value}
 
@@ -208,35 +209,43 @@ abbrev pub can_be_removed : List ℕ → FieldReading → List FieldReading → 
 can_be_removed text f [] = false
 can_be_removed text f (g ∷ gs) = is_comment_free text f (g ∷ gs)
 
--- the change of a field, by its replacement; `following` are the fields after it. The last part of a date is replaced by the date, and the
--- parts before it are removed. A `type` that became the entry's type is removed. If it can't be, its value becomes the text that styles
--- print for the type.
-abbrev pub field_change : List ℕ → FieldReading → List FieldReading → Option Replacement → FieldChange
-field_change text f following None = FieldChange.kept
-field_change text f following (Some (Replacement.with_name name)) = FieldChange.renamed name
-field_change text f following (Some (Replacement.with_type printed)) =
-    if can_be_removed text f following then FieldChange.removed else FieldChange.replaced (type_field printed) [] []
-field_change text f following (Some (Replacement.with_parts defines sides)) =
-    FieldChange.replaced (side_year from_names sides.from) (more_fields defines from_names sides.from ++ to_fields defines sides.to)
-    (codes " ")
-field_change text f following (Some (Replacement.with_date date)) =
-    if list_any is_date_part following then FieldChange.removed else FieldChange.replaced (date_field date) [] []
+-- the change of a field, by its replacement. `fields` are those of its entry, and `following` are those after it. The last part of a date
+-- is replaced by the date, and the parts before it are removed. A `type` that became the entry's type is removed. If it can't be, its value
+-- becomes the text that styles print for the type. New fields have the layout of the field that they replace: the white space before its
+-- name is before each of them, and their equals signs are as in `sign_at`.
+abbrev pub field_change : List ℕ → List FieldReading → FieldReading → List FieldReading → Option Replacement → FieldChange
+field_change text fields f following None = FieldChange.kept
+field_change text fields f following (Some (Replacement.with_name name)) = FieldChange.renamed name
+field_change text fields f following (Some (Replacement.with_type printed)) =
+    if can_be_removed text f following then FieldChange.removed else FieldChange.valued (braced_value printed)
+field_change text fields f following (Some (Replacement.with_parts defines sides)) =
+    FieldChange.replaced (sign_at text f fields) (side_year from_names sides.from)
+    (more_fields defines from_names sides.from ++ to_fields defines sides.to) (white_before text f.name.start)
+field_change text fields f following (Some (Replacement.with_date date)) =
+    if list_any is_date_part following then FieldChange.removed
+    else FieldChange.replaced (sign_at text f fields) (date_field date) [] []
 
--- the changes of fields, by the replacement of each
-abbrev pub field_changes : List ℕ → (FieldReading → Option Replacement) → List FieldReading → List FieldChange
-field_changes text replacement [] = []
-field_changes text replacement (f ∷ fs) = field_change text f fs (replacement f) ∷ field_changes text replacement fs
+-- the changes of the last fields of an entry, by the replacement of each; `fields` are all fields of the entry
+abbrev pub field_changes : List ℕ → List FieldReading → (FieldReading → Option Replacement) → List FieldReading → List FieldChange
+field_changes text fields replacement [] = []
+field_changes text fields replacement (f ∷ fs) = field_change text fields f fs (replacement f) ∷ field_changes text fields replacement fs
 
--- these changes, with a new field before the first field that is kept
-abbrev pub with_field_before_kept : NewField → List FieldChange → List FieldChange
-with_field_before_kept new [] = []
-with_field_before_kept new (FieldChange.kept ∷ changes) = FieldChange.preceded new (codes " = ") (char.space ∷ []) ∷ changes
-with_field_before_kept new (change ∷ changes) = change ∷ with_field_before_kept new changes
+-- a new field before a field that is kept, with the layout of this field
+abbrev pub preceded_by : List ℕ → List FieldReading → FieldReading → NewField → FieldChange
+preceded_by text fields f new = FieldChange.preceded new (sign_at text f fields new.name) (white_before text f.name.start)
 
--- these changes, with a new field `type` before the first field that is kept, if the value of a missing `type` is given
-abbrev pub with_missing_type : Option (List ℕ) → List FieldChange → List FieldChange
-with_missing_type None changes = changes
-with_missing_type (Some value) changes = with_field_before_kept (type_field value) changes
+-- these changes of the last fields of an entry, with a new field before the first field that is kept
+abbrev pub with_field_before_kept : List ℕ → List FieldReading → NewField → List FieldReading → List FieldChange → List FieldChange
+with_field_before_kept text fields new [] changes = changes
+with_field_before_kept text fields new (f ∷ fs) [] = []
+with_field_before_kept text fields new (f ∷ fs) (FieldChange.kept ∷ changes) = preceded_by text fields f new ∷ changes
+with_field_before_kept text fields new (f ∷ fs) (change ∷ changes) = change ∷ with_field_before_kept text fields new fs changes
+
+-- these changes of the last fields of an entry, with a new field `type` before the first field that is kept, if the value of a missing
+-- `type` is given
+abbrev pub with_missing_type : List ℕ → List FieldReading → Option (List ℕ) → List FieldReading → List FieldChange → List FieldChange
+with_missing_type text fields None fs changes = changes
+with_missing_type text fields (Some value) fs changes = with_field_before_kept text fields (type_field value) fs changes
 
 -- whether at least one field is kept
 abbrev pub keeps_one : (FieldReading → Option Replacement) → List FieldReading → Bool
@@ -257,7 +266,7 @@ conversion dialect defines text e =
     let missing = missing_type dialect kind e.fields in
     record {
       kind = type_for dialect kind (printed_type dialect kind e.fields) missing (keeps_one replacement e.fields);
-      fields = with_missing_type missing (field_changes text replacement e.fields);
+      fields = with_missing_type text e.fields missing e.fields (field_changes text e.fields replacement e.fields);
     }
 
 -- the changes of a document's entries for a dialect

@@ -11,7 +11,7 @@ use Rattle.bib_tables.specs.declared.months.Month.TheVariants.{January, February
 use Rattle.bib_dates.specs.Dates.{date_of}
 use Rattle.bib_dates.specs.Readings.{readable_value}
 use Rattle.edit_strings.specs.Collected.{name_value}
-use Rattle.edit_entries.specs.Changes.{NewField, braced_field, more_field_texts, new_field_text}
+use Rattle.edit_entries.specs.Changes.{NewField, braced_field, field_text_by, more_field_texts}
 
 -- a field whose value is an abbreviation
 abbrev pub bare_field : List ℕ → List ℕ → NewField
@@ -129,8 +129,9 @@ abbrev pub to_fields : Bool → Option Side → List NewField
 to_fields defines None = []
 to_fields defines (Some side) = side_year to_names side ∷ more_fields defines to_names side
 
--- the text of the fields of a date's parts
-abbrev pub written_sides : Bool → Sides → List ℕ
-written_sides defines sides =
-    new_field_text (side_year from_names sides.from)
-    ++ more_field_texts (codes " ") (more_fields defines from_names sides.from ++ to_fields defines sides.to)
+-- the text of the fields of a date's parts. The function returns the text between a name and its value, and a comma and the white space are
+-- between two fields.
+abbrev pub written_sides : (List ℕ → List ℕ) → List ℕ → Bool → Sides → List ℕ
+written_sides sign white defines sides =
+    field_text_by sign (side_year from_names sides.from)
+    ++ more_field_texts sign white (more_fields defines from_names sides.from ++ to_fields defines sides.to)

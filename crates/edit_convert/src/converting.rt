@@ -1,23 +1,22 @@
 //! Converts the entry types and fields of a file to those of a dialect.
 
-ghost use Rattle.std.specs.Prelude.{◌≡◌, ◌++◌, ℕ, IfOk, List, OnOk, None, Some, map};
+ghost use Rattle.std.specs.Prelude.{◌≡◌, ◌++◌, ◌∷◌, [], IfOk, OnOk, None, Some, map};
 ghost use Rattle.std.specs.List.{AllByRecursion};
 ghost use Rattle.std.specs.Option.{option_map};
 ghost use Rattle.std.specs.String.{string_bytes};
-ghost use Rattle.bib_syntax.specs.Reading.{FieldReading};
 ghost use Rattle.bib_syntax.specs.Views.{entry_reading_of, field_of, part_of};
-ghost use Rattle.edit_entries.specs.Placed.{IsPlaced};
-ghost use Rattle.edit_convert.specs.Conversions.{Replacement, IsConverted, conversion, date_if_divided, field_change};
-ghost use Rattle.edit_entries.specs.Changes.{edits_of_entries, edits_of_field, part_edits};
+ghost use Rattle.edit_convert.specs.Conversions.{Replacement, IsConverted, conversion, date_if_divided};
+ghost use Rattle.edit_entries.specs.Changes.{edits_of_entries, field_stretch, part_edits};
 ghost use Rattle.edit_convert.specs.Conversions as spec;
 ghost use Rattle.edit_entries.specs.EditList.{edit_of};
-ghost use Rattle.edit_convert.specs.Tables.{change_edits, conversion_edits, lent_text, pending_after, pending_change, printed_of, replacement_by};
+ghost use Rattle.edit_convert.specs.Tables.{AreFieldsInText, IsFieldInText, change_edits, conversion_edits, edits_at, lent_text, pending_after, pending_edits, printed_of, replacement_by};
 
 use crate::changes::{Changes, changes_of};
-use crate::dates::{written_date, written_sides, written_type};
+use crate::dates::{written_date, written_sides};
 use crate::fields::{date_to_divide, has_part, is_date_part};
 use crate::joining::{can_be_removed, defines_month};
 use crate::names::{other_name, other_type};
+use crate::new_fields::{EntryField, braced_before, in_braces};
 use crate::notes::is_replaced;
 use crate::types::{Printed, missing_type};
 use bib_syntax::raw::{Pair, RawEntry, is_word};
@@ -50,54 +49,59 @@ fn push_part_edit(
     Ok(())
 }
 
+// Adds the edit that replaces a field with a text, without the white space after its value.
+fn push_field_text(
+    edits: &mut Vec<Edit>,
+    at: &EntryField<'_, '_>,
+    text: String,
+) -> Result<(), AllocError>
+    requires { IsFieldInText at.now }
+    ensures { OnOk result (map edit_of edits.new.items ≡ map edit_of edits.old.items ++
+        field_stretch at.now.text.now (field_of at.now.field.now) (string_bytes text) ∷ []) }
+{
+    edits.push(Edit {
+        start: at.field.key.span.start,
+        end: value_end(at.text, at.field),
+        text,
+    })?;
+    Ok(())
+}
+
 // Adds the edit of a field that is a date, if it is replaced by fields of its parts.
 fn push_date_edit(
     edits: &mut Vec<Edit>,
     alloc: Global,
-    text: &str,
     changes: &Changes,
-    field: &Pair<'_>,
+    at: &EntryField<'_, '_>,
 ) -> Result<(), AllocError>
-    requires { IsPlaced text.now (field_of field.now) }
-    ensures { (following : List FieldReading) → OnOk result (map edit_of edits.new.items ≡ map edit_of edits.old.items ++
-        edits_of_field text.now (field_of field.now) following
-        (field_change text.now (field_of field.now) following
-        (spec.first_replacement changes.now.defines None None None (date_if_divided changes.now.divides (field_of field.now))))) }
+    requires { IsFieldInText at.now }
+    ensures { OnOk result (map edit_of edits.new.items ≡ map edit_of edits.old.items ++ edits_at at.now
+        (spec.first_replacement changes.now.defines None None None
+        (date_if_divided changes.now.divides (field_of at.now.field.now)))) }
 {
-    let Some(sides) = date_to_divide(alloc, changes.divides, field)? else {
+    let Some(sides) = date_to_divide(alloc, changes.divides, at.field)? else {
         return Ok(());
     };
-    edits.push(Edit {
-        start: field.key.span.start,
-        end: value_end(text, field),
-        text: written_sides(alloc, changes.defines, &sides)?,
-    })?;
-    Ok(())
+    let text = written_sides(alloc, at, changes.defines, &sides)?;
+    push_field_text(edits, at, text)
 }
 
 // Adds the edit of a part of a date that is joined with the others.
 fn push_joined_edit(
     edits: &mut Vec<Edit>,
     alloc: Global,
-    text: &str,
     date: &str,
-    field: &Pair<'_>,
-    following: &[Pair<'_>],
+    at: &EntryField<'_, '_>,
 ) -> Result<(), AllocError>
-    requires { IsPlaced text.now (field_of field.now) }
+    requires { IsFieldInText at.now }
     ensures { OnOk result (map edit_of edits.new.items ≡ map edit_of edits.old.items ++
-        edits_of_field text.now (field_of field.now) (map field_of following.now)
-        (field_change text.now (field_of field.now) (map field_of following.now) (Some (Replacement.with_date date.now)))) }
+        edits_at at.now (Some (Replacement.with_date date.now))) }
 {
-    if has_part(following) {
-        return push_removal(edits, alloc, field, following);
+    if has_part(at.following) {
+        return push_removal(edits, alloc, at.field, at.following);
     }
-    edits.push(Edit {
-        start: field.key.span.start,
-        end: value_end(text, field),
-        text: written_date(alloc, date)?,
-    })?;
-    Ok(())
+    let text = written_date(alloc, at, date)?;
+    push_field_text(edits, at, text)
 }
 
 // Returns the text of the joined date, if a field is one of its parts.
@@ -117,23 +121,20 @@ fn date_if_part<'c>(joined: &'c Option<String>, field: &Pair<'_>) -> Option<&'c 
 fn push_type_edit(
     edits: &mut Vec<Edit>,
     alloc: Global,
-    text: &str,
     printed: &str,
-    field: &Pair<'_>,
-    following: &[Pair<'_>],
+    at: &EntryField<'_, '_>,
 ) -> Result<(), AllocError>
-    requires { IsPlaced text.now (field_of field.now) }
+    requires { IsFieldInText at.now }
     ensures { OnOk result (map edit_of edits.new.items ≡ map edit_of edits.old.items ++
-        edits_of_field text.now (field_of field.now) (map field_of following.now)
-        (field_change text.now (field_of field.now) (map field_of following.now) (Some (Replacement.with_type printed.now)))) }
+        edits_at at.now (Some (Replacement.with_type printed.now))) }
 {
-    if can_be_removed(text, field, following) {
-        return push_removal(edits, alloc, field, following);
+    if can_be_removed(at.text, at.field, at.following) {
+        return push_removal(edits, alloc, at.field, at.following);
     }
     edits.push(Edit {
-        start: field.key.span.start,
-        end: value_end(text, field),
-        text: written_type(alloc, printed)?,
+        start: at.field.value.span.start,
+        end: value_end(at.text, at.field),
+        text: in_braces(alloc, printed)?,
     })?;
     Ok(())
 }
@@ -153,21 +154,18 @@ fn type_if_named(printed: Option<Printed>, field: &Pair<'_>) -> Option<Printed>
 fn push_value_edit(
     edits: &mut Vec<Edit>,
     alloc: Global,
-    text: &str,
     changes: &Changes,
-    field: &Pair<'_>,
-    following: &[Pair<'_>],
+    at: &EntryField<'_, '_>,
 ) -> Result<(), AllocError>
-    requires { IsPlaced text.now (field_of field.now) }
-    ensures { OnOk result (map edit_of edits.new.items ≡ map edit_of edits.old.items ++
-        edits_of_field text.now (field_of field.now) (map field_of following.now)
-        (field_change text.now (field_of field.now) (map field_of following.now)
-        (spec.first_replacement changes.now.defines None None (spec.type_if_named (printed_of changes.now.printed) (field_of field.now))
-        (date_if_divided changes.now.divides (field_of field.now))))) }
+    requires { IsFieldInText at.now }
+    ensures { OnOk result (map edit_of edits.new.items ≡ map edit_of edits.old.items ++ edits_at at.now
+        (spec.first_replacement changes.now.defines None None
+        (spec.type_if_named (printed_of changes.now.printed) (field_of at.now.field.now))
+        (date_if_divided changes.now.divides (field_of at.now.field.now)))) }
 {
-    match type_if_named(changes.printed, field) {
-        Some(printed) => push_type_edit(edits, alloc, text, printed.text, field, following),
-        None => push_date_edit(edits, alloc, text, changes, field),
+    match type_if_named(changes.printed, at.field) {
+        Some(printed) => push_type_edit(edits, alloc, printed.text, at),
+        None => push_date_edit(edits, alloc, changes, at),
     }
 }
 
@@ -175,22 +173,20 @@ fn push_value_edit(
 fn push_field_edit(
     edits: &mut Vec<Edit>,
     alloc: Global,
-    text: &str,
     changes: &Changes,
-    field: &Pair<'_>,
-    following: &[Pair<'_>],
+    at: &EntryField<'_, '_>,
 ) -> Result<(), AllocError>
-    requires { IsPlaced text.now (field_of field.now) }
+    requires { IsFieldInText at.now }
     ensures { OnOk result (map edit_of edits.new.items ≡ map edit_of edits.old.items ++
-        edits_of_field text.now (field_of field.now) (map field_of following.now)
-        (field_change text.now (field_of field.now) (map field_of following.now) (replacement_by changes.now (field_of field.now)))) }
+        edits_at at.now (replacement_by changes.now (field_of at.now.field.now))) }
 {
+    let field = at.field;
     if let Some(date) = date_if_part(&changes.joined, field) {
-        return push_joined_edit(edits, alloc, text, date, field, following);
+        return push_joined_edit(edits, alloc, date, at);
     }
     match other_name(&changes.names, field.key.v) {
         Some(name) => push_part_edit(edits, alloc, &field.key, Some(name)),
-        None => push_value_edit(edits, alloc, text, changes, field, following),
+        None => push_value_edit(edits, alloc, changes, at),
     }
 }
 
@@ -198,19 +194,17 @@ fn push_field_edit(
 fn push_missing_type(
     edits: &mut Vec<Edit>,
     alloc: Global,
-    field: &Pair<'_>,
     value: &str,
+    at: &EntryField<'_, '_>,
 ) -> Result<(), AllocError>
-    ensures { OnOk result ((text : List ℕ) (following : List FieldReading) → map edit_of edits.new.items ≡ map edit_of edits.old.items ++
-        edits_of_field text (field_of field.now) following (pending_change text (field_of field.now) (Some value.now) following None)) }
+    requires { IsFieldInText at.now }
+    ensures { OnOk result (map edit_of edits.new.items ≡ map edit_of edits.old.items ++
+        pending_edits at.now (Some value.now) None) }
 {
-    let mut text = written_type(alloc, value)?;
-    text.push_str(", ")?;
-    text.push_str(field.key.v)?;
     edits.push(Edit {
-        start: field.key.span.start,
-        end: field.key.span.end,
-        text,
+        start: at.field.key.span.start,
+        end: at.field.key.span.end,
+        text: braced_before(alloc, at, "type", value)?,
     })?;
     Ok(())
 }
@@ -220,33 +214,29 @@ fn push_missing_type(
 fn push_pending_edit(
     edits: &mut Vec<Edit>,
     alloc: Global,
-    text: &str,
     changes: &Changes,
     pending: Option<&'static str>,
-    field: &Pair<'_>,
-    following: &[Pair<'_>],
+    at: &EntryField<'_, '_>,
 ) -> Result<Option<&'static str>, AllocError>
-    requires { IsPlaced text.now (field_of field.now) }
+    requires { IsFieldInText at.now }
     ensures edits { OnOk result (map edit_of edits.new.items ≡ map edit_of edits.old.items ++
-        edits_of_field text.now (field_of field.now) (map field_of following.now)
-        (pending_change text.now (field_of field.now) (lent_text pending.entry) (map field_of following.now)
-        (replacement_by changes.now (field_of field.now)))) }
+        pending_edits at.now (lent_text pending.entry) (replacement_by changes.now (field_of at.now.field.now))) }
     ensures left { IfOk result (λ left. lent_text left ≡
-        pending_after (lent_text pending.entry) (replacement_by changes.now (field_of field.now))) }
+        pending_after (lent_text pending.entry) (replacement_by changes.now (field_of at.now.field.now))) }
 {
     let Some(value) = pending else {
-        push_field_edit(edits, alloc, text, changes, field, following)?;
+        push_field_edit(edits, alloc, changes, at)?;
         return Ok(None);
     };
-    if is_replaced(alloc, changes, field)? {
-        push_field_edit(edits, alloc, text, changes, field, following)?;
+    if is_replaced(alloc, changes, at.field)? {
+        push_field_edit(edits, alloc, changes, at)?;
         return Ok(pending);
     }
-    push_missing_type(edits, alloc, field, value)?;
+    push_missing_type(edits, alloc, value, at)?;
     Ok(None)
 }
 
-// Adds the edits of fields. A missing value of `type` is added before the first field that is kept.
+// Adds the edits of an entry's fields. A missing value of `type` is added before the first field that is kept.
 fn push_field_edits(
     edits: &mut Vec<Edit>,
     alloc: Global,
@@ -255,21 +245,19 @@ fn push_field_edits(
     missing: Option<&'static str>,
     fields: &[Pair<'_>],
 ) -> Result<(), AllocError>
-    requires { AllByRecursion (IsPlaced text.now) (map field_of fields.now) }
+    requires { AreFieldsInText text.now (map field_of fields.now) }
     ensures { OnOk result (map edit_of edits.new.items ≡ map edit_of edits.old.items
-        ++ change_edits changes.now (lent_text missing.entry) text.now (map field_of fields.now)) }
+        ++ change_edits changes.now text.now (map field_of fields.now) (lent_text missing.entry) (map field_of fields.now)) }
 {
     let mut pending = missing;
-    'fields: for (at, field) in fields.iter().enumerate() {
-        pending = push_pending_edit(
-            edits,
-            alloc,
+    'fields: for (index, field) in fields.iter().enumerate() {
+        let at = EntryField {
             text,
-            changes,
-            pending,
+            fields,
             field,
-            &fields[at + 1..],
-        )?;
+            following: &fields[index + 1..],
+        };
+        pending = push_pending_edit(edits, alloc, changes, pending, &at)?;
     }
     Ok(())
 }
@@ -317,7 +305,7 @@ fn push_entry_edits(
     text: &str,
     entry: &Spanned<RawEntry<'_>>,
 ) -> Result<(), AllocError>
-    requires { AllByRecursion (IsPlaced text.now) (entry_reading_of entry.now).fields }
+    requires { AreFieldsInText text.now (entry_reading_of entry.now).fields }
     ensures { OnOk result (map edit_of edits.new.items ≡ map edit_of edits.old.items
         ++ conversion_edits dialect defines text.now (entry_reading_of entry.now)) }
 {
@@ -338,7 +326,7 @@ fn edits(
     text: &str,
     entries: &[Spanned<RawEntry<'_>>],
 ) -> Result<Vec<Edit>, AllocError>
-    requires { AllByRecursion (λ e. AllByRecursion (IsPlaced text.now) e.fields) (map entry_reading_of entries.now) }
+    requires { AllByRecursion (λ e. AreFieldsInText text.now e.fields) (map entry_reading_of entries.now) }
     ensures { IfOk result (λ made. map edit_of made.items ≡
         edits_of_entries (conversion dialect defines text.now) text.now (map entry_reading_of entries.now)) }
 {

@@ -1,6 +1,6 @@
 //! Splits a date into fields of its parts, as in BibTeX.
 
-ghost use Rattle.std.specs.Prelude.{◌≡◌, ◌++◌, ◌<◌, ◌==◌, ◌∷◌, [], IfOk, OnOk, codes, is_some};
+ghost use Rattle.std.specs.Prelude.{◌≡◌, ◌++◌, ◌<◌, ◌==◌, ◌∷◌, [], IfOk, OnOk, Some, is_some};
 ghost use Rattle.std.specs.List.{list_all, slice_split};
 ghost use Rattle.std.specs.Char.{is_ascii_digit};
 ghost use Rattle.std.specs.Option.{option_map};
@@ -10,13 +10,13 @@ ghost use Rattle.bib_dates.specs.Dates.{date_of};
 ghost use Rattle.bib_dates.specs.Readings.{readable_value};
 ghost use Rattle.edit_convert.specs.Conversions as conversions;
 ghost use Rattle.edit_convert.specs.Dates as spec;
-ghost use Rattle.edit_convert.specs.Dates.{more_fields, names_after, numbered_months, side_year};
-ghost use Rattle.edit_entries.specs.Changes.{braced_field, more_field_texts, new_field_text};
+ghost use Rattle.edit_convert.specs.Dates.{more_fields, numbered_months, side_year, to_fields};
+ghost use Rattle.edit_entries.specs.Changes.{field_text_by, more_field_texts};
 ghost use Rattle.edit_convert.specs.Notes.{has_unread_parts};
-ghost use Rattle.edit_convert.specs.Types.{type_field};
 ghost use Rattle.edit_strings.specs.Collecting.{lent_texts};
-ghost use Rattle.edit_convert.specs.Tables.{lent_text, side_as_written, sides_as_written};
+ghost use Rattle.edit_convert.specs.Tables.{IsFieldInText, lent_text, names_as_written, side_as_written, sides_as_written, sign_by, white_at};
 
+use crate::new_fields::{EntryField, push_braced, push_comma, push_name};
 use bib_chunks::chunk::making::verbatim;
 use bib_dates::date::Date;
 use bib_tables::months::Month;
@@ -211,101 +211,132 @@ pub(crate) fn has_unread_parts(sides: &Sides<'_>) -> bool
     sides.from.day.is_some() || sides.to.is_some()
 }
 
-// Adds a field whose value is a text in braces.
-fn push_braced(out: &mut String, prefix: &str, name: &str, text: &str) -> Result<(), AllocError>
-    ensures { OnOk result (string_bytes out.new ≡ string_bytes out.old ++ new_field_text (braced_field (prefix.now ++ name.now) text.now)) }
-{
-    out.push_str(prefix)?;
-    out.push_str(name)?;
-    out.push_str(" = {")?;
-    out.push_str(text)?;
-    out.push_str("}")?;
-    Ok(())
+// The names of a side's fields.
+#[derive(Drop)]
+struct SideNames {
+    year: &'static str,
+    month: &'static str,
+    day: &'static str,
 }
 
-// Adds the field of a month after another field, if there is a month.
+// Appends the field of a month after another field, if there is a month.
 fn push_month(
     out: &mut String,
+    alloc: Global,
+    at: &EntryField<'_, '_>,
     defines: bool,
-    prefix: &str,
+    name: &str,
     month: Option<Month>,
 ) -> Result<(), AllocError>
+    requires { IsFieldInText at.now }
     ensures { OnOk result (string_bytes out.new ≡ string_bytes out.old
-        ++ more_field_texts (codes " ") (spec.month_fields defines (prefix.now ++ codes "month") month)) }
+        ++ more_field_texts (sign_by at.now) (white_at at.now) (spec.month_fields defines name.now month)) }
 {
     let Some(month) = month else {
         return Ok(());
     };
-    out.push_str(", ")?;
+    push_comma(out, at)?;
     if defines {
-        return push_braced(out, prefix, "month", month.name());
+        return push_braced(out, alloc, at, name, month.name());
     }
-    out.push_str(prefix)?;
-    out.push_str("month = ")?;
-    out.push_str(month.abbreviation())?;
-    Ok(())
+    push_name(out, alloc, at, name)?;
+    out.push_str(month.abbreviation())
 }
 
-// Adds the field of a day after another field, if there is a day.
-fn push_day(out: &mut String, prefix: &str, day: Option<&str>) -> Result<(), AllocError>
+// Appends the field of a day after another field, if there is a day.
+fn push_day(
+    out: &mut String,
+    alloc: Global,
+    at: &EntryField<'_, '_>,
+    name: &str,
+    day: Option<&str>,
+) -> Result<(), AllocError>
+    requires { IsFieldInText at.now }
     ensures { OnOk result (string_bytes out.new ≡ string_bytes out.old
-        ++ more_field_texts (codes " ") (spec.day_fields (prefix.now ++ codes "day") (lent_text day.entry))) }
+        ++ more_field_texts (sign_by at.now) (white_at at.now) (spec.day_fields name.now (lent_text day.entry))) }
 {
     let Some(day) = day else {
         return Ok(());
     };
-    out.push_str(", ")?;
-    push_braced(out, prefix, "day", day)
+    push_comma(out, at)?;
+    push_braced(out, alloc, at, name, day)
 }
 
-// Adds the fields of a side.
+// Appends the fields of a side.
 fn push_side(
     out: &mut String,
+    alloc: Global,
+    at: &EntryField<'_, '_>,
     defines: bool,
-    prefix: &str,
+    names: &SideNames,
     side: &Side<'_>,
 ) -> Result<(), AllocError>
+    requires { IsFieldInText at.now }
     ensures { OnOk result (string_bytes out.new ≡ string_bytes out.old
-        ++ (new_field_text (side_year (names_after prefix.now) (side_as_written side.now))
-        ++ more_field_texts (codes " ") (more_fields defines (names_after prefix.now) (side_as_written side.now)))) }
+        ++ (field_text_by (sign_by at.now) (side_year (names_as_written names.now) (side_as_written side.now))
+        ++ more_field_texts (sign_by at.now) (white_at at.now)
+        (more_fields defines (names_as_written names.now) (side_as_written side.now)))) }
 {
-    push_braced(out, prefix, "year", side.year)?;
-    push_month(out, defines, prefix, side.month)?;
-    push_day(out, prefix, side.day)
+    push_braced(out, alloc, at, names.year, side.year)?;
+    push_month(out, alloc, at, defines, names.month, side.month)?;
+    push_day(out, alloc, at, names.day, side.day)
+}
+
+// Appends the fields of the second side of a range.
+fn push_second_side(
+    out: &mut String,
+    alloc: Global,
+    at: &EntryField<'_, '_>,
+    defines: bool,
+    side: &Side<'_>,
+) -> Result<(), AllocError>
+    requires { IsFieldInText at.now }
+    ensures { OnOk result (string_bytes out.new ≡ string_bytes out.old
+        ++ more_field_texts (sign_by at.now) (white_at at.now) (to_fields defines (Some (side_as_written side.now)))) }
+{
+    let names = SideNames {
+        year: "endyear",
+        month: "endmonth",
+        day: "endday",
+    };
+    push_comma(out, at)?;
+    push_side(out, alloc, at, defines, &names, side)
 }
 
 // Returns the text of the fields of a date's parts. `defines` is whether the file defines the abbreviation of a month.
 pub(crate) fn written_sides(
     alloc: Global,
+    at: &EntryField<'_, '_>,
     defines: bool,
     sides: &Sides<'_>,
 ) -> Result<String, AllocError>
-    ensures { IfOk result (λ text. string_bytes text ≡ spec.written_sides defines (sides_as_written sides.now)) }
+    requires { IsFieldInText at.now }
+    ensures { IfOk result (λ text. string_bytes text ≡
+        spec.written_sides (sign_by at.now) (white_at at.now) defines (sides_as_written sides.now)) }
 {
-    let mut out = String::new(alloc);
-    push_side(&mut out, defines, "", &sides.from)?;
-    let Some(to) = &sides.to else {
-        return Ok(out);
+    let names = SideNames {
+        year: "year",
+        month: "month",
+        day: "day",
     };
-    out.push_str(", ")?;
-    push_side(&mut out, defines, "end", to)?;
+    let mut out = String::new(alloc);
+    push_side(&mut out, alloc, at, defines, &names, &sides.from)?;
+    if let Some(to) = &sides.to {
+        push_second_side(&mut out, alloc, at, defines, to)?;
+    }
     Ok(out)
 }
 
 // Returns the text of a field `date`.
-pub(crate) fn written_date(alloc: Global, date: &str) -> Result<String, AllocError>
-    ensures { IfOk result (λ text. string_bytes text ≡ new_field_text (conversions.date_field date.now)) }
+pub(crate) fn written_date(
+    alloc: Global,
+    at: &EntryField<'_, '_>,
+    date: &str,
+) -> Result<String, AllocError>
+    requires { IsFieldInText at.now }
+    ensures { IfOk result (λ text. string_bytes text ≡ field_text_by (sign_by at.now) (conversions.date_field date.now)) }
 {
     let mut out = String::new(alloc);
-    push_braced(&mut out, "", "date", date)?;
-    Ok(out)
-}
-
-// Returns the text of a field `type`.
-pub(crate) fn written_type(alloc: Global, text: &str) -> Result<String, AllocError>
-    ensures { IfOk result (λ written. string_bytes written ≡ new_field_text (type_field text.now)) }
-{
-    let mut out = String::new(alloc);
-    push_braced(&mut out, "", "type", text)?;
+    push_braced(&mut out, alloc, at, "date", date)?;
     Ok(out)
 }

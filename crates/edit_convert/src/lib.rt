@@ -15,5 +15,6 @@ mod fields;
 mod joining;
 pub mod laws;
 mod names;
+mod new_fields;
 pub mod notes;
 mod types;

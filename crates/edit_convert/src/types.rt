@@ -1,6 +1,6 @@
 //! Types of BibTeX that BibLaTeX has as other types with a value of the field `type`.
 
-ghost use Rattle.std.specs.Prelude.{◌≡◌, Some, map};
+ghost use Rattle.std.specs.Prelude.{◌≡◌, map};
 ghost use Rattle.bib_tables.specs.declared.mechanics.EntryType.{EntryType};
 ghost use Rattle.bib_syntax.specs.Views.{field_of};
 ghost use Rattle.edit_convert.specs.Conversions as conversions;
@@ -32,11 +32,11 @@ fn type_value(kind: &EntryType) -> Option<&'static str>
     }
 }
 
-// Returns the type of BibTeX that a value of `type` means in a thesis.
-fn thesis_by_value(value: &str) -> Option<Printed>
-    ensures { printed_of result ≡ spec.type_by_value EntryType.Thesis (Some value.now) }
+// Returns the type of BibTeX that a key in `type` means in a thesis.
+fn thesis_by_key(key: &str) -> Option<Printed>
+    ensures { printed_of result ≡ spec.type_by_key EntryType.Thesis key.now }
 {
-    match value {
+    match key {
         "mathesis" => Some(Printed {
             name: "mastersthesis",
             text: "Master's thesis",
@@ -49,11 +49,11 @@ fn thesis_by_value(value: &str) -> Option<Printed>
     }
 }
 
-// Returns the type of BibTeX that a value of `type` means in a report.
-fn report_by_value(value: &str) -> Option<Printed>
-    ensures { printed_of result ≡ spec.type_by_value EntryType.Report (Some value.now) }
+// Returns the type of BibTeX that a key in `type` means in a report.
+fn report_by_key(key: &str) -> Option<Printed>
+    ensures { printed_of result ≡ spec.type_by_key EntryType.Report key.now }
 {
-    match value {
+    match key {
         "techreport" => Some(Printed {
             name: "techreport",
             text: "Technical Report",
@@ -62,17 +62,48 @@ fn report_by_value(value: &str) -> Option<Printed>
     }
 }
 
-// Returns the type of BibTeX that a type and a value of `type` mean.
-fn type_by_value(kind: &EntryType, value: &str) -> Option<Printed>
-    ensures { printed_of result ≡ spec.type_by_value kind.now (Some value.now) }
+// Returns the type of BibTeX that a type and a key in `type` mean.
+fn type_by_key(kind: &EntryType, key: &str) -> Option<Printed>
+    ensures { printed_of result ≡ spec.type_by_key kind.now key.now }
 {
     match kind {
-        EntryType::Thesis | EntryType::MastersThesis | EntryType::PhdThesis => {
-            thesis_by_value(value)
-        }
-        EntryType::Report | EntryType::TechReport => report_by_value(value),
+        EntryType::Thesis | EntryType::MastersThesis | EntryType::PhdThesis => thesis_by_key(key),
+        EntryType::Report | EntryType::TechReport => report_by_key(key),
         _ => None,
     }
+}
+
+// Returns whether a byte ends a line.
+fn is_line_end(byte: u8) -> bool
+    ensures { result ≡ spec.is_line_end byte }
+{
+    byte == b'\n' || byte == b'\r'
+}
+
+// Returns whether a tab occurs in the first line of a text.
+fn has_tab_in_first_line(text: &str) -> bool
+    ensures { result ≡ spec.has_tab_in_first_line text.now }
+{
+    'bytes: for byte in text.as_bytes() {
+        if is_line_end(*byte) {
+            return false;
+        }
+        if *byte == b'\t' {
+            return true;
+        }
+    }
+    false
+}
+
+// Returns the key that BibLaTeX finds in the text of a field `type`: without the white space around it, unless a tab occurs in the first
+// line.
+fn key_in(text: &str) -> &str
+    ensures { result.now ≡ spec.key_in text.now }
+{
+    if has_tab_in_first_line(text) {
+        return text;
+    }
+    text.trim_ascii()
 }
 
 // Returns the type of BibTeX that an entry's type and its field `type` mean, if it has one such field and they mean one.
@@ -84,7 +115,7 @@ fn read_type(kind: &EntryType, fields: &[Pair<'_>]) -> Option<Printed>
     }
     let field = first_named(fields, "type")?;
     let value = single_text(&field.value.v)?;
-    type_by_value(kind, value)
+    type_by_key(kind, key_in(value))
 }
 
 // Returns the type of BibTeX that is written instead of a field `type`; for BibLaTeX there is none.

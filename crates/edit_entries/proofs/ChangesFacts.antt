@@ -6,7 +6,7 @@ use Rattle.std.specs.Str.{IsUtf8}
 use Rattle.bib_syntax.specs.Reading.{FieldReading, EntryReading, FileReading}
 use Rattle.bib_syntax.specs.Grammar.{BlockKind, IsRawReading, block_kind}
 use Rattle.bib_text.proofs.ListFacts.{get_here}
-use Rattle.edit_entries.specs.Changes.{EntryChange, FieldChange, IsChanged, IsReadPlaceless, IsTrimmed, edits_of_entries, edits_of_field, edits_of_fields, entry_changed, field_before, field_changed, field_stretch, fields_changed, file_changed, more_field_texts, name_edit, new_field_text, part_edits, text_changed, value_stretch_edit, with_other_text}
+use Rattle.edit_entries.specs.Changes.{EntryChange, FieldChange, IsChanged, IsReadPlaceless, IsTrimmed, edits_of_entries, edits_of_field, edits_of_fields, entry_changed, field_before, field_changed, field_stretch, field_text_by, fields_changed, file_changed, more_field_texts, name_edit, part_edits, text_changed, value_stretch_edit, with_other_text}
 use Rattle.edit_entries.specs.Documents.{CanBeName, Document, IsDocument}
 use Rattle.edit_entries.specs.Edits.{Edit, moved_field, moved_place, placeless}
 use Rattle.edit_entries.specs.Placed.{IsPlaced}
@@ -18,7 +18,7 @@ use Rattle.edit_entries.proofs.EditFacts.{moved_before}
 use Rattle.edit_entries.proofs.FieldNameFacts.{name_exchanged_read, name_stretch, with_name}
 use Rattle.edit_entries.proofs.FieldMadeFacts.{IsPut, field_gone, field_made}
 use Rattle.edit_entries.proofs.MadeFacts.{Made, MadeFrom, kind_made, less_made, less_made_from, of_entries, stays_made}
-use Rattle.edit_entries.proofs.NewFieldFacts.{CanBePut, IsSign, divided_put}
+use Rattle.edit_entries.proofs.NewFieldFacts.{AreSigns, CanBePut, IsSign, divided_put}
 use Rattle.edit_entries.proofs.NewValueFacts.{CanBeRead}
 use Rattle.edit_entries.proofs.PartFacts.{AreEntriesIn, AreFieldsIn, IsIn, edits_in_order, file_in}
 use Rattle.edit_entries.proofs.PlacelessFacts.{file_placeless}
@@ -61,13 +61,15 @@ name_put d f name can is = record {
 -- ---- changes that can be made
 
 -- a field before others can have this change. Each new name is a name, and each new value parses to its pieces anywhere. The text between
--- new fields is white space. A removed field has another field after it.
+-- a new name and its value is an equals sign with white space around it. The text between new fields is white space. A removed field has
+-- another field after it.
 abbrev pub CanChange : List FieldReading → FieldChange → Type 0
 CanChange following FieldChange.kept = Unit {0}
 CanChange following (FieldChange.preceded n sign white) = CanBePut n × IsSign sign × AreWhite white
 CanChange following (FieldChange.renamed name) = CanBeName name
 CanChange following (FieldChange.valued new) = CanBeRead new
-CanChange following (FieldChange.replaced n ns white) = CanBePut n × AllByRecursion CanBePut ns × AreWhite white
+CanChange following (FieldChange.replaced sign n ns white) =
+    AreSigns sign × CanBePut n × AllByRecursion CanBePut ns × AreWhite white
 CanChange following FieldChange.removed = (g : FieldReading) × (gs : List FieldReading) × (following ≡ g ∷ gs)
 
 -- fields can have these changes
@@ -137,9 +139,11 @@ module _ (d : Document) (changes : EntryReading → EntryChange) (read : IsDocum
   field_case before rest others later e fb f fs now at (FieldChange.valued new) can whole cut less is trimmed from =
       put_case before rest others later e fb f fs now at (value_stretch_edit d.text f new.bytes) _
       (value_put d f new can is trimmed) whole cut less from
-  field_case before rest others later e fb f fs now at (FieldChange.replaced n ns white) can whole cut less is trimmed from =
-      put_case before rest others later e fb f fs now at (field_stretch d.text f (new_field_text n ++ more_field_texts white ns)) _
-      (divided_put d f n ns white trimmed (omega (arith, is.name.some, is.ordered)) can.0 can.1 can.2 is.value) whole cut less from
+  field_case before rest others later e fb f fs now at (FieldChange.replaced sign n ns white) can whole cut less is trimmed from =
+      put_case before rest others later e fb f fs now at
+      (field_stretch d.text f (field_text_by sign n ++ more_field_texts sign white ns)) _
+      (divided_put d f sign n ns white trimmed (omega (arith, is.name.some, is.ordered)) can.0 can.1 can.2 can.3 is.value) whole cut less
+      from
   field_case before rest others later e fb f fs now at FieldChange.removed can whole cut less is trimmed from =
       less_made_from d _ _ f.name.start at _ _ _ less (gone_case before rest others later e fb f fs now can whole cut from)
 

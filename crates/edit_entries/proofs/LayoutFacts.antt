@@ -6,8 +6,8 @@ use Rattle.std.specs.List.{list_all}
 use Rattle.std.proofs.lemmas.Bool.Decides.{nat_tests}
 use Rattle.std.proofs.lemmas.Bool.{and_parts}
 use Rattle.bib_syntax.specs.Reading.{FieldReading}
-use Rattle.edit_entries.specs.Layouts.{after_equals, before_equals, is_blank_byte, new_before_sign, new_sign, padding_or, wide_column}
-use Rattle.edit_entries.proofs.NewFieldFacts.{IsSign, usual_sign}
+use Rattle.edit_entries.specs.Layouts.{after_equals, before_equals, is_blank_byte, new_sign, padding_or, sign_at, sign_in_column, wide_column}
+use Rattle.edit_entries.proofs.NewFieldFacts.{AreSigns, IsSign, usual_sign}
 use Rattle.edit_entries.proofs.StandsFacts.{AreWhite, spaces_white}
 
 blank_white : (b : ℕ) → is_blank_byte b ≡ true → (b < 128) × (is_whitespace b ≡ true)
@@ -28,23 +28,29 @@ blanks_white (b ∷ bs) all =
     let parts = and_parts (is_blank_byte b) (list_all is_blank_byte bs) all in
     (blank_white b parts.0, blanks_white bs parts.1)
 
-pub new_sign_is : (text name : List ℕ) (first : FieldReading) (fields : List FieldReading) → IsSign (new_sign text name first fields)
-new_sign_is text name first fields =
-    by_case (list_all is_blank_byte (before_equals text first) && list_all is_blank_byte (after_equals text first)) refl
+sign_in_column_is : (text name : List ℕ) (column : Option ℕ) (f : FieldReading) → IsSign (sign_in_column text name column f)
+sign_in_column_is text name column f =
+    by_case (list_all is_blank_byte (before_equals text f) && list_all is_blank_byte (after_equals text f)) refl
   where
-    padded : (column : Option ℕ) → AreWhite (before_equals text first) → AreWhite (padding_or column name (before_equals text first))
+    padded : (column : Option ℕ) → AreWhite (before_equals text f) → AreWhite (padding_or column name (before_equals text f))
     padded (Some column) white = spaces_white (max 1 (column - length name))
     padded None white = white
 
-    by_case : (b : Bool) → (list_all is_blank_byte (before_equals text first) && list_all is_blank_byte (after_equals text first)) ≡ b
-        → IsSign (cond b (new_before_sign text name first fields ++ 61 ∷ after_equals text first) (codes " = "))
+    by_case : (b : Bool) → (list_all is_blank_byte (before_equals text f) && list_all is_blank_byte (after_equals text f)) ≡ b
+        → IsSign (cond b (padding_or column name (before_equals text f) ++ 61 ∷ after_equals text f) (codes " = "))
     by_case false is = usual_sign
     by_case true is =
-        let parts = and_parts (list_all is_blank_byte (before_equals text first)) (list_all is_blank_byte (after_equals text first)) is in
+        let parts = and_parts (list_all is_blank_byte (before_equals text f)) (list_all is_blank_byte (after_equals text f)) is in
         record {
-          before = new_before_sign text name first fields;
-          after = after_equals text first;
+          before = padding_or column name (before_equals text f);
+          after = after_equals text f;
           is = refl;
-          white = padded (wide_column text fields) (blanks_white (before_equals text first) parts.0);
-          white' = blanks_white (after_equals text first) parts.1;
+          white = padded column (blanks_white (before_equals text f) parts.0);
+          white' = blanks_white (after_equals text f) parts.1;
         }
+
+pub new_sign_is : (text name : List ℕ) (first : FieldReading) (fields : List FieldReading) → IsSign (new_sign text name first fields)
+new_sign_is text name first fields = sign_in_column_is text name (wide_column text fields) first
+
+pub signs_at : (text : List ℕ) (f : FieldReading) (fields : List FieldReading) → AreSigns (sign_at text f fields)
+signs_at text f fields name = new_sign_is text name f (f ∷ fields)

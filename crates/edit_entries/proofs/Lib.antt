@@ -28,7 +28,7 @@ pub mod JoinedFacts
 pub mod KeptFacts
 mod KeyFacts
 pub mod KindFacts
-mod LayoutFacts
+pub mod LayoutFacts
 mod LineEndFacts
 mod LineFacts
 mod LineThereFacts

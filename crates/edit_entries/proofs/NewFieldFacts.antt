@@ -23,7 +23,7 @@ use Rattle.edit_entries.proofs.ValueFacts.{elements_opens}
 use Rattle.edit_entries.proofs.ZoneFacts.{Inside, char_there, inside, run_there, stops_there, there}
 use Rattle.edit_entries.proofs.ElementFacts.{Ending}
 use Rattle.edit_entries.proofs.StandsFacts.{AreWhite, Stands, ascii, first_part, last_part, past, run_white}
-use Rattle.edit_entries.specs.Changes.{IsTrimmed, field_stretch, NewField, field_reading, new_field_text, signed_field_text, more_field_texts}
+use Rattle.edit_entries.specs.Changes.{IsTrimmed, field_stretch, NewField, field_reading, field_text_by, new_field_text, signed_field_text, spaced_sign, more_field_texts}
 use Rattle.edit_entries.proofs.NewValueFacts.{CanBeRead, after_ending, run_ending}
 use Rattle.edit_entries.proofs.ElementStandsFacts.{element_stands}
 use Rattle.edit_entries.proofs.KindFacts.{IsWithin}
@@ -120,6 +120,13 @@ pub field_read : {u v w : Place} (n : NewField) → CanBePut n → Stands u (new
     → Longest is_whitespace v w → Stops (λ c. c == 35) w → IsRead n u w
 field_read n can s ending over no_hash = signed_read n (codes " = ") can usual_sign s ending over no_hash
 
+-- for each name, a text can be between this name and a value
+abbrev pub AreSigns : (List ℕ → List ℕ) → Type 0
+AreSigns sign = (name : List ℕ) → IsSign (sign name)
+
+pub spaced_signs : AreSigns spaced_sign
+spaced_signs name = usual_sign
+
 -- ---- all fields
 
 -- new fields with commas between them parse between two places, except for byte offsets
@@ -129,21 +136,22 @@ pub record AreFieldsRead (fields : List NewField) (u w : Place) : Type 0 where
   pub begins : Begins readings u.at
   pub alike : map (moved_field (λ n. 0)) readings ≡ map (moved_field (λ n. 0)) (map field_reading fields)
 
-pub fields_read : {u v w : Place} (n : NewField) (ns : List NewField) (space : List ℕ) → CanBePut n → AllByRecursion CanBePut ns
-    → AreWhite space → Stands u (new_field_text n ++ more_field_texts space ns) v → Ending v → Longest is_whitespace v w
-    → Stops (λ c. c == 35) w → AreFieldsRead (n ∷ ns) u w
-fields_read {u} {v} {w} n [] space can all white s ending over no_hash =
-    let x = field_read n can (subst (λ t. Stands u t v) (append-nil (new_field_text n)) s) ending over no_hash in
+pub fields_read : {u v w : Place} (sign : List ℕ → List ℕ) (n : NewField) (ns : List NewField) (space : List ℕ) → AreSigns sign
+    → CanBePut n → AllByRecursion CanBePut ns → AreWhite space → Stands u (field_text_by sign n ++ more_field_texts sign space ns) v
+    → Ending v → Longest is_whitespace v w → Stops (λ c. c == 35) w → AreFieldsRead (n ∷ ns) u w
+fields_read {u} {v} {w} sign n [] space signs can all white s ending over no_hash =
+    let alone = subst (λ t. Stands u t v) (append-nil (field_text_by sign n)) s in
+    let x = signed_read n (sign n.name) can (signs n.name) alone ending over no_hash in
     record {
       readings = x.reading ∷ [];
       news = record { first = []; last = x.reading; middle = u; before = FieldsBefore.none; field = x.field; are = refl };
       begins = record { first = x.reading; others = []; are = refl; start = x.start };
       alike = ap (λ r. r ∷ []) x.alike;
     }
-fields_read {u} {v} {w} n (m ∷ ms) space can all white s ending over no_hash =
-    let written : List ℕ = new_field_text n in
-    let next : List ℕ = new_field_text m in
-    let more : List ℕ = more_field_texts space ms in
+fields_read {u} {v} {w} sign n (m ∷ ms) space signs can all white s ending over no_hash =
+    let written : List ℕ = field_text_by sign n in
+    let next : List ℕ = field_text_by sign m in
+    let more : List ℕ = more_field_texts sign space ms in
     let rest : List ℕ = next ++ more in
     let joined : (space ++ next) ++ more ≡ space ++ rest = append_assoc space next more in
     let first = first_part written (44 ∷ ((space ++ next) ++ more)) s in
@@ -154,12 +162,12 @@ fields_read {u} {v} {w} n (m ∷ ms) space can all white s ending over no_hash =
     let blank = first_part space rest s3 in
     let s4 = last_part space rest s3 in
     let others =
-    fields_read {u = past (past (past u written) (44 ∷ [])) space} {v = v} {w = w} m ms space all.0 all.1 white s4 ending
+    fields_read {u = past (past (past u written) (44 ∷ [])) space} {v = v} {w = w} sign m ms space signs all.0 all.1 white s4 ending
     over no_hash in
     let none : Longest is_whitespace (past u written) (past u written) =
     record { run = stop; stops = stops_at is_whitespace comma refl } in
     let x =
-    field_read n can first
+    signed_read n (sign n.name) can (signs n.name) first
     (record { char = 44; next = _; here = comma; no_name = refl; no_digit = refl; no_point = refl }) none
     (stops_at (λ c. c == 35) comma refl) in
     let opens = new_opens others.news.before others.news.field in
@@ -188,10 +196,11 @@ fields_read {u} {v} {w} n (m ∷ ms) space can all white s ending over no_hash =
 
 -- ---- instead of a field
 
-module _ (d : Document) (f : FieldReading) (n : NewField) (ns : List NewField) (space : List ℕ) (trimmed : IsTrimmed d.text f)
-    (ordered : f.name.start < f.value.start) (can : CanBePut n) (all : AllByRecursion CanBePut ns) (blank_between : AreWhite space) where
+module _ (d : Document) (f : FieldReading) (sign : List ℕ → List ℕ) (n : NewField) (ns : List NewField) (space : List ℕ)
+    (trimmed : IsTrimmed d.text f) (ordered : f.name.start < f.value.start) (signs : AreSigns sign) (can : CanBePut n)
+    (all : AllByRecursion CanBePut ns) (blank_between : AreWhite space) where
   abbrev edit : Edit
-  edit = field_stretch d.text f (new_field_text n ++ more_field_texts space ns)
+  edit = field_stretch d.text f (field_text_by sign n ++ more_field_texts sign space ns)
 
   divided_read : (at k : ℕ) (after : Document) (entry : EntryReading) (j : ℕ) → f.value.end ≤ at → Agrees at d after
       → IsDocument after → slice_get after.says.entries k ≡ Some entry → slice_get entry.fields j ≡ Some f
@@ -257,7 +266,8 @@ module _ (d : Document) (f : FieldReading) (n : NewField) (ns : List NewField) (
       let below : g.end.at < frame.end = omega arith in
       let over : Longest is_whitespace to (goes edit text g.end) =
       record { run = run_there z here' last blank; stops = stops_there is_whitespace z last below stops.0 } in
-      let x = fields_read n ns space can all blank_between stands ending' over (stops_there (λ c. c == 35) z last below stops.1) in
+      let x =
+      fields_read sign n ns space signs can all blank_between stands ending' over (stops_there (λ c. c == 35) z last below stops.1) in
       let start_goes : moved_place edit g.start.at ≡ edit.start =
       moved_before edit g.start.at (omega (arith, start_is, some)) ∙ sym start_is in
       let news = subst (λ m. NewFields (place (edited edit text) m) x.readings (goes edit text g.end)) (sym start_goes) x.news in (

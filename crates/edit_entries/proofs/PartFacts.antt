@@ -16,7 +16,7 @@ use Rattle.edit_entries.specs.Edits.{Edit}
 use Rattle.edit_entries.specs.EditList.{AreEditsInOrder}
 use Rattle.edit_entries.proofs.SplitFacts.{EntryBlock, entry_block, one_entry}
 use Rattle.edit_entries.proofs.ValueFacts.{elements_opens, run_stands}
-use Rattle.edit_entries.specs.Changes.{EntryChange, FieldChange, edits_of_entries, edits_of_field, edits_of_fields, more_field_texts, new_field_text, part_edits, value_end}
+use Rattle.edit_entries.specs.Changes.{EntryChange, FieldChange, edits_of_entries, edits_of_field, edits_of_fields, field_text_by, more_field_texts, part_edits, value_end}
 use Rattle.edit_entries.proofs.TrimmedFacts.{IsFieldPlaced, edits_earlier}
 use Rattle.bib_text.proofs.BoundaryFacts.{run_boundary, char_boundary}
 
@@ -194,8 +194,8 @@ field_in_order text at end f fs (FieldChange.valued new) more before is placed f
     placed.placed.start placed
     (edits_earlier text (first_place f.value.end fs) f.value.end more (first_in text f.value.end end fs fields).0
     order)
-field_in_order text at end f fs (FieldChange.replaced n ns white) more before is placed fields order =
-    stretch_in_order text at f.name.start f (new_field_text n ++ more_field_texts white ns) more before
+field_in_order text at end f fs (FieldChange.replaced sign n ns white) more before is placed fields order =
+    stretch_in_order text at f.name.start f (field_text_by sign n ++ more_field_texts sign white ns) more before
     (omega (arith, is.name.some, is.ordered)) is.name.start placed
     (edits_earlier text (first_place f.value.end fs) f.value.end more (first_in text f.value.end end fs fields).0
     order)

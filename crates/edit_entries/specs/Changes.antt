@@ -39,14 +39,14 @@ abbrev pub braced_field : List ℕ → List ℕ → NewField
 braced_field name text = record { name = name; value = braced_value text }
 
 -- the change of a field: it is kept, preceded by a new field, renamed, given a new value, replaced by new fields, or removed.
--- The first text of `preceded` is between the new name and its value. The last text of `preceded` and of `replaced` is white space: a
--- comma and it follow each new field, except the last one of `replaced`.
+-- The first text of `preceded` is between the new name and its value. The function of `replaced` returns this text for each new name. The
+-- last text of both is white space: a comma and it follow each new field, except the last one of `replaced`.
 pub data FieldChange : Type 0 where
   kept : FieldChange
   preceded : NewField → List ℕ → List ℕ → FieldChange
   renamed : List ℕ → FieldChange
   valued : NewValue → FieldChange
-  replaced : NewField → List NewField → List ℕ → FieldChange
+  replaced : (List ℕ → List ℕ) → NewField → List NewField → List ℕ → FieldChange
   removed : FieldChange
 
 -- the change of an entry: the new name of its type, if that changes, and the changes of its fields, in order. Fields after the last
@@ -69,13 +69,21 @@ IsTrimmed text f = Run is_whitespace (place text (value_end text f)) (place text
 abbrev pub signed_field_text : List ℕ → NewField → List ℕ
 signed_field_text sign n = n.name ++ (sign ++ n.value.bytes)
 
+-- an equals sign with one space before and after it, for each name
+abbrev pub spaced_sign : List ℕ → List ℕ
+spaced_sign name = codes " = "
+
 -- the text of a new field
 abbrev pub new_field_text : NewField → List ℕ
 new_field_text n = signed_field_text (codes " = ") n
 
+-- the text of a new field; the function returns the text between its name and its value
+abbrev pub field_text_by : (List ℕ → List ℕ) → NewField → List ℕ
+field_text_by sign n = signed_field_text (sign n.name) n
+
 -- the text of new fields after another one, with a comma and white space before each
-abbrev pub more_field_texts : List ℕ → List NewField → List ℕ
-more_field_texts white fields = flat_map (λ n. char.comma ∷ (white ++ new_field_text n)) fields
+abbrev pub more_field_texts : (List ℕ → List ℕ) → List ℕ → List NewField → List ℕ
+more_field_texts sign white fields = flat_map (λ n. char.comma ∷ (white ++ field_text_by sign n)) fields
 
 -- the text of a new field before another one, with a comma and white space after it
 abbrev pub field_before : NewField → List ℕ → List ℕ → List ℕ
@@ -109,8 +117,8 @@ edits_of_field text f following FieldChange.kept = []
 edits_of_field text f following (FieldChange.preceded n sign white) = name_edit f (field_before n sign white) ∷ []
 edits_of_field text f following (FieldChange.renamed name) = record { start = f.name.start; end = f.name.end; bytes = name } ∷ []
 edits_of_field text f following (FieldChange.valued new) = value_stretch_edit text f new.bytes ∷ []
-edits_of_field text f following (FieldChange.replaced n ns white) =
-    field_stretch text f (new_field_text n ++ more_field_texts white ns) ∷ []
+edits_of_field text f following (FieldChange.replaced sign n ns white) =
+    field_stretch text f (field_text_by sign n ++ more_field_texts sign white ns) ∷ []
 edits_of_field text f following FieldChange.removed = removal_edits f following
 
 -- the edits of fields, by their changes
@@ -148,7 +156,7 @@ field_changed f FieldChange.kept = f ∷ []
 field_changed f (FieldChange.preceded n sign white) = field_reading n ∷ f ∷ []
 field_changed f (FieldChange.renamed name) = (record f { name = record f.name { text = name } }) ∷ []
 field_changed f (FieldChange.valued new) = (record f { value = record f.value { pieces = new.pieces } }) ∷ []
-field_changed f (FieldChange.replaced n ns white) = map field_reading (n ∷ ns)
+field_changed f (FieldChange.replaced sign n ns white) = map field_reading (n ∷ ns)
 field_changed f FieldChange.removed = []
 
 -- the fields that fields become, by their changes

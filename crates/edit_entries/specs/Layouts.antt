@@ -41,16 +41,21 @@ abbrev pub padding_or : Option ℕ → List ℕ → List ℕ → List ℕ
 padding_or (Some column) name white = name_padding column name
 padding_or None name white = white
 
--- the text between the name of a new field before these and its equals sign. If one of them has more than one byte there, it is spaces
--- up to the column of the equals sign of the first such field, but at least one. Otherwise it is that of the first field
-abbrev pub new_before_sign : List ℕ → List ℕ → FieldReading → List FieldReading → List ℕ
-new_before_sign text name first fields = padding_or (wide_column text fields) name (before_equals text first)
-
--- The text between the name and the value of a new field before these, of which this is the first. If the first one has only
--- spaces and tabs around its equals sign, `new_before_sign` is before the sign. After it is the white space of the first one.
--- Otherwise one space is before and after the sign.
-abbrev pub new_sign : List ℕ → List ℕ → FieldReading → List FieldReading → List ℕ
-new_sign text name first fields =
-    if list_all is_blank_byte (before_equals text first) && list_all is_blank_byte (after_equals text first)
-    then new_before_sign text name first fields ++ char.equals ∷ after_equals text first
+-- The text between the name and the value of a new field beside this one. If this one has only spaces and tabs around its equals sign,
+-- `padding_or` is before the new sign: spaces up to the column, if there is one, or else the white space of this field. After the sign is
+-- the white space of this field. Otherwise one space is before and after the sign.
+abbrev pub sign_in_column : List ℕ → List ℕ → Option ℕ → FieldReading → List ℕ
+sign_in_column text name column f =
+    if list_all is_blank_byte (before_equals text f) && list_all is_blank_byte (after_equals text f)
+    then padding_or column name (before_equals text f) ++ char.equals ∷ after_equals text f
     else codes " = "
+
+-- The text between the name and the value of a new field before these, of which this is the first. The column is that of the first field
+-- with more than one byte before its equals sign, if there is one.
+abbrev pub new_sign : List ℕ → List ℕ → FieldReading → List FieldReading → List ℕ
+new_sign text name first fields = sign_in_column text name (wide_column text fields) first
+
+-- The text between the name and the value of a new field that replaces a field or comes before it; the list has all fields of the entry.
+-- The column is that of this field if it has more than one byte before its equals sign, or else that of the first such field.
+abbrev pub sign_at : List ℕ → FieldReading → List FieldReading → List ℕ → List ℕ
+sign_at text f fields name = new_sign text name f (f ∷ fields)

@@ -1,12 +1,14 @@
-//! The text between the name and the value of a new field.
+//! The layout of a new field: the text between its name and its value, and the white space between it and the next field.
 
-ghost use Rattle.std.specs.Prelude.{◌≡◌, ◌++◌, IfOk, OnOk, map, replicate};
+ghost use Rattle.std.specs.Prelude.{◌≡◌, ◌++◌, ◌∷◌, [], IfOk, OnOk, map, replicate};
 ghost use Rattle.std.specs.List.{AllByRecursion, list_all};
+ghost use Rattle.std.specs.Str.{IsCharBoundary};
 ghost use Rattle.std.specs.String.{string_bytes};
 ghost use Rattle.bib_text.specs.Characters as char;
 ghost use Rattle.bib_syntax.specs.Views.{field_of};
 ghost use Rattle.edit_entries.specs.Layouts as spec;
 ghost use Rattle.edit_entries.specs.Placed.{IsSignPlaced};
+ghost use Rattle.edit_entries.specs.Setting as setting;
 
 use bib_syntax::raw::Pair;
 use std::alloc::{AllocError, Global};
@@ -44,6 +46,19 @@ fn is_blank(text: &str) -> bool
     true
 }
 
+// Returns the number of bytes from the start of a field's name to its equals sign, if more than one byte is between its name and the
+// sign.
+fn own_column(text: &str, field: &Pair<'_>) -> Option<usize>
+    requires { IsSignPlaced text.now (field_of field.now) }
+    ensures { result ≡ spec.wide_column text.now (field_of field.now ∷ []) }
+{
+    let before = signs(text, field).0;
+    if 1 < before.len() {
+        return Some(field.key.v.len() + before.len());
+    }
+    None
+}
+
 // Returns the number of bytes from the start of a field's name to its equals sign. The field is the first of these with more than one
 // byte between its name and the sign. Returns `None` if there is no such field.
 fn wide_column(text: &str, fields: &[Pair<'_>]) -> Option<usize>
@@ -51,9 +66,9 @@ fn wide_column(text: &str, fields: &[Pair<'_>]) -> Option<usize>
     ensures { result ≡ spec.wide_column text.now (map field_of fields.now) }
 {
     'fields: for field in fields {
-        let before = signs(text, field).0;
-        if 1 < before.len() {
-            return Some(field.key.v.len() + before.len());
+        let column = own_column(text, field);
+        if column.is_some() {
+            return column;
         }
     }
     None
@@ -69,23 +84,41 @@ fn push_spaces(out: &mut String, count: usize) -> Result<(), AllocError>
     Ok(())
 }
 
-// Appends the white space before the equals sign of a new field before these, of which `first` is the first.
+// Appends the white space before the equals sign of a new field: spaces up to the column, if there is one, or else `white`.
 fn push_before_sign(
     out: &mut String,
+    name: &str,
+    column: Option<usize>,
+    white: &str,
+) -> Result<(), AllocError>
+    ensures { OnOk result (string_bytes out.new ≡ string_bytes out.old ++ spec.padding_or column name.now white.now) }
+{
+    match column {
+        Some(column) => push_spaces(out, column.saturating_sub(name.len()).max(1)),
+        None => out.push_str(white),
+    }
+}
+
+// Returns the text between the name and the value of a new field beside `field`, with its equals sign in the column, if there is one.
+fn sign_in_column(
+    alloc: Global,
     text: &str,
     name: &str,
-    first: &Pair<'_>,
-    fields: &[Pair<'_>],
-) -> Result<(), AllocError>
-    requires first { IsSignPlaced text.now (field_of first.now) }
-    requires fields { AllByRecursion (IsSignPlaced text.now) (map field_of fields.now) }
-    ensures { OnOk result (string_bytes out.new ≡ string_bytes out.old ++
-        spec.new_before_sign text.now name.now (field_of first.now) (map field_of fields.now)) }
+    column: Option<usize>,
+    field: &Pair<'_>,
+) -> Result<String, AllocError>
+    requires { IsSignPlaced text.now (field_of field.now) }
+    ensures { IfOk result (λ sign. string_bytes sign ≡ spec.sign_in_column text.now name.now column (field_of field.now)) }
 {
-    match wide_column(text, fields) {
-        Some(column) => push_spaces(out, column.saturating_sub(name.len()).max(1)),
-        None => out.push_str(signs(text, first).0),
+    let (before, after) = signs(text, field);
+    if !is_blank(before) || !is_blank(after) {
+        return String::from_str(alloc, " = ");
     }
+    let mut sign = String::new(alloc);
+    push_before_sign(&mut sign, name, column, before)?;
+    sign.push_str("=")?;
+    sign.push_str(after)?;
+    Ok(sign)
 }
 
 // Returns the text between the name and the value of a new field before these, of which `first` is the first.
@@ -100,13 +133,65 @@ pub(crate) fn new_sign(
     requires fields { AllByRecursion (IsSignPlaced text.now) (map field_of fields.now) }
     ensures { IfOk result (λ sign. string_bytes sign ≡ spec.new_sign text.now name.now (field_of first.now) (map field_of fields.now)) }
 {
-    let (before, after) = signs(text, first);
-    if !is_blank(before) || !is_blank(after) {
-        return String::from_str(alloc, " = ");
+    sign_in_column(alloc, text, name, wide_column(text, fields), first)
+}
+
+/// Returns the text between the name and the value of a new field that replaces `field` or comes before it. `fields` are the fields of
+/// the entry.
+///
+/// If `field` has more than one byte between its name and its equals sign, the new equals sign is in the same column. Otherwise it is in
+/// the column of the first of `fields` with more than one byte there. If there is no such field, the white space before the sign is that
+/// of `field`. The white space after the sign is that of `field`, too. If `field` has more than spaces and tabs around its sign, one
+/// space is before and after the new one.
+///
+/// # Errors
+///
+/// Returns an error only if out of memory.
+pub fn sign_at(
+    alloc: Global,
+    text: &str,
+    field: &Pair<'_>,
+    fields: &[Pair<'_>],
+    name: &str,
+) -> Result<String, AllocError>
+    requires field { IsSignPlaced text.now (field_of field.now) }
+    requires fields { AllByRecursion (IsSignPlaced text.now) (map field_of fields.now) }
+    ensures { IfOk result (λ sign. string_bytes sign ≡ spec.sign_at text.now (field_of field.now) (map field_of fields.now) name.now) }
+{
+    match own_column(text, field) {
+        Some(column) => sign_in_column(alloc, text, name, Some(column), field),
+        None => new_sign(alloc, text, name, field, fields),
     }
-    let mut sign = String::new(alloc);
-    push_before_sign(&mut sign, text, name, first, fields)?;
-    sign.push_str("=")?;
-    sign.push_str(after)?;
-    Ok(sign)
+}
+
+/// Returns the ASCII white space directly before a byte offset of a text.
+pub fn white_before(text: &str, at: usize) -> &str
+    requires { IsCharBoundary text.now at }
+    ensures { result.now ≡ setting.white_before text.now at }
+{
+    let before = &text[..at];
+    let rest = before.trim_ascii_end();
+    &before[rest.len()..]
+}
+
+/// Returns a new field, a comma, white space, and the name of the field that follows. `sign` is the text between the name and the value
+/// of the new field. The only error is out of memory.
+pub fn text_before(
+    alloc: Global,
+    name: &str,
+    sign: &str,
+    written: &str,
+    white: &str,
+    following: &str,
+) -> Result<String, AllocError>
+    ensures { IfOk result (λ text. string_bytes text ≡ (name.now ++ (sign.now ++ written.now) ++ char.comma ∷ white.now) ++ following.now) }
+{
+    let mut text = String::new(alloc);
+    text.push_str(name)?;
+    text.push_str(sign)?;
+    text.push_str(written)?;
+    text.push_str(",")?;
+    text.push_str(white)?;
+    text.push_str(following)?;
+    Ok(text)
 }

@@ -24,7 +24,7 @@ pub mod field_value;
 mod joining;
 mod keys;
 pub mod laws;
-mod layout;
+pub mod layout;
 pub mod line_ends;
 pub mod lookup;
 mod names;

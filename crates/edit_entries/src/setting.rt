@@ -1,10 +1,8 @@
 //! Sets a field of an entry.
 
-ghost use Rattle.std.specs.Prelude.{◌≡◌, ◌⊎◌, ◌++◌, ◌∷◌, ℕ, IfErr, IfOk, List, MatchBool, OnOk, codes, map, true};
+ghost use Rattle.std.specs.Prelude.{◌≡◌, ◌⊎◌, ◌++◌, ℕ, IfErr, IfOk, List, MatchBool, OnOk, codes, map, true};
 ghost use Rattle.std.specs.List.{AllByRecursion, list_any};
-ghost use Rattle.std.specs.Str.{IsCharBoundary};
 ghost use Rattle.std.specs.String.{string_bytes};
-ghost use Rattle.bib_text.specs.Characters as char;
 ghost use Rattle.bib_syntax.specs.Reading.{FieldReading};
 ghost use Rattle.bib_syntax.specs.Views.{entry_reading_of, field_of};
 ghost use Rattle.edit_entries.specs.Changes.{edits_of_entry, edits_of_field, edits_of_fields, field_before, name_edit};
@@ -22,7 +20,7 @@ use crate::adding::{after_comma, only_field_text};
 use crate::editing::{Edit, edited, edited_all};
 use crate::errors::EditError;
 use crate::field_value::{FieldValue, is_same_value, value_text};
-use crate::layout::new_sign;
+use crate::layout::{new_sign, text_before, white_before};
 use crate::names::can_be_new_name;
 use crate::values::value_end;
 use bib_syntax::raw::{Pair, RawEntry, is_word};
@@ -135,38 +133,6 @@ fn with_values(
     let mut edits = Vec::new(alloc);
     push_values(&mut edits, alloc, text, fields, name, value, &written)?;
     Ok(edited_all(alloc, text, &edits)?)
-}
-
-// Returns the ASCII white space directly before a byte offset of a text.
-pub(crate) fn white_before(text: &str, at: usize) -> &str
-    requires { IsCharBoundary text.now at }
-    ensures { result.now ≡ spec.white_before text.now at }
-{
-    let before = &text[..at];
-    let rest = before.trim_ascii_end();
-    &before[rest.len()..]
-}
-
-// Returns a new field, a comma, white space, and the name of the field that follows. `sign` is the text between the name and the value
-// of the new field.
-pub(crate) fn text_before(
-    alloc: Global,
-    name: &str,
-    sign: &str,
-    written: &str,
-    white: &str,
-    following: &str,
-) -> Result<String, AllocError>
-    ensures { IfOk result (λ text. string_bytes text ≡ (name.now ++ (sign.now ++ written.now) ++ char.comma ∷ white.now) ++ following.now) }
-{
-    let mut text = String::new(alloc);
-    text.push_str(name)?;
-    text.push_str(sign)?;
-    text.push_str(written)?;
-    text.push_str(",")?;
-    text.push_str(white)?;
-    text.push_str(following)?;
-    Ok(text)
 }
 
 // Returns the value of a new field as it is written at a byte offset.

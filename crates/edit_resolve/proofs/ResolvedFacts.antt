@@ -11,7 +11,7 @@ use Rattle.edit_entries.specs.Documents.{CanBeName, Document, IsDocument}
 use Rattle.edit_entries.specs.Placed.{IsPlaced}
 use Rattle.edit_entries.proofs.AllFacts.{OfFields, all_placed, fields_weaker}
 use Rattle.edit_entries.proofs.ChangesFacts.{CanChange, CanEntryChange, CanFieldsChange}
-use Rattle.edit_entries.proofs.NewFieldFacts.{CanBePut}
+use Rattle.edit_entries.proofs.NewFieldFacts.{CanBePut, spaced_signs}
 use Rattle.edit_entries.proofs.PartFacts.{AreEntriesIn, AreFieldsIn, file_in}
 use Rattle.edit_entries.proofs.WhiteBeforeFacts.{before_white}
 use Rattle.edit_strings.proofs.ElementFacts.{IsElement, IsValue, can_be_read, file_stands, is_cut}
@@ -88,14 +88,14 @@ module _ (d : Document) (read : IsDocument d) where
 
   last_can : (new : List Named) (f : FieldReading) (following : List FieldReading) → AllByRecursion CanBeGiven new → IsNamed d.text f
       → CanChange following (last_change d.text new f following)
-  last_can (n ∷ ns) f following all name = (all.0, puts ns all.1, before_white d.text f.name.start name.0)
+  last_can (n ∷ ns) f following all name = (spaced_signs, all.0, puts ns all.1, before_white d.text f.name.start name.0)
   last_can [] f [] all name = tt
   last_can [] f (g ∷ gs) all name = (g, gs, refl)
 
   own_can : (o : Option Named) (following : List FieldReading) → ((n : Named) → o ≡ Some n → CanBeGiven n)
       → CanChange following (own_change d.text o)
   own_can None following can = tt
-  own_can (Some n) following can = (can n refl, tt, tt)
+  own_can (Some n) following can = (spaced_signs, can n refl, tt, tt)
 
   change_can : (resolved : FieldReading → Bool) (b : Bool) (own : Option Named) (new : List Named) (f : FieldReading)
       (following : List FieldReading) → AllByRecursion CanBeGiven new → ((n : Named) → own ≡ Some n → CanBeGiven n) → IsNamed d.text f

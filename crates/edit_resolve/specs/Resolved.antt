@@ -7,7 +7,7 @@ use Rattle.bib_collections.specs.Graph.{IsFirstOnCycle}
 use Rattle.bib_queries.specs.Needed.{is_listed}
 use Rattle.bib_syntax.specs.Reading.{EntryReading, FieldReading}
 use Rattle.bib_tables.specs.declared.mechanics.EntryType.{EntryType}
-use Rattle.edit_entries.specs.Changes.{EntryChange, FieldChange, IsChanged, NewField}
+use Rattle.edit_entries.specs.Changes.{EntryChange, FieldChange, IsChanged, NewField, spaced_sign}
 use Rattle.edit_entries.specs.Documents.{Document}
 use Rattle.edit_entries.specs.Setting.{white_before}
 use Rattle.edit_strings.specs.Expanded.{laid_out}
@@ -119,14 +119,15 @@ new_field text n = record { name = n.name; value = record { bytes = laid_out tex
 -- the change of an entry's last resolved reference; `following` are the fields after it. The inherited fields replace it. If there are
 -- none, it is removed, or kept if no field follows.
 abbrev pub last_change : List ℕ → List Named → FieldReading → List FieldReading → FieldChange
-last_change text (n ∷ ns) f following = FieldChange.replaced (new_field text n) (map (new_field text) ns) (white_before text f.name.start)
+last_change text (n ∷ ns) f following =
+    FieldChange.replaced spaced_sign (new_field text n) (map (new_field text) ns) (white_before text f.name.start)
 last_change text [] f [] = FieldChange.kept
 last_change text [] f (g ∷ gs) = FieldChange.removed
 
 -- the change of an own field: the field that takes its place replaces it, if there is one
 abbrev pub own_change : List ℕ → Option Named → FieldChange
 own_change text None = FieldChange.kept
-own_change text (Some n) = FieldChange.replaced (new_field text n) [] []
+own_change text (Some n) = FieldChange.replaced spaced_sign (new_field text n) [] []
 
 -- the change of a field; `following` are the fields after it. Each resolved reference before the last one is removed
 abbrev pub field_resolution : List ℕ → (FieldReading → Bool) → (FieldReading → Option Named) → List Named → FieldReading

@@ -2,12 +2,10 @@
 
 ghost use Rattle.std.specs.Prelude.{◌≡◌, ◌++◌, ◌∷◌, [], map, IfOk, OnOk};
 ghost use Rattle.std.specs.List.{AllByRecursion};
-ghost use Rattle.std.specs.Str.{IsCharBoundary};
 ghost use Rattle.std.specs.String.{string_bytes};
 ghost use Rattle.bib_syntax.specs.Views.{field_of, piece_of};
-ghost use Rattle.edit_entries.specs.Changes.{more_field_texts, new_field_text};
+ghost use Rattle.edit_entries.specs.Changes.{more_field_texts, new_field_text, spaced_sign};
 ghost use Rattle.edit_entries.specs.Cuts.{ArePiecesCut};
-ghost use Rattle.edit_entries.specs.Setting as setting;
 ghost use Rattle.edit_strings.specs.Tables.{lent_pieces};
 ghost use Rattle.edit_resolve.specs.Resolved.{new_field};
 ghost use Rattle.edit_resolve.specs.Working.{named_of};
@@ -17,16 +15,6 @@ use bib_syntax::raw::RawChunk;
 use bib_text::spanned::Spanned;
 use edit_strings::elements::laid_out;
 use std::alloc::{AllocError, Global};
-
-// Returns the ASCII white space directly before a byte offset of a text.
-pub(crate) fn white_before(text: &str, at: usize) -> &str
-    requires { IsCharBoundary text.now at }
-    ensures { result.now ≡ setting.white_before text.now at }
-{
-    let before = &text[..at];
-    let rest = before.trim_ascii_end();
-    &before[rest.len()..]
-}
 
 // Returns the pieces of a value.
 fn lent<'p, 's>(
@@ -69,7 +57,7 @@ fn push_next(
 ) -> Result<(), AllocError>
     requires { ArePiecesCut text.now (named_of named.now).field }
     ensures { OnOk result (string_bytes new.new ≡ string_bytes new.old
-        ++ more_field_texts white.now (new_field text.now (named_of named.now) ∷ [])) }
+        ++ more_field_texts spaced_sign white.now (new_field text.now (named_of named.now) ∷ [])) }
 {
     new.push_str(",")?;
     new.push_str(white)?;
@@ -87,7 +75,7 @@ pub(crate) fn new_text(
     requires first { ArePiecesCut text.now (named_of first.now).field }
     requires more { AllByRecursion (λ n. ArePiecesCut text.now n.field) (map named_of more.now) }
     ensures { IfOk result (λ new. string_bytes new ≡ new_field_text (new_field text.now (named_of first.now)) ++
-        more_field_texts white.now (map (new_field text.now) (map named_of more.now))) }
+        more_field_texts spaced_sign white.now (map (new_field text.now) (map named_of more.now))) }
 {
     let mut new = String::new(alloc);
     push_field(&mut new, alloc, text, first)?;

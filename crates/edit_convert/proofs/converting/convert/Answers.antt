@@ -6,13 +6,13 @@ use Rattle.std.specs.String.{string_bytes}
 use Rattle.bib_syntax.specs.Views.{entry_reading_of, field_of}
 use Rattle.edit_entries.specs.Documents.{Document}
 use Rattle.edit_entries.specs.Edits.{edited_all}
-use Rattle.edit_entries.specs.Placed.{IsPlaced}
 use Rattle.edit_entries.specs.EditList.{AreEditsInOrder, edit_of}
-use Rattle.edit_entries.proofs.AllFacts.{all_placed}
+use Rattle.edit_entries.proofs.FieldEditFacts.{fields_placed}
 use Rattle.edit_entries.specs.Changes.{edits_of_entries}
 use Rattle.edit_convert.specs.Conversions.{conversion, defines_month, document_conversion}
 use Rattle.edit_entries.proofs.ChangesFacts.{changed_answer, changes_in_order}
-use Rattle.edit_convert.proofs.ConvertedFacts.{conversion_can}
+use Rattle.edit_convert.specs.Tables.{AreFieldsInText}
+use Rattle.edit_convert.proofs.ConvertedFacts.{conversion_can, fields_in_text}
 use Rattle.edit_convert.proofs.converting.convert.Goals as goal
 use Rattle.edit_convert.proofs.converting.convert.Goals.{After-deref-3}
 
@@ -21,9 +21,9 @@ edits-requires c =
     let d : Document = c.args.document.now in
     let entries : map entry_reading_of c.deref-2.result.now ≡ d.says.entries =
     ap (map entry_reading_of) c.deref-2.ensures.value ∙ ap (λ f. f.entries) c.raw-raw.ensures.says in
-    subst (λ t. AllByRecursion (λ e. AllByRecursion (IsPlaced t) e.fields) (map entry_reading_of c.deref-2.result.now))
+    subst (λ t. AllByRecursion (λ e. AreFieldsInText t e.fields) (map entry_reading_of c.deref-2.result.now))
     (sym c.text-text.ensures)
-    (subst (λ es. AllByRecursion (λ e. AllByRecursion (IsPlaced d.text) e.fields) es) (sym entries) (all_placed d c.raw-raw.ensures.read))
+    (subst (λ es. AllByRecursion (λ e. AreFieldsInText d.text e.fields) es) (sym entries) (fields_in_text d c.raw-raw.ensures.read))
 
 -- the edits are those of the document's entries
 made : (c : After-deref-3) → map edit_of c.deref-3.result.now
@@ -59,7 +59,7 @@ returns c =
     let d : Document = c.args.document.now in
     changed_answer string_bytes c.edited_all.result d (document_conversion c.args.dialect d) c.raw-raw.ensures.read
     (subst IsUtf8 c.text-text.ensures c.text-text.utf8)
-    (conversion_can c.args.dialect (defines_month d.says.abbreviations) d.text d.says.entries)
+    (conversion_can c.args.dialect (defines_month d.says.abbreviations) d.text d.says.entries (fields_placed d c.raw-raw.ensures.read))
     (subst (λ es. IfOk c.edited_all.result (λ new. string_bytes new ≡ edited_all es d.text)) (made ((goal.at.returns c).After-deref-3))
     (subst
     (λ t. IfOk c.edited_all.result (λ new. string_bytes new ≡ edited_all (map edit_of c.deref-3.result.now) t))

@@ -40,5 +40,6 @@ returns c =
     (λ fs.
     OnOk c.push_field_edits.result
     (map edit_of c.push_field_edits.new.edits.items
-    ≡ map edit_of c.push_part_edit.new.edits.items ++ change_edits changes missing c.args.text.now (map field_of fs)))
+    ≡ map edit_of c.push_part_edit.new.edits.items
+    ++ change_edits changes c.args.text.now (map field_of fs) missing (map field_of fs)))
     c.deref-4.ensures.value c.push_field_edits.ensures)

@@ -1,6 +1,6 @@
 use Rattle.std.proofs.Common.{◌≡◌, ◌-◌, take, ap, ◌∙◌, arith}
 use Rattle.edit_entries.proofs.WhiteBeforeFacts.{white_cut}
-use Rattle.edit_entries.proofs.setting.white_before.Goals as goal
+use Rattle.edit_entries.proofs.layout.white_before.Goals as goal
 
 pub returns : goal.returns
 returns c =
