@@ -1,4 +1,4 @@
-use Rattle.std.proofs.Common.{◌≡◌, ◌∙◌, arith, ap, drop, get_or, length, subst, sym, take}
+use Rattle.std.proofs.Common.{◌≡◌, ◌∙◌, arith, ap, get_or, length, subst, sym, take}
 use Rattle.bibkit_core.specs.Database.{AreFilesPrinted, count_to, no_findings}
 use Rattle.std.specs.String.{string_bytes}
 use Rattle.std.proofs.lemmas.List.{length-drop}
@@ -14,8 +14,13 @@ files-preserved c =
           (c.count_to-count.ensures.count
           ∙ ap (count_to (get_or ends c.files.index 0)) (left_is c.args.found.now c.files.first))
           (ap (take c.count_to-count.result) (left_is c.args.found.now c.files.first)) c.in_ok-print_file.ensures c.files.invariant.0,
-      omega (arith, c.count_to-count.ensures.within, ap length (left_is c.args.found.now c.files.first),
-      length-drop c.files.first c.args.found.now, c.files.invariant.1),
+      omega (
+        arith,
+        c.count_to-count.ensures.within,
+        ap length (left_is c.args.found.now c.files.first),
+        length-drop c.files.first c.args.found.now,
+        c.files.invariant.1,
+      ),
     )
 
 pub returns : goal.returns

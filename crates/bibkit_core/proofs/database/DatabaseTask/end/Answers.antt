@@ -1,6 +1,6 @@
 use Rattle.std.proofs.Common.{◌≡◌, ◌∙◌, ◌++◌, ap, append_assoc, length, subst, sym}
 use Rattle.std.specs.String.{string_bytes}
-use Rattle.bibkit_core.specs.Database.{AreFilesPrinted, AreOfDatabase, joined_texts, missing_by, no_findings}
+use Rattle.bibkit_core.specs.Database.{AreFilesPrinted, AreOfDatabase, joined_texts, no_findings}
 use Rattle.bibkit_core.proofs.DatabaseFacts.{joined_length}
 use Rattle.bibkit_core.proofs.database.DatabaseTask.end.Goals as goal
 
