@@ -53,7 +53,8 @@ pub files_more : {lint : Lint} (files : List StoredFile) (ends : List ℕ) (foun
     → AreFilesPrinted lint (get_or ends index 0 + 1) (drop (index + 1) files) (drop (index + 1) ends) (drop (first + count) found)
     new.tally rest after
     → AreFilesPrinted lint 0 files ends found no_findings (string_bytes new.text ++ rest) after
-files_more {lint} files ends found slice start first count index file {old} {new} in_files in_ends is counted sliced added before rest after tail =
+files_more {lint} files ends found slice start first count index file {old} {new} in_files in_ends is counted sliced added before rest
+    after tail =
     let end = get_or ends index 0 in
     let left = drop first found in
     let here : IsStoredPrinted lint start file (take (count_to end left) left) old.tally added.text new.tally =

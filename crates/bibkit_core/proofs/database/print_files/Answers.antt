@@ -29,5 +29,5 @@ returns c =
     let size : length c.args.files.now ≡ length ends = c.requires ∙ sym (ap length c.ends-ends.ensures.ends) in
     subst (λ l. AreFilesPrinted c.args.lint.now 0 c.args.files.now l c.args.found.now no_findings (string_bytes c.files.printed.text)
     c.files.printed.tally) c.ends-ends.ensures.ends
-    (files_all c.args.files.now ends c.args.found.now c.files.start c.files.first c.files.index c.files.printed (omega (arith, c.files-test.false))
-    (omega (arith, size, c.files-test.false)) c.files.invariant.0)
+    (files_all c.args.files.now ends c.args.found.now c.files.start c.files.first c.files.index c.files.printed
+    (omega (arith, c.files-test.false)) (omega (arith, size, c.files-test.false)) c.files.invariant.0)

@@ -18,4 +18,5 @@ citations-preserved c =
     c.in_ok-push_unless_known.ensures
     ∙ ap (λ b. c.citations.found.items ++ (if b then [] else missing_finding citation ∷ [])) is_known
     ∙ ap (λ l. l ++ (if known citation.key then [] else missing_finding citation ∷ [])) c.citations.invariant
-    ∙ sym (missing_more known c.deref-citation-items.result.now c.citations.citation-index citation c.citations-test.true c.citation-item.is)
+    ∙ sym (missing_more known c.deref-citation-items.result.now c.citations.citation-index citation c.citations-test.true
+    c.citation-item.is)
