@@ -180,8 +180,8 @@ for code in unread-bytes syntax unread-field circular-abbreviation duplicate-key
     run_start "the meaning of $code" 0 "$code (error): " lint --explain $code no-file.bib
 done
 for code in unknown-abbreviation unread-date unknown-type missing-field superfluous-field malformed-field malformed-date unknown-field repeated-field \
-    wrong-isbn wrong-issn doi-address malformed-name special-character two-years empty-key stray-field unknown-reference likely-duplicate \
-    key-case unused-entry; do
+    wrong-isbn wrong-issn doi-address url-scheme malformed-name special-character two-years empty-key stray-field unknown-reference likely-duplicate \
+    key-case repeated-definition unused-entry; do
     run_start "the meaning of $code" 0 "$code (warning): " lint --explain $code no-file.bib
 done
 for code in not-a-number foreign-field empty-field early-parent; do

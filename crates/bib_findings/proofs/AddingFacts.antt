@@ -12,12 +12,13 @@ use Rattle.bib_tables.specs.declared.type_error.TypeError.{TypeError}
 use Rattle.bib_entry.specs.Reports.{AreMalformed}
 use Rattle.bib_entry.specs.declared.entry.Entry.{Entry}
 use Rattle.bib_tables.specs.Requirements.{Names}
-use Rattle.bib_syntax.specs.Reading.{EntryReading}
+use Rattle.bib_syntax.specs.Reading.{EntryReading, FieldReading}
 use Rattle.bib_findings.specs.Adding.{Adds}
 use Rattle.bib_findings.specs.Entries.{AreOfEach, field_finding}
 use Rattle.bib_findings.specs.Reported.{AreOfReport, is_reported_field, malformed_finding, malformed_findings, lacking_finding, report_findings, superfluous_fields}
 use Rattle.bib_findings.specs.Types.{AreOfType}
 use Rattle.bib_findings.specs.Cuts.{whole_among}
+use Rattle.bib_findings.specs.Definitions.{definition_findings}
 use Rattle.bib_findings.specs.Duplicates.{duplicates, entries_at}
 use Rattle.bib_findings.specs.Findings.{AreBetween, AreFindingsIn, AreOfEntry, AreOfKept, AreSortedByPlace, single_findings}
 use Rattle.bib_findings.specs.Foreign.{foreign_findings}
@@ -192,40 +193,48 @@ added_in_order none one two three new a b c d empty first second third fourth =
     let start : one ≡ a = first ∙ ap (λ l. l ++ a) empty in
     added_thrice one two three new b c d second third fourth ∙ ap (λ l. l ++ (b ++ (c ++ d))) start
 
--- the concatenation of six lists doesn't depend on the order in which they are joined
-joined_in_order : (a b c d e f : List Finding) → ((a ++ (b ++ (c ++ d))) ++ e) ++ f ≡ a ++ (b ++ (c ++ (d ++ (e ++ f))))
-joined_in_order a b c d e f = simp append_assoc
+-- the concatenation of seven lists doesn't depend on the order in which they are joined
+joined_in_order : (a b c d e f g : List Finding)
+    → (((a ++ (b ++ (c ++ d))) ++ e) ++ f) ++ g ≡ a ++ (b ++ (c ++ (d ++ (e ++ (f ++ g)))))
+joined_in_order a b c d e f g = simp append_assoc
 
--- the findings of references, likely duplicates, stray fields, keys, parents and foreign fields, appended in turn to an empty list, are
--- those between entries
+-- the findings of references, likely duplicates, stray fields, keys, parents, foreign fields and definitions, appended in turn to an empty
+-- list, are those between entries
 pub between_are : (text : List ℕ) (skipped : List SkippedBlock) (names : ByText ℕ) (said : List EntryReading) (origins : List ℕ)
-    (own : List Entry) (whole : List EntryReading) (none one two three four five new : List Finding)
+    (own : List Entry) (definitions : List FieldReading) (whole : List EntryReading)
+    (none one two three four five six new : List Finding)
     → whole ≡ whole_among skipped (entries_at said origins)
     → none ≡ [] → Adds (AreOfEach (AreReferences names) said origins own) none one → two ≡ one ++ duplicates whole
     → three ≡ two ++ stray_findings text whole → four ≡ three ++ case_findings (entries_at said origins)
-    → five ≡ four ++ early_findings (entries_at said origins) → new ≡ five ++ foreign_findings (entries_at said origins)
-    → AreBetween text skipped names said origins own new
-between_are text skipped names said origins own whole none one two three four five new are_whole empty references alike strays cases early
-    foreign = record {
+    → five ≡ four ++ early_findings (entries_at said origins) → six ≡ five ++ foreign_findings (entries_at said origins)
+    → new ≡ six ++ definition_findings definitions
+    → AreBetween text skipped names said origins own definitions new
+between_are text skipped names said origins own definitions whole none one two three four five six new are_whole empty references alike
+    strays cases early foreign defined = record {
       of_keys = references.added;
       keys = references.are;
       are =
-          foreign
-          ∙ ap (λ l. l ++ foreign_findings entries) early
-          ∙ ap (λ l. (l ++ early_findings entries) ++ foreign_findings entries)
+          defined
+          ∙ ap (λ l. l ++ last) foreign
+          ∙ ap (λ l. (l ++ foreign_findings entries) ++ last) early
+          ∙ ap (λ l. ((l ++ early_findings entries) ++ foreign_findings entries) ++ last)
           (added_in_order none one two three four references.added (duplicates whole) (stray_findings text whole) (case_findings entries)
           empty references.new_is alike strays cases)
           ∙ joined_in_order references.added (duplicates whole) (stray_findings text whole) (case_findings entries) (early_findings entries)
-          (foreign_findings entries)
+          (foreign_findings entries) last
           ∙ ap
           (λ l.
           references.added
           ++ (duplicates l
-          ++ (stray_findings text l ++ (case_findings entries ++ (early_findings entries ++ foreign_findings entries)))))
+          ++ (stray_findings text l
+          ++ (case_findings entries ++ (early_findings entries ++ (foreign_findings entries ++ last))))))
           are_whole;
     } where
       entries : List EntryReading
       entries = entries_at said origins
+
+      last : List Finding
+      last = definition_findings definitions
 
 -- the sorted findings of all parts are the findings of the recovered file
 pub sorted_are : {E : Type 0} (skipped : List SkippedBlock) (lacking : List Bool) (errors : List ParseError) (said : List EntryReading)

@@ -21,5 +21,6 @@ mod TypeFacts
 mod WordFacts
 mod AfterFacts
 mod CutFacts
+mod DefinitionFacts
 mod KeyFacts
 mod RepeatedFacts

@@ -10,7 +10,7 @@ use Rattle.bib_entry.specs.declared.entry.Entry.{Entry}
 use Rattle.bib_file_entries.specs.Claiming.{IsKeptSoFar, place_of}
 use Rattle.bib_file_entries.specs.Kept.{EntriesKept, IsKeptFrom}
 use Rattle.bib_collections.specs.Sorted.{ByText}
-use Rattle.bib_syntax.specs.Reading.{EntryReading}
+use Rattle.bib_syntax.specs.Reading.{EntryReading, FieldReading}
 use Rattle.bib_syntax.specs.declared.raw.ParseError.{ParseError}
 use Rattle.bib_syntax.specs.declared.raw.recovery.SkippedBlock.{SkippedBlock}
 use Rattle.bib_findings.specs.Findings.{AreBetween, AreFindingsIn}
@@ -78,13 +78,16 @@ findings_of skipped skipped' lacking lacking' errors errors' said said' origins 
 
 -- equal lists have the same findings between entries
 pub between_of : (text : List ℕ) (skipped skipped' : List SkippedBlock) (names : ByText ℕ) (said said' : List EntryReading)
-    (origins origins' : List ℕ) (own own' : List Entry) (found : List Finding) → skipped ≡ skipped' → said ≡ said'
-    → origins ≡ origins' → own ≡ own'
-    → AreBetween text skipped names said origins own found → AreBetween text skipped' names said' origins' own' found
-between_of text skipped skipped' names said said' origins origins' own own' found a b c d are =
-    subst (λ x. AreBetween text skipped' names said' origins' x found) d
-    (subst (λ x. AreBetween text skipped' names said' x own found) c
-    (subst (λ x. AreBetween text skipped' names x origins own found) b (subst (λ x. AreBetween text x names said origins own found) a are)))
+    (origins origins' : List ℕ) (own own' : List Entry) (definitions definitions' : List FieldReading) (found : List Finding)
+    → skipped ≡ skipped' → said ≡ said' → origins ≡ origins' → own ≡ own' → definitions ≡ definitions'
+    → AreBetween text skipped names said origins own definitions found
+    → AreBetween text skipped' names said' origins' own' definitions' found
+between_of text skipped skipped' names said said' origins origins' own own' definitions definitions' found a b c d e are =
+    subst (λ x. AreBetween text skipped' names said' origins' own' x found) e
+    (subst (λ x. AreBetween text skipped' names said' origins' x definitions found) d
+    (subst (λ x. AreBetween text skipped' names said' x own definitions found) c
+    (subst (λ x. AreBetween text skipped' names x origins own definitions found) b
+    (subst (λ x. AreBetween text x names said origins own definitions found) a are))))
 
 -- equal lists have the same flags of entries of which fields may be lost
 pub lacking_same : (skipped skipped' : List SkippedBlock) (names : ByText ℕ) (said said' : List EntryReading)

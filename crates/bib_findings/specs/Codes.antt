@@ -2,7 +2,7 @@
 -- Codes of findings: their names and severities.
 use Rattle.std.specs.Prelude.{ℕ, List, [], ◌∷◌, Option, bytes_eq, codes, find}
 use Rattle.bib_findings.specs.declared.codes.Code.{Code}
-use Rattle.bib_findings.specs.declared.codes.Code.TheVariants.{UnreadBytes, Syntax, UnreadField, UnknownAbbreviation, CircularAbbreviation, DuplicateKey, CircularReference, UnreadDate, UnknownType, MissingField, SuperfluousField, MalformedField, NotANumber, MalformedDate, UnknownField, ForeignField, RepeatedField, EmptyField, WrongIsbn, WrongIssn, DoiAddress, MalformedName, SpecialCharacter, TwoYears, EmptyKey, StrayField, UnknownReference, LikelyDuplicate, KeyCase, EarlyParent, MissingEntry, UnusedEntry}
+use Rattle.bib_findings.specs.declared.codes.Code.TheVariants.{UnreadBytes, Syntax, UnreadField, UnknownAbbreviation, CircularAbbreviation, DuplicateKey, CircularReference, UnreadDate, UnknownType, MissingField, SuperfluousField, MalformedField, NotANumber, MalformedDate, UnknownField, ForeignField, RepeatedField, EmptyField, WrongIsbn, WrongIssn, DoiAddress, UrlScheme, MalformedName, SpecialCharacter, TwoYears, EmptyKey, StrayField, UnknownReference, LikelyDuplicate, KeyCase, EarlyParent, RepeatedDefinition, MissingEntry, UnusedEntry}
 use Rattle.bib_findings.specs.declared.codes.Severity.{Severity}
 use Rattle.bib_findings.specs.declared.codes.Severity.TheVariants.{Error, Warning, Info}
 
@@ -35,6 +35,7 @@ code_name EmptyField = codes "empty-field"
 code_name WrongIsbn = codes "wrong-isbn"
 code_name WrongIssn = codes "wrong-issn"
 code_name DoiAddress = codes "doi-address"
+code_name UrlScheme = codes "url-scheme"
 code_name MalformedName = codes "malformed-name"
 code_name SpecialCharacter = codes "special-character"
 code_name TwoYears = codes "two-years"
@@ -44,6 +45,7 @@ code_name UnknownReference = codes "unknown-reference"
 code_name LikelyDuplicate = codes "likely-duplicate"
 code_name KeyCase = codes "key-case"
 code_name EarlyParent = codes "early-parent"
+code_name RepeatedDefinition = codes "repeated-definition"
 code_name MissingEntry = codes "missing-entry"
 code_name UnusedEntry = codes "unused-entry"
 
@@ -52,8 +54,9 @@ abbrev pub all_codes : List Code
 all_codes =
     UnreadBytes ∷ Syntax ∷ UnreadField ∷ UnknownAbbreviation ∷ CircularAbbreviation ∷ DuplicateKey ∷ CircularReference ∷ UnreadDate
     ∷ UnknownType ∷ MissingField ∷ SuperfluousField ∷ MalformedField ∷ NotANumber ∷ MalformedDate ∷ UnknownField ∷ ForeignField
-    ∷ RepeatedField ∷ EmptyField ∷ WrongIsbn ∷ WrongIssn ∷ DoiAddress ∷ MalformedName ∷ SpecialCharacter ∷ TwoYears
-    ∷ EmptyKey ∷ StrayField ∷ UnknownReference ∷ LikelyDuplicate ∷ KeyCase ∷ EarlyParent ∷ MissingEntry ∷ UnusedEntry ∷ []
+    ∷ RepeatedField ∷ EmptyField ∷ WrongIsbn ∷ WrongIssn ∷ DoiAddress ∷ UrlScheme ∷ MalformedName ∷ SpecialCharacter
+    ∷ TwoYears ∷ EmptyKey ∷ StrayField ∷ UnknownReference ∷ LikelyDuplicate ∷ KeyCase ∷ EarlyParent ∷ RepeatedDefinition
+    ∷ MissingEntry ∷ UnusedEntry ∷ []
 
 -- the code that has this name, if there is one
 abbrev pub code_named : List ℕ → Option Code

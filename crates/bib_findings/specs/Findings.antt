@@ -10,7 +10,7 @@ use Rattle.bib_entry.specs.declared.entry.Entry.{Entry}
 use Rattle.bib_file_entries.specs.Claiming.{IsKeptSoFar}
 use Rattle.bib_file_entries.specs.Loaded.{definition_in}
 use Rattle.bib_inheritance.specs.Recovered.{AreRecovered}
-use Rattle.bib_syntax.specs.Reading.{EntryReading, FileReading}
+use Rattle.bib_syntax.specs.Reading.{EntryReading, FieldReading, FileReading}
 use Rattle.bib_syntax.specs.Recovery.{IsFullRecovery}
 use Rattle.bib_syntax.specs.Views.{entry_reading_of}
 use Rattle.bib_syntax.specs.declared.raw.ParseError.{ParseError}
@@ -20,6 +20,7 @@ use Rattle.bib_syntax.specs.declared.raw.recovery.SkippedBlock.{SkippedBlock}
 use Rattle.bib_collections.specs.Sorted.{ByText}
 use Rattle.bib_findings.specs.StandardNumbers.{number_findings}
 use Rattle.bib_findings.specs.Cuts.{whole_among}
+use Rattle.bib_findings.specs.Definitions.{definition_findings}
 use Rattle.bib_findings.specs.Duplicates.{duplicates, entries_at}
 use Rattle.bib_findings.specs.Entries.{AreOfEach}
 use Rattle.bib_findings.specs.Errors.{block_finding, error_finding}
@@ -36,6 +37,7 @@ use Rattle.bib_findings.specs.Reported.{AreOfReport, reported_missing}
 use Rattle.bib_findings.specs.SpecialCharacters.{special_findings}
 use Rattle.bib_findings.specs.Stray.{stray_findings}
 use Rattle.bib_findings.specs.Types.{AreOfType}
+use Rattle.bib_findings.specs.Urls.{url_findings}
 use Rattle.bib_findings.specs.Years.{year_findings}
 use Rattle.bib_findings.specs.declared.finding.Finding.{Finding}
 
@@ -43,13 +45,14 @@ use Rattle.bib_findings.specs.declared.finding.Finding.{Finding}
 abbrev pub entries_said : List (Spanned RawEntry) → List EntryReading
 entries_said = map entry_reading_of
 
--- the findings of an empty key, repeated and empty fields, wrong numbers, a DOI with an address or a scheme, and malformed dates of an
--- entry with these missing fields
+-- the findings of an empty key, repeated and empty fields, wrong numbers, a DOI with an address or a scheme, a URL without a scheme, and
+-- malformed dates of an entry with these missing fields
 abbrev pub own_findings : Names → EntryReading → Entry → List Finding
 own_findings missing said entry =
     key_findings said
     ++ (repeated_findings said
-    ++ (empty_findings missing said ++ (number_findings said ++ (address_findings said ++ date_findings said entry))))
+    ++ (empty_findings missing said
+    ++ (number_findings said ++ (address_findings said ++ (url_findings said ++ date_findings said entry)))))
 
 -- the findings of two different years, malformed names and special characters of an entry
 abbrev pub text_findings : EntryReading → Entry → List Finding
@@ -83,10 +86,10 @@ pub record AreSortedByPlace (all found : List Finding) : Type 0 where
 
 -- whether these are the findings between entries, in this order: keys that no kept entry has; entries that are likely the same work; text
 -- after an entry that reads as a field; keys that differ only in ASCII case; parents that come before their children; fields that other
--- programs write for themselves. A cut entry is no likely duplicate, and the text after it isn't
--- tested.
+-- programs write for themselves; abbreviations that are defined again with another value. A cut entry is no likely duplicate, and the text
+-- after it isn't tested.
 pub record AreBetween (text : List ℕ) (skipped : List SkippedBlock) (names : ByText ℕ) (said : List EntryReading) (origins : List ℕ)
-    (own : List Entry) (found : List Finding) : Type 0 where
+    (own : List Entry) (definitions : List FieldReading) (found : List Finding) : Type 0 where
   pub of_keys : List Finding
   pub keys : AreOfEach (AreReferences names) said origins own of_keys
   pub are : found
@@ -94,7 +97,8 @@ pub record AreBetween (text : List ℕ) (skipped : List SkippedBlock) (names : B
       ++ (duplicates (whole_among skipped (entries_at said origins))
       ++ (stray_findings text (whole_among skipped (entries_at said origins))
       ++ (case_findings (entries_at said origins)
-      ++ (early_findings (entries_at said origins) ++ foreign_findings (entries_at said origins)))))
+      ++ (early_findings (entries_at said origins)
+      ++ (foreign_findings (entries_at said origins) ++ definition_findings definitions)))))
 
 -- whether these are the findings of a recovered file, sorted by their starts: those of skipped blocks, of errors, of each kept
 -- entry, and those between entries. `lacking` says of each kept entry whether fields of it may be lost
@@ -119,7 +123,7 @@ pub record AreFindingsOf (text : List ℕ) (says : FileReading) (skipped : List 
   pub of_references : List ParseError
   pub resolved : AreRecovered places names own entries of_references
   pub between : List Finding
-  pub are_between : AreBetween text skipped names says.entries origins own between
+  pub are_between : AreBetween text skipped names says.entries origins own says.abbreviations between
   pub are : AreFindingsIn skipped lacking (of_entries ++ of_references) says.entries origins entries between found
 
 -- whether these are all findings of a file with this text

@@ -3,6 +3,7 @@ pub mod After
 pub mod Codes
 pub mod Counted
 pub mod Cuts
+pub mod Definitions
 pub mod Entries
 pub mod EntryNames
 pub mod Errors
@@ -16,6 +17,7 @@ pub mod Foreign
 pub mod Identities
 pub mod KeyCases
 pub mod Lacking
+pub mod LastDefinitions
 pub mod MalformedDates
 pub mod Marks
 pub mod Met
@@ -34,5 +36,6 @@ pub mod StandardNumbers
 pub mod Starts
 pub mod Stray
 pub mod Types
+pub mod Urls
 pub mod Words
 pub mod Years

@@ -72,6 +72,8 @@ pub enum Code {
     WrongIssn,
     /// A DOI that begins with an address or a scheme.
     DoiAddress,
+    /// A URL without a scheme.
+    UrlScheme,
     /// A field with a name of a person that Biber or BibTeX can't read as it is meant.
     MalformedName,
     /// A printed field with a character that is special to LaTeX and has no backslash before it.
@@ -90,6 +92,8 @@ pub enum Code {
     KeyCase,
     /// An entry whose `crossref` names an earlier entry.
     EarlyParent,
+    /// An abbreviation that `@string` defines again with another value.
+    RepeatedDefinition,
     /// A key that a document cites and no entry of the files has, as its key or in its field `ids`.
     MissingEntry,
     /// An entry that no document cites.
@@ -98,7 +102,7 @@ pub enum Code {
 
 // The codes in the order of their listing. First come errors of parsing and of inheriting, then findings about an entry's type, fields and
 // key. Then come those about references, duplicates, the case of keys and the order of entries, and last those about documents.
-static CODES: [Code; 32] = [
+static CODES: [Code; 34] = [
     Code::UnreadBytes,
     Code::Syntax,
     Code::UnreadField,
@@ -120,6 +124,7 @@ static CODES: [Code; 32] = [
     Code::WrongIsbn,
     Code::WrongIssn,
     Code::DoiAddress,
+    Code::UrlScheme,
     Code::MalformedName,
     Code::SpecialCharacter,
     Code::TwoYears,
@@ -129,6 +134,7 @@ static CODES: [Code; 32] = [
     Code::LikelyDuplicate,
     Code::KeyCase,
     Code::EarlyParent,
+    Code::RepeatedDefinition,
     Code::MissingEntry,
     Code::UnusedEntry,
 ];
@@ -167,6 +173,7 @@ impl Code {
             Self::WrongIsbn => "wrong-isbn",
             Self::WrongIssn => "wrong-issn",
             Self::DoiAddress => "doi-address",
+            Self::UrlScheme => "url-scheme",
             Self::MalformedName => "malformed-name",
             Self::SpecialCharacter => "special-character",
             Self::TwoYears => "two-years",
@@ -176,6 +183,7 @@ impl Code {
             Self::LikelyDuplicate => "likely-duplicate",
             Self::KeyCase => "key-case",
             Self::EarlyParent => "early-parent",
+            Self::RepeatedDefinition => "repeated-definition",
             Self::MissingEntry => "missing-entry",
             Self::UnusedEntry => "unused-entry",
         }
@@ -216,6 +224,7 @@ impl Code {
             | Self::WrongIsbn
             | Self::WrongIssn
             | Self::DoiAddress
+            | Self::UrlScheme
             | Self::MalformedName
             | Self::SpecialCharacter
             | Self::TwoYears
@@ -224,6 +233,7 @@ impl Code {
             | Self::UnknownReference
             | Self::LikelyDuplicate
             | Self::KeyCase
+            | Self::RepeatedDefinition
             | Self::UnusedEntry => Severity::Warning,
         }
     }
@@ -273,6 +283,8 @@ impl Code {
                 "A number in the field isn't an ISSN: its length or its last digit, which checks the others, is wrong. Copy the number again from the journal.",
             Self::DoiAddress =>
                 "The DOI begins with an address or with `doi:`. BibLaTeX puts `https://doi.org/` before the field, so the link is wrong. Keep only the DOI itself, which begins with `10.`.",
+            Self::UrlScheme =>
+                "The field `url` doesn't begin with a scheme such as `https:`, so BibLaTeX makes a link that viewers take for the name of a file. Write the whole address. A text with white space in it, a backslash or a brace isn't tested.",
             Self::MalformedName =>
                 "A name in this list of people is empty, has more than two commas, begins or ends with a comma, or contains a semicolon or `et al.`. Biber skips an entry with nothing between two of the words `and` or with more than two commas in a name. Separate names by ` and `, write `and others` at the end, and put the name of an organization in braces.",
             Self::SpecialCharacter =>
@@ -291,6 +303,8 @@ impl Code {
                 "The key equals the key of an earlier entry except for case. BibTeX reports a repeated entry and skips this one. Biber keeps both and warns of a typing error. Give one of them another key.",
             Self::EarlyParent =>
                 "The field `crossref` names an entry that comes earlier in the file. If the document doesn't cite this parent itself, BibTeX reports a bad cross reference, and the entry inherits nothing. Biber inherits as usual. `fmt --sort` puts children before their parents.",
+            Self::RepeatedDefinition =>
+                "An earlier `@string` defines the same abbreviation, in any case, with another value. BibTeX and Biber use the last definition before an entry, so the entries between the two have the earlier value. For all entries, this program uses the last definition whose name is written as in the entry. Remove one of the two definitions, or rename one of them.",
             Self::MissingEntry =>
                 "A document cites a key that no entry of the files has as its key or in its field `ids`. Correct the key, or add the entry.",
             Self::UnusedEntry =>

@@ -3,7 +3,7 @@
 ghost use Rattle.std.specs.Prelude.{◌≡◌, ◌<◌, ◌++◌, All, length, map, IfOk, OnOk};
 ghost use Rattle.std.specs.BTreeMap.{get_by_text};
 ghost use Rattle.bib_tables.specs.Requirements.{texts};
-ghost use Rattle.bib_syntax.specs.Views.{entry_reading_of, file_of};
+ghost use Rattle.bib_syntax.specs.Views.{entry_reading_of, field_of, file_of};
 ghost use Rattle.bib_findings.specs.Adding.{Adds};
 ghost use Rattle.bib_findings.specs.Entries.{AreOfEach};
 ghost use Rattle.bib_findings.specs.Findings.{AreBetween, AreFindings, AreFindingsIn, AreFindingsOf, AreOfEntry, AreOfKept, AreSortedByPlace, entries_said, own_findings, single_findings, text_findings};
@@ -11,6 +11,7 @@ ghost use Rattle.bib_findings.specs.Lacking.{with_flags};
 ghost use Rattle.bib_findings.specs.Met.{AreFieldNames};
 
 use crate::cuts::whole_origins;
+use crate::definitions::add_redefinitions;
 use crate::demands::reported_missing;
 use crate::duplicates::add_duplicates;
 use crate::entries::add_report;
@@ -29,18 +30,19 @@ use crate::special_characters::add_specials;
 use crate::standard_numbers::add_numbers;
 use crate::stray::add_strays;
 use crate::types::add_unknown_type;
+use crate::urls::add_url;
 use crate::years::add_years;
 use bib_collections::names::Names;
 use bib_entry::entry::Entry;
 use bib_file_entries::keeping::{KeptEntries, keep};
 use bib_inheritance::recovering::resolve_readable;
-use bib_syntax::raw::{ParseError, RawBibliography, RawEntry, RawRecovery, SkippedBlock};
+use bib_syntax::raw::{Pair, ParseError, RawBibliography, RawEntry, RawRecovery, SkippedBlock};
 use bib_text::spanned::Spanned;
 use std::alloc::{AllocError, Global};
 use std::collections::BTreeMap;
 
-// Appends the findings of an empty key, repeated and empty fields, wrong numbers, a DOI with an address or a scheme, and malformed dates.
-// `missing` has the missing fields of the entry.
+// Appends the findings of an empty key, repeated and empty fields, wrong numbers, a DOI with an address or a scheme, a URL without a
+// scheme, and malformed dates. `missing` has the missing fields of the entry.
 fn add_own(
     alloc: Global,
     found: &mut Vec<Finding>,
@@ -56,6 +58,7 @@ fn add_own(
     add_empty(alloc, found, missing, said)?;
     add_numbers(alloc, found, said)?;
     add_address(alloc, found, said)?;
+    add_url(alloc, found, said)?;
     add_dates(alloc, found, said, entry)
 }
 
@@ -135,9 +138,9 @@ fn add_entries(
 
 /// Returns the findings between entries, with only the fields that each entry has itself. They are, in this order: keys that an
 /// entry refers to and no kept entry has; entries that are likely the same work as an earlier one; text after an entry that reads
-/// as a field; keys that differ only in ASCII case; parents that come before their children; fields that other programs write.
-/// `text` is the text of the file, and `skipped` contains its skipped blocks. `origins` contains the index of each entry in `said`,
-/// the raw entries of the file. An entry that begins where a skipped block begins is no likely duplicate, and the text after it isn't
+/// as a field; keys that differ only in ASCII case; parents that come before their children; fields that other programs write;
+/// abbreviations that are defined again with another value. `text` is the text of the file, and `skipped` contains its skipped blocks.
+/// `origins` contains the index of each entry in `said`, the raw entries of the file, and `definitions` its abbreviations. An entry that begins where a skipped block begins is no likely duplicate, and the text after it isn't
 /// tested. Fails only if out of memory.
 pub fn between(
     alloc: Global,
@@ -147,11 +150,12 @@ pub fn between(
     origins: &[usize],
     names: &Names,
     own: &[Entry],
+    definitions: &[Pair<'_>],
 ) -> Result<Vec<Finding>, AllocError>
     requires same_length { length origins.now ≡ length own.now }
     requires there { All (λ index. index < length said.now) origins.now }
     ensures { IfOk result (λ found. AreBetween text.now skipped.now names.now (entries_said said.now) origins.now own.now
-        found.items) }
+        (map field_of definitions.now) found.items) }
 {
     let mut found = Vec::new(alloc);
     add_references(alloc, &mut found, names, said, origins, own)?;
@@ -161,6 +165,7 @@ pub fn between(
     add_cases(alloc, &mut found, said, origins)?;
     add_early(alloc, &mut found, said, origins)?;
     add_foreign_fields(alloc, &mut found, said, origins)?;
+    add_redefinitions(alloc, &mut found, definitions)?;
     Ok(found)
 }
 
@@ -220,7 +225,10 @@ pub fn findings_of(
         mut errors,
     } = keep(alloc, raw)?;
     let said = &raw.entries;
-    let linked = between(alloc, text, skipped, said, &origins, &names, &entries)?;
+    let definitions = raw.abbreviations.as_slice();
+    let linked = between(
+        alloc, text, skipped, said, &origins, &names, &entries, definitions,
+    )?;
     let lacking = lacking_flags(alloc, skipped, &names, said, &origins, &entries)?;
     let mut unresolved = resolve_readable(alloc, &spans, &names, &mut entries)?;
     errors.append(&mut unresolved)?;

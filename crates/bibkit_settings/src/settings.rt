@@ -42,7 +42,7 @@ pub enum OutputFormat {
 }
 
 // The names of the codes of findings, in the order in which they are listed.
-static CODES: [&str; 32] = [
+static CODES: [&str; 34] = [
     "unread-bytes",
     "syntax",
     "unread-field",
@@ -64,6 +64,7 @@ static CODES: [&str; 32] = [
     "wrong-isbn",
     "wrong-issn",
     "doi-address",
+    "url-scheme",
     "malformed-name",
     "special-character",
     "two-years",
@@ -73,6 +74,7 @@ static CODES: [&str; 32] = [
     "likely-duplicate",
     "key-case",
     "early-parent",
+    "repeated-definition",
     "missing-entry",
     "unused-entry",
 ];

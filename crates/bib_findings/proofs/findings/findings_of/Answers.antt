@@ -2,7 +2,7 @@ use Rattle.std.proofs.Common.{◌≡◌, ◌∙◌, ◌++◌, map, length, ap, s
 use Rattle.std.proofs.lemmas.List.{length-map}
 use Rattle.bib_inheritance.specs.Recovered.{AreRecovered}
 use Rattle.bib_inheritance.proofs.DatesRead.{all_taken}
-use Rattle.bib_syntax.specs.Views.{entry_reading_of, file_of}
+use Rattle.bib_syntax.specs.Views.{entry_reading_of, field_of, file_of}
 use Rattle.bib_findings.specs.Findings.{AreFindingsIn, AreFindingsOf, entries_said}
 use Rattle.bib_findings.proofs.RecoveredFacts.{between_of, findings_of, if_ok_more, lacking_same, origins_count, origins_within, places_count, within_of}
 use Rattle.bib_findings.proofs.findings.findings_of.Goals as goal
@@ -64,9 +64,9 @@ returns c =
     (subst (λ es. AreRecovered c.deref-9.result.now names es entries of_references) c.deref_mut.ensures.value
     c.in_ok-unresolved.ensures.recovered) in
     let are_between = between_of c.args.text.now c.deref.result.now skipped names (entries_said c.deref-2.result.now) says.entries
-    c.deref-3.result.now origins c.deref-4.result.now own linked
+    c.deref-3.result.now origins c.deref-4.result.now own (map field_of c.as_slice-definitions.result.now) says.abbreviations linked
     c.deref.ensures.value (ap (map entry_reading_of) c.deref-2.ensures.value) c.deref-3.ensures.value c.deref-4.ensures.value
-    c.in_ok-linked.ensures in
+    (ap (map field_of) c.as_slice-definitions.ensures.value) c.in_ok-linked.ensures in
     let lacking = c.in_ok-lacking.lacking.items in
     let are_lacking = lacking_same c.deref-5.result.now skipped names (entries_said c.deref-6.result.now) says.entries
     c.deref-7.result.now origins c.deref-8.result.now own lacking

@@ -1,0 +1,103 @@
+-- Definitions with the same pieces, and the last definition of each abbreviation.
+use Rattle.std.proofs.Common.{◌≡◌, ◌<◌, ◌≤◌, ◌+◌, ℕ, Bool, true, false, ◌&&◌, List, [], ◌∷◌, ◌++◌, length, drop, get_or, map, suc, Option, Some, None, refl, sym, ap, ap₂, ◌∙◌, cond, subst}
+use Rattle.std.specs.Prelude.{bytes_eq, find, reverse}
+use Rattle.std.specs.Borrow.{Bor}
+use Rattle.std.specs.Map.{update}
+use Rattle.std.proofs.lemmas.List.{drop_all, length-map, reverse-append}
+use Rattle.bib_text.specs.declared.spanned.Spanned.{Spanned}
+use Rattle.bib_text.proofs.BytesFacts.{bytes_turned}
+use Rattle.bib_syntax.specs.Reading.{FieldReading, Piece}
+use Rattle.bib_syntax.specs.Views.{field_of, piece_of}
+use Rattle.bib_syntax.specs.declared.raw.Pair.{Pair}
+use Rattle.bib_syntax.specs.declared.raw.RawChunk.{RawChunk}
+use Rattle.bib_findings.specs.Counted.{lowercase_name}
+use Rattle.bib_findings.specs.Definitions.{are_same_pieces, is_same_piece}
+use Rattle.bib_findings.specs.LastDefinitions.{AreLastDefinitions, read_definition}
+use Rattle.bib_findings.proofs.SeenFacts.{from_index}
+
+and_false : (b c : Bool) → c ≡ false → (b && c) ≡ false
+and_false true c fails = fails
+and_false false c fails = refl
+
+-- values with different numbers of pieces don't have the same pieces
+different_lengths : (pieces others : List Piece) → (length pieces ≡ length others → ⊥) → are_same_pieces pieces others ≡ false
+different_lengths [] [] other = absurd (other refl)
+different_lengths [] (q ∷ others) other = refl
+different_lengths (p ∷ pieces) [] other = refl
+different_lengths (p ∷ pieces) (q ∷ others) other =
+    and_false (is_same_piece p q) (are_same_pieces pieces others) (different_lengths pieces others (λ same. other (ap suc same)))
+
+-- values with different numbers of raw pieces don't have the same pieces
+pub different_counts : (one other : List (Spanned RawChunk)) → (length one ≡ length other → ⊥)
+    → are_same_pieces (map piece_of one) (map piece_of other) ≡ false
+different_counts one other differ =
+    different_lengths (map piece_of one) (map piece_of other)
+    (λ same. differ (sym (length-map one piece_of) ∙ same ∙ length-map other piece_of))
+
+-- values have the same pieces from an index on if the pieces there are the same, and those after it
+pub pieces_next : (one other : List (Spanned RawChunk)) (index : ℕ) (p q : Spanned RawChunk) → index < length one
+    → index < length other → p ≡ get_or one index p → q ≡ get_or other index q
+    → are_same_pieces (map piece_of (drop index one)) (map piece_of (drop index other))
+    ≡ (is_same_piece (piece_of p) (piece_of q)
+    && are_same_pieces (map piece_of (drop (index + 1) one)) (map piece_of (drop (index + 1) other)))
+pieces_next one other index p q within within' p_is q_is =
+    ap₂ (λ l m. are_same_pieces (map piece_of l) (map piece_of m))
+    (from_index one index p within ∙ ap (λ x. x ∷ drop (index + 1) one) (sym p_is))
+    (from_index other index q within' ∙ ap (λ x. x ∷ drop (index + 1) other) (sym q_is))
+
+-- values don't have the same pieces if the pieces at an index differ
+pub pieces_differ : (one other : List (Spanned RawChunk)) (index : ℕ) (p q : Spanned RawChunk) (same : Bool) → index < length one
+    → index < length other → p ≡ get_or one index p → q ≡ get_or other index q
+    → are_same_pieces (map piece_of (drop index one)) (map piece_of (drop index other))
+    ≡ are_same_pieces (map piece_of one) (map piece_of other)
+    → same ≡ is_same_piece (piece_of p) (piece_of q) → same ≡ false
+    → are_same_pieces (map piece_of one) (map piece_of other) ≡ false
+pieces_differ one other index p q same within within' p_is q_is so_far is differ =
+    sym so_far ∙ pieces_next one other index p q within within' p_is q_is
+    ∙ ap (λ b. b && are_same_pieces (map piece_of (drop (index + 1) one)) (map piece_of (drop (index + 1) other))) (sym is ∙ differ)
+
+-- values have the same pieces if the pieces after an index are the same, and those at it and before it are
+pub pieces_same : (one other : List (Spanned RawChunk)) (index : ℕ) (p q : Spanned RawChunk) (same : Bool) → index < length one
+    → index < length other → p ≡ get_or one index p → q ≡ get_or other index q
+    → are_same_pieces (map piece_of (drop index one)) (map piece_of (drop index other))
+    ≡ are_same_pieces (map piece_of one) (map piece_of other)
+    → same ≡ is_same_piece (piece_of p) (piece_of q) → same ≡ true
+    → are_same_pieces (map piece_of (drop (index + 1) one)) (map piece_of (drop (index + 1) other))
+    ≡ are_same_pieces (map piece_of one) (map piece_of other)
+pieces_same one other index p q same within within' p_is q_is so_far is equal =
+    sym
+    (pieces_next one other index p q within within' p_is q_is
+    ∙ ap (λ b. b && are_same_pieces (map piece_of (drop (index + 1) one)) (map piece_of (drop (index + 1) other))) (sym is ∙ equal))
+    ∙ so_far
+
+-- values have the same pieces if all their pieces were compared
+pub pieces_end : (one other : List (Spanned RawChunk)) (index : ℕ) → length one ≤ index → length other ≤ index
+    → are_same_pieces (map piece_of (drop index one)) (map piece_of (drop index other))
+    ≡ are_same_pieces (map piece_of one) (map piece_of other)
+    → are_same_pieces (map piece_of one) (map piece_of other) ≡ true
+pieces_end one other index past past' so_far =
+    sym so_far ∙ ap₂ (λ l m. are_same_pieces (map piece_of l) (map piece_of m)) (drop_all index one past) (drop_all index other past')
+
+-- storing a definition under its name in lowercase extends the last definitions by it
+pub lasts_more : (old new : List ℕ → Option (Bor Pair)) (earlier : List FieldReading) (definition : Bor Pair) (stored : List ℕ)
+    → stored ≡ lowercase_name (field_of definition.now) → AreLastDefinitions old earlier
+    → ((name : List ℕ) → new name ≡ update bytes_eq old stored (Some definition) name)
+    → AreLastDefinitions new (earlier ++ field_of definition.now ∷ [])
+lasts_more old new earlier definition stored is are updates name =
+    ap read_definition (updates name ∙ ap (λ b. cond b (Some definition) (old name)) turned)
+    ∙ by (test one)
+    ∙ ap (find test) (sym (reverse-append earlier (one ∷ [])))
+  where
+    one : FieldReading
+    one = field_of definition.now
+
+    test : FieldReading → Bool
+    test f = bytes_eq name (lowercase_name f)
+
+    turned : bytes_eq stored name ≡ test one
+    turned = ap (λ s. bytes_eq s name) is ∙ bytes_turned (lowercase_name one) name
+
+    by : (b : Bool)
+        → read_definition (cond b (Some definition) (old name)) ≡ cond b (Some one) (find test (reverse earlier))
+    by true = refl
+    by false = are name
