@@ -1069,6 +1069,39 @@ holds 'the severities are named' messages_have 'expected "error", "warning", "in
 printf 'fail-on = "error"\nformat = "github"\n' >project/bibkit.toml
 run 'a severity and a format of settings' 0 "$(commands_of project/one.bib)"$'\n' lint project/one.bib
 run 'a severity of the command line wins' 1 "$(commands_of project/one.bib)"$'\n' lint --fail-on warning project/one.bib
+# names of the project's own style
+printf '@Whatever{k, noField = {x}, title = acm}\n@other{l, nofield2 = {x}, title = ieee}\n' >project/own.bib
+unknown='unknown-field,unknown-type,unknown-abbreviation'
+own_fields=$'project/own.bib:1:14: warning: k: unknown field `noField` [unknown-field]\n'
+own_types=$'project/own.bib:1:2: warning: k: unknown entry type `Whatever` [unknown-type]\n'
+own_abbreviations=$'project/own.bib:1:37: warning: unknown abbreviation "acm" [unknown-abbreviation]\n'
+others=$'project/own.bib:2:2: warning: l: unknown entry type `other` [unknown-type]\nproject/own.bib:2:11: warning: l: unknown field `nofield2` [unknown-field]\nproject/own.bib:2:35: warning: unknown abbreviation "ieee" [unknown-abbreviation]\n'
+printf '[own]\nfields = []\n' >project/bibkit.toml
+run 'unknown names' 1 "$own_types$own_fields$own_abbreviations$others"$'errors: 0, warnings: 6\n' lint --only "$unknown" project/own.bib
+printf '[own]\nfields = ["title2", "NOFIELD"]\n' >project/bibkit.toml
+run 'own fields' 1 "$own_types$own_abbreviations$others"$'errors: 0, warnings: 5\n' lint --only "$unknown" project/own.bib
+printf '[own]\ntypes = ["whatever"]\n' >project/bibkit.toml
+run 'own entry types' 1 "$own_fields$own_abbreviations$others"$'errors: 0, warnings: 5\n' lint --only "$unknown" project/own.bib
+printf '[own]\nabbreviations = ["ACM"]\n' >project/bibkit.toml
+run 'own abbreviations' 1 "$own_types$own_fields$others"$'errors: 0, warnings: 5\n' lint --only "$unknown" project/own.bib
+printf '[own]\nfields = ["whatever", "acm"]\ntypes = ["nofield", "acm"]\nabbreviations = ["whatever", "nofield"]\n' >project/bibkit.toml
+run 'own names of another kind' 1 "$own_types$own_fields$own_abbreviations$others"$'errors: 0, warnings: 6\n' lint --only "$unknown" project/own.bib
+printf '[own]\nfields = ["nofield", "nofield2"]\ntypes = ["whatever", "other"]\nabbreviations = ["acm", "ieee"]\n' >project/bibkit.toml
+run 'own names of two files' 0 $'errors: 0, warnings: 0\n' lint --only "$unknown" project/own.bib one.bib
+while IFS='|' read -r key value wanted; do
+    printf '[own]\n%s = %s\n' "$key" "$value" >project/bibkit.toml
+    run "wrong own names, $key = $value" 2 '' lint project/one.bib
+    holds "wrong own names, $key = $value: what is said" messages_have "project/bibkit.toml: $wanted"
+done <<'ROWS'
+fields|"note2"|expected a list of field names for `own.fields`
+fields|[1]|expected a list of field names for `own.fields`
+types|true|expected a list of entry types for `own.types`
+abbreviations|["a", 2]|expected a list of abbreviations for `own.abbreviations`
+field|["note2"]|unknown setting `own.field`
+ROWS
+printf 'own = ["note2"]\n' >project/bibkit.toml
+run 'own names that are no table' 2 '' lint project/one.bib
+holds 'own names that are no table: what is said' messages_have 'project/bibkit.toml: expected a table for `own`'
 printf 'colour = "always"\n' >project/bibkit.toml
 run 'an unknown setting' 2 '' lint project/one.bib
 holds 'an unknown setting is named' messages_have 'unknown setting `colour`'
@@ -1165,7 +1198,7 @@ holds 'a style that is no table: what is said' messages_have 'styled/bibkit.toml
 printf 'indent = 4\n' >styled/bibkit.toml
 run 'a setting of no table' 2 '' fmt styled/a.bib
 holds 'a setting of no table: what is said' messages_have 'styled/bibkit.toml: unknown setting `indent`'
-printf 'ignore = ["unknown-field"]\nonly = ["no-code"]\ncolor = "never"\nformat = "text"\nfail-on = "none"\n' >styled/bibkit.toml
+printf 'ignore = ["unknown-field"]\nonly = ["no-code"]\ncolor = "never"\nformat = "text"\nfail-on = "none"\n[own]\nfields = 1\n' >styled/bibkit.toml
 run 'fmt passes over settings of lint' 0 "$(cat usual.bib)"$'\n' fmt styled/a.bib
 printf '[fmt]\nindent = 9\n' >styled/bibkit.toml
 run 'edits read no settings' 0 $'@book{a,\n    title = {X},\n    year  = {2000}\n}\n' set a year=2000 -f styled/a.bib

@@ -12,6 +12,7 @@ use Rattle.bibkit_core.specs.Asked.{selected_findings}
 use Rattle.bibkit_core.specs.Compared.{missing_among, unused_findings}
 use Rattle.bibkit_core.specs.Conditions.{AreReportedAmong, findings_of_no_entry}
 use Rattle.bibkit_core.specs.Linted.{IsPrintedKept, ArePrinted}
+use Rattle.bibkit_core.specs.OwnNames.{without_own}
 use Rattle.bibkit_core.specs.Tasks.{AreDecoded, IsEndOfFindings, in_file, lint_status, opening}
 use Rattle.bibkit_core.specs.declared.cited.Document.{Document}
 use Rattle.bibkit_core.specs.declared.database.Database.{Database}
@@ -43,7 +44,9 @@ pub record AreOfDatabase (lint : Lint) (document : Option Document) (texts : Fil
   pub are : AreFindingsOf texts.text says skipped of_files
   pub found : List Finding
   pub sorted : AreSortedByPlace (of_files ++ unused_by document says.entries) found
-  pub reported : AreReportedAmong lint.conditions.items says skipped found kept
+  pub reported : List Finding
+  pub are_reported : AreReportedAmong lint.conditions.items says skipped found reported
+  pub kept_are : kept ≡ without_own lint.own reported
 
 -- a finding of a file that begins at this offset in the text of all files, with its span in the text of the file
 abbrev pub finding_in : ℕ → Finding → Finding
