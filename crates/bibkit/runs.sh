@@ -1461,13 +1461,16 @@ run 'BibTeX' 0 '@string{aw = {Addison-Wesley}}
 run_messages 'fields that stay are named' 0 $'convert.bib:4:10: note: no standard style of BibTeX reads `xdata`\n' convert --to bibtex convert.bib
 run 'BibLaTeX' 0 "$(cat convert.bib)"$'\n' convert --to biblatex convert.bib
 printf '@phdthesis{p, school={S}, Journal="J", journaltitle={K}}\n' >thesis.bib
-run 'a thesis of BibLaTeX' 0 $'@thesis{p, institution={S}, type = {phdthesis}, Journal="J", journaltitle={K}}\n' convert --to biblatex thesis.bib
+run 'a thesis of BibLaTeX' 0 $'@thesis{p, institution={S}, type={phdthesis}, Journal="J", journaltitle={K}}\n' convert --to biblatex thesis.bib
 run_messages 'a name that is there' 0 $'thesis.bib:1:27: note: `Journal` is kept: the entry already has the field that would replace it\n' convert --to biblatex thesis.bib
 printf '@misc{a,\n  year = {2020},\n  month = may,\n  title = {A},\n}\n@misc{b, year = 1999, month = {Fall}}\n' >months.bib
 run 'a year and a month' 0 $'@misc{a,\n  date = {2020-05},\n  title = {A},\n}\n@misc{b, year = 1999, month = {Fall}}\n' convert --to biblatex months.bib
 run_messages 'a month that stays' 0 $'months.bib:6:23: note: `month` is kept: it can\'t be joined with a year to a date\n' convert --to biblatex months.bib
 printf '@string{JAN = {Winter}}\n@misc{a, date = {2020-01-05}}\n' >months.bib
 run 'a month that the file defines' 0 $'@string{JAN = {Winter}}\n@misc{a, year = {2020}, month = {January}, day = {05}}\n' convert --to bibtex months.bib
+printf '@misc{a,\r\n\tauthor = {A},\r\n\tdate   = {2020-05},\r\n}\r\n' >aligned.bib
+run 'new fields on lines of their own, in one column' 0 $'@misc{a,\r\n\tauthor = {A},\r\n\tyear   = {2020},\r\n\tmonth  = may,\r\n}\r\n' convert --to bibtex aligned.bib
+rm aligned.bib
 run_messages 'a day of a date' 0 $'months.bib:2:10: note: `date` becomes several fields, but no standard style of BibTeX reads a day or a second date\n' convert --to bibtex months.bib
 rm months.bib
 for format in csl json; do

@@ -1,19 +1,14 @@
 -- Keys that equal an earlier key except for ASCII case.
-use Rattle.std.proofs.Common.{◌≡◌, ℕ, Bool, true, false, List, [], ◌∷◌, ◌++◌, Option, Some, None, refl, sym, ap, ◌∙◌, append_assoc, arith, cond, nat_eq}
-use Rattle.std.specs.Prelude.{bytes_eq, find, is_some, option_map}
+use Rattle.std.proofs.Common.{◌≡◌, ℕ, Bool, true, false, List, [], ◌∷◌, ◌++◌, Option, Some, None, refl, sym, ap, ◌∙◌, cond}
+use Rattle.std.specs.Prelude.{bytes_eq, find, option_map}
 use Rattle.std.specs.Borrow.{Bor}
-use Rattle.std.specs.BTreeMap.{BTreeMap, Updates, get, is_at}
 use Rattle.std.specs.Map.{update}
 use Rattle.std.specs.Option.{option_map_or}
-use Rattle.std.specs.Ordering.{nat_cmp}
-use Rattle.std.proofs.lemmas.Bool.Decides.{nat_tests}
 use Rattle.std.proofs.lemmas.Slice.Eq.{bytes_eq-Decides}
 use Rattle.bib_text.proofs.BytesFacts.{bytes_turned}
 use Rattle.bib_syntax.specs.Reading.{EntryReading}
-use Rattle.bib_findings.specs.Cuts.{entry_from}
 use Rattle.bib_findings.specs.FirstKeys.{AreFirstKeys, lowercase_key}
 use Rattle.bib_findings.specs.KeyCases.{case_after, case_finding, have_one_key}
-use Rattle.bib_findings.proofs.SharedFacts.{numbers_alike}
 
 -- the first value, or the other one if there is none
 abbrev pub or_other : {A : Type 0} → Option A → Option A → Option A

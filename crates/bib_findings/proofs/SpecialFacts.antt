@@ -1,5 +1,5 @@
 -- The first special character, character by character.
-use Rattle.std.proofs.Common.{◌≡◌, ℕ, List, ◌+◌, ◌<◌, length, get_or, drop, ap, ◌∙◌, Some, cond}
+use Rattle.std.proofs.Common.{◌≡◌, ℕ, List, ◌+◌, ◌<◌, length, get_or, drop, ap, Some, cond}
 use Rattle.bib_text.proofs.ListFacts.{drop_is}
 use Rattle.bib_findings.specs.SpecialCharacters.{first_special, is_unescaped_special, zone_after}
 use Rattle.bib_findings.specs.declared.special_characters.Zone.{Zone}

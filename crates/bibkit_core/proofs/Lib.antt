@@ -2,6 +2,7 @@ pub mod AnswerFacts
 pub mod ComparedFacts
 pub mod ConditionFacts
 pub mod CountFacts
+pub mod DatabaseFacts
 pub mod FindingFacts
 pub mod RunFacts
 pub mod TableFacts

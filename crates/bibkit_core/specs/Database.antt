@@ -5,7 +5,6 @@ use Rattle.std.specs.Prelude.{◌≡◌, ℕ, ◌+◌, ◌-◌, List, [], ◌∷
 use Rattle.std.specs.List.{prefix_len}
 use Rattle.bib_findings.specs.Findings.{AreFindingsOf, AreSortedByPlace}
 use Rattle.bib_findings.specs.declared.finding.Finding.{Finding}
-use Rattle.bib_queries.specs.declared.citations.Citations.{Citations}
 use Rattle.bib_syntax.specs.Files.{AreFilesRecovered, FilesText, no_files, with_next}
 use Rattle.bib_syntax.specs.Reading.{EntryReading, FileReading}
 use Rattle.bib_syntax.specs.declared.raw.recovery.SkippedBlock.{SkippedBlock}

@@ -137,11 +137,12 @@ fn count_to(found: &[Finding], end: usize) -> usize
     ensures count { result ≡ spec.count_to end found.now }
     ensures within { result ≤ length found.now }
 {
-    let mut count = 0usize;
-    'found: while count < found.len() && begins_by(&found[count], end) {
-        count += 1;
+    'found: for count in 0..found.len() {
+        if !begins_by(&found[count], end) {
+            return count;
+        }
     }
-    count
+    found.len()
 }
 
 // Returns these findings of a file that begins at the offset `start`, with their spans in the text of the file.
@@ -204,20 +205,24 @@ fn print_files(
         text: String::new(alloc),
         tally: Tally::none(),
     };
+    let text = texts.text();
+    let ends = texts.ends();
     let mut start = 0usize;
     let mut first = 0usize;
-    'files: for (file, end) in files.iter().zip(texts.ends()) {
-        let count = count_to(&found[first..], *end);
+    'files: for index in 0..files.len() {
+        let end = ends[index];
+        let left = &found[first..];
+        let count = count_to(left, end);
         print_file(
             alloc,
             &mut printed,
             lint,
             start,
-            file,
-            &found[first..first + count],
+            &files[index],
+            &left[..count],
         )?;
         first += count;
-        start = *end + 1;
+        start = end + 1;
     }
     Ok(printed)
 }
@@ -230,7 +235,7 @@ fn print_missing(
     document: &Option<Document<'_>>,
     missing: Vec<Finding>,
 ) -> Result<(), AllocError>
-    ensures { OnOk result ((entries : List EntryReading) → missing.entry.items ≡ spec.missing_by document.now entries →
+    ensures { OnOk result ((entries : List EntryReading) → missing.items ≡ spec.missing_by document.now entries →
         IsAdded (AreMissingPrinted lint.now document.now entries) printed.old printed.new) }
 {
     let Some(document) = document else {

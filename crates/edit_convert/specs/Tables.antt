@@ -73,7 +73,7 @@ pub record IsFieldInText (at : EntryField) : Type 0 where
   pub sign : IsSignPlaced at.text.now (field_of at.field.now)
   pub signs : AllByRecursion (IsSignPlaced at.text.now) (map field_of at.fields.now)
 
--- the text between the name of a new field at a field and its value
+-- the text between the name and the value of a new field that replaces a field or comes before it
 abbrev pub sign_by : EntryField → List ℕ → List ℕ
 sign_by at name = sign_at at.text.now (field_of at.field.now) (map field_of at.fields.now) name
 

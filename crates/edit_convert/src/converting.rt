@@ -349,7 +349,9 @@ fn edits(
 ///
 /// For BibTeX a thesis with one field `type` of the first two values, or a report with the third, becomes that type, and the field is
 /// removed. If the field is the last one, or a comment occurs between it and the next one, it stays. Its value becomes the text that
-/// the standard styles print: `Master's thesis`, `PhD thesis` or `Technical Report`.
+/// the standard styles print: `Master's thesis`, `PhD thesis` or `Technical Report`. The value must be one literal. ASCII white space at
+/// both ends of its text doesn't count, as in Biber. If the first line of the text contains a tab, BibLaTeX finds no key in it, and the
+/// field is kept.
 ///
 /// **Names of fields.** For BibLaTeX `journal`, `address` and `school` become `journaltitle`, `location` and `institution`. For BibTeX
 /// `journaltitle` and `location` become `journal` and `address`; in an entry whose type before the conversion is a thesis, `institution`
@@ -367,6 +369,11 @@ fn edits(
 /// file defines no such abbreviation. Or it is one literal: the English name of a month, its first three letters or its number. The
 /// day, if there is one, is one literal of one or two digits. The parts are a date that exists. No comment would
 /// be removed.
+///
+/// **Layout.** A new field is laid out like the field that it replaces or comes before. The white space before the name of that field is
+/// before each new field. Around the equals sign, a new field has the white space of that field. If that field has more than one byte
+/// before its equals sign, the new equals sign is in the same column. Otherwise it is in the column of the first field of the entry with
+/// more than one byte there, if there is one. `edit_entries::layout::sign_at` returns this text.
 ///
 /// # Errors
 ///

@@ -3,7 +3,7 @@ use Rattle.std.proofs.lemmas.List.{length-map}
 use Rattle.bib_inheritance.specs.Recovered.{AreRecovered}
 use Rattle.bib_inheritance.proofs.DatesRead.{all_taken}
 use Rattle.bib_syntax.specs.Views.{entry_reading_of, file_of}
-use Rattle.bib_findings.specs.Findings.{AreFindings, AreFindingsIn, entries_said}
+use Rattle.bib_findings.specs.Findings.{AreFindingsIn, AreFindingsOf, entries_said}
 use Rattle.bib_findings.proofs.RecoveredFacts.{between_of, findings_of, if_ok_more, lacking_same, origins_count, origins_within, places_count, within_of}
 use Rattle.bib_findings.proofs.findings.findings_of.Goals as goal
 
@@ -13,8 +13,8 @@ between-requires-clause-same_length c =
 
 pub between-requires-clause-there : goal.between-requires-clause-there
 between-requires-clause-there c =
-    let said = c.in_ok-raw.field-0.raw.entries.items in
-    let says = file_of c.in_ok-raw.field-0.raw in
+    let said = c.args.recovery.now.raw.entries.items in
+    let says = file_of c.args.recovery.now.raw in
     within_of says.entries c.in_ok-entries.field-0.origins.items c.deref-3.result.now (length c.deref-2.result.now)
     (origins_within c.in_ok-entries.ensures.kept) c.deref-3.ensures.value
     (length-map said entry_reading_of ∙ sym (ap length c.deref-2.ensures.value))
@@ -40,16 +40,16 @@ findings_in-requires-clause-same_length c =
 
 pub findings_in-requires-clause-there : goal.findings_in-requires-clause-there
 findings_in-requires-clause-there c =
-    let said = c.in_ok-raw.field-0.raw.entries.items in
-    let says = file_of c.in_ok-raw.field-0.raw in
+    let said = c.args.recovery.now.raw.entries.items in
+    let says = file_of c.args.recovery.now.raw in
     within_of says.entries c.in_ok-entries.field-0.origins.items c.deref-14.result.now (length c.deref-13.result.now)
     (origins_within c.in_ok-entries.ensures.kept) c.deref-14.ensures.value
     (length-map said entry_reading_of ∙ sym (ap length c.deref-13.ensures.value))
 
 pub returns : goal.returns
 returns c =
-    let says = file_of c.in_ok-raw.field-0.raw in
-    let skipped = c.in_ok-raw.field-0.skipped.items in
+    let says = file_of c.args.recovery.now.raw in
+    let skipped = c.args.recovery.now.skipped.items in
     let own = c.in_ok-entries.field-0.entries.items in
     let names = c.in_ok-entries.field-0.names in
     let places = c.in_ok-entries.field-0.spans.items in
@@ -76,11 +76,8 @@ returns c =
     (λ found.
     AreFindingsIn c.deref-10.result.now c.deref-11.result.now c.deref-12.result.now (entries_said c.deref-13.result.now)
     c.deref-14.result.now c.deref-15.result.now linked found.items)
-    (λ found. AreFindings c.args.text.now found.items) c.findings_in.result
+    (λ found. AreFindingsOf c.args.text.now says skipped found.items) c.findings_in.result
     (λ found are. record {
-      says = says;
-      skipped = skipped;
-      recovery = c.in_ok-raw.ensures;
       own = own;
       names = names;
       places = places;

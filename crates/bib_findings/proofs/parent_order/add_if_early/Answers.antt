@@ -1,4 +1,4 @@
-use Rattle.std.proofs.Common.{ap, sym, ◌∙◌, ◌++◌, ◌∷◌, [], ◌==◌, ◌&&◌, not, cond, length}
+use Rattle.std.proofs.Common.{ap, ◌∙◌, ◌++◌, ◌∷◌, [], ◌==◌, ◌&&◌, not, cond, length}
 use Rattle.std.specs.List.{list_any}
 use Rattle.bib_syntax.specs.Views.{entry_reading_of}
 use Rattle.bib_findings.specs.ParentOrder.{early_finding, is_key_of}

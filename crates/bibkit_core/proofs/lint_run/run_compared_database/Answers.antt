@@ -1,7 +1,4 @@
 use Rattle.std.proofs.lemmas.Result.{err_from_is_err_and}
-use Rattle.std.proofs.Common.{subst}
-use Rattle.std.specs.Prelude.{None}
-use Rattle.bibkit_core.specs.Answered.{IsDocumentFor}
 use Rattle.bibkit_core.proofs.AnswerFacts.{document_for, stopped_without_text}
 use Rattle.bibkit_core.proofs.RunFacts.{printed_so, stopped_at_once, stopped_so}
 use Rattle.bibkit_core.proofs.lint_run.run_compared_database.Goals as goal

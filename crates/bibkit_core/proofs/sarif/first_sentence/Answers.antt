@@ -1,4 +1,4 @@
-use Rattle.std.proofs.Common.{◌∙◌, ◌++◌, ap, codes, drop, refl, sym, take, take-append-drop}
+use Rattle.std.proofs.Common.{◌∙◌, ◌++◌, ap, codes, drop, refl, sym, take-append-drop}
 use Rattle.bibkit_core.proofs.ConditionFacts.{suffix_begins}
 use Rattle.bibkit_core.proofs.sarif.first_sentence.Goals as goal
 

@@ -1,4 +1,4 @@
-use Rattle.std.proofs.Common.{◌∙◌, ◌++◌, codes, ap, refl}
+use Rattle.std.proofs.Common.{◌∙◌, ap, refl}
 use Rattle.bib_findings.specs.Codes.{code_name, severity_of}
 use Rattle.bibkit_core.specs.Sarif as spec
 use Rattle.bibkit_core.specs.Sarif.{described_rule, message_object}

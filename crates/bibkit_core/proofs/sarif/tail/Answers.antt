@@ -1,5 +1,4 @@
-use Rattle.std.proofs.Common.{◌≡◌, ◌++◌, codes, ap, ◌∙◌}
-use Rattle.bibkit_core.specs.Sarif.{IsSarifTail}
+use Rattle.std.proofs.Common.{◌++◌, codes, ap, ◌∙◌}
 use Rattle.bibkit_core.proofs.sarif.tail.Goals as goal
 
 pub returns : goal.returns

@@ -10,7 +10,8 @@ use Rattle.edit_convert.proofs.converting.push_pending_edit.Goals as goal
 
 pub returns-in_default-clause-left : goal.returns-in_default-clause-left
 returns-in_default-clause-left c =
-    none_pending (lent_text c.args.pending) (replacement_by c.args.changes.now (field_of c.args.at.now.field.now)) (ap lent_text c.in_default.is)
+    none_pending (lent_text c.args.pending) (replacement_by c.args.changes.now (field_of c.args.at.now.field.now))
+    (ap lent_text c.in_default.is)
 
 pub returns-then-branch-clause-edits : goal.returns-then-branch-clause-edits
 returns-then-branch-clause-edits c =
