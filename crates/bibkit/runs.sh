@@ -521,13 +521,12 @@ run 'a second file that is not UTF-8, and a third one' 1 $'latin.bib:1:17: error
 printf '@string{j = {a $ b}}\n' >math1.bib
 printf '@misc{u, title=j, year={2000}}\n' >math2.bib
 run 'an error in the definition that another file uses' 1 $'math1.bib:1:19: error: unexpected end of file [unread-field]\nerrors: 1, warnings: 0\n' lint --only unread-field math2.bib math1.bib
-child='@inbook{c, author={A}, title={T}, bookauthor={B}, crossref={p}}\n@book{p, author={A}, title={P}'
-printf "$child, year={2000}, month={March 99}}\n" >day.bib
-printf "$child, year={}}\n" >noyear.bib
-for file in day.bib noyear.bib; do
-    "$program" lint --only unread-date end2.bib $file >output
-    holds "a date of the second file that can't be read, $file" prints "$file:"
-done
+printf '@inbook{d, author={A}, title={T}, bookauthor={B}, crossref={p}}\n@book{p, author={A}, title={P}, year={}}\n' >noyear.bib
+printf '@inbook{d, author={A}, title={T}, bookauthor={B}, crossref={p}}\n@book{p, author={A}, title={P}, year={2000}, month={March 99}}\n' >day.bib
+"$program" lint --only unread-date end2.bib noyear.bib >output
+holds "a year of the second file that can't be read" prints 'noyear.bib:2:39: warning: '
+"$program" lint --only unread-date end2.bib day.bib >output
+holds "a day in the month field of the second file that can't be read" prints 'day.bib:'
 
 # fields of other programs are counted over all files
 printf '@misc{f1, title={A}, year={2000}, owner={me}, groups={x}}\n' >own1.bib
