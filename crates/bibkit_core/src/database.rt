@@ -224,7 +224,7 @@ fn print_files(
             &left[..count],
         )?;
         first += count;
-        start = end + 1;
+        start = end + 2;
     }
     Ok(printed)
 }
