@@ -29,7 +29,8 @@ with_next files file = record {
 -- after that
 abbrev pub AreFiles : List ℕ → ℕ → List ℕ → Type 0
 AreFiles text start [] = ⊤
-AreFiles text start (end ∷ ends) = (start ≤ end) × (slice_get text end ≡ Some char.percent) × (slice_get text (end + 1) ≡ Some char.line_feed)
+AreFiles text start (end ∷ ends) =
+    (start ≤ end) × (slice_get text end ≡ Some char.percent) × (slice_get text (end + 1) ≡ Some char.line_feed)
     × AreFiles text (end + 2) ends
 
 -- The full recovery of files in a text, the first of which begins at `start`. Each ends at one of these offsets, and is
