@@ -5,8 +5,8 @@
 
 Both run in turn on the same files, on one core. Printed are ratios: of `bibkit lint` to `bib check`, of `bibkit keys`, `get`, `set` and `fmt` to `bib keys`,
 of `bibkit convert` to CSL-JSON, JSON and RIS to `bib biblatex`, each in processor time (user and system, the least of the rounds) and peak memory; how the time of `lint` for an entry grows from a
-hundredth of the entries to all; and the peak memory of `lint` over many files, one of which is much larger than the others, to that of the
-largest alone.
+hundredth of the entries to all; and the peak memory of `lint --each` over many files, one of which is much larger than the others, to that of
+the largest alone.
 """
 import argparse
 import importlib.util
@@ -69,8 +69,8 @@ def main():
         many = [os.path.join(folder, f"{number}.bib") for number in range(20)]
         for number, path in enumerate(many):
             pathlib.Path(path).write_text(entries(words.entries // 100, number), encoding="utf-8")
-        (_, over_all), = least([([words.bibkit, "lint", *many[:10], large, *many[10:]], None)], 1)
-        print(f"bibkit lint, memory of 21 files / of the largest: {over_all / memory:.2f}")
+        (_, over_all), = least([([words.bibkit, "lint", "--each", *many[:10], large, *many[10:]], None)], 1)
+        print(f"bibkit lint --each, memory of 21 files / of the largest: {over_all / memory:.2f}")
 
 
 if __name__ == "__main__":

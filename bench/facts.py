@@ -2,6 +2,7 @@
 """Compares the facts of bench/facts/*.md with what BibTeX, Biber and bibtool do: facts.py [--print] [WORD ..]
 A fact is a heading `###`, sentences, a block ```bib with the text of a .bib file, and a block for each program that was asked.
 A block ```aux, if there is one, is the end of the .aux file for BibTeX, which is `dump.aux`, and ```aux:NAME is another .aux file.
+A block ```bib:NAME is the file NAME.bib, which BibTeX reads after the first one.
 A block of a program has, for each entry, its key and type, then its
 fields, two spaces in; messages are last, each after `! `. Biber with inherited fields is ```biber-resolved, the file that
 bibtool writes with no option is ```bibtool-output.
@@ -37,13 +38,16 @@ def as_lines(reading):
 
 
 def with_aux(text, blocks, room):
-    """What BibTeX reads of a file for the citations of an .aux file, and of the files that it inputs."""
-    (room / "file.bib").write_bytes(text)
+    """What BibTeX reads of files for the citations of an .aux file, and of the files that it inputs. Without one, all entries are cited."""
+    files = {"file": text} | {name[4:]: unescaped(block) for name, block in blocks.items() if name.startswith("bib:")}
+    for name, content in files.items():
+        (room / f"{name}.bib").write_bytes(content)
     for name, block in blocks.items():
         if name.startswith("aux:"):
             (room / name[4:]).write_text(block)
-    (room / "dump.bst").write_text(peers.dump_style(text.decode("latin-1")), encoding="latin-1")
-    (room / "dump.aux").write_text("\\relax\n\\bibstyle{dump}\n\\bibdata{file}\n" + blocks["aux"])
+    (room / "dump.bst").write_text(peers.dump_style(b"".join(files.values()).decode("latin-1")), encoding="latin-1")
+    head = f"\\relax\n\\bibstyle{{dump}}\n\\bibdata{{{','.join(files)}}}\n"
+    (room / "dump.aux").write_text(head + blocks.get("aux", "\\citation{*}\n"))
     peers.call(["bibtex", "dump"], room)
     entries, preamble = peers.dumped(peers.written(room / "dump.bbl"))
     return peers.Reading(entries, [], sorted(peers.bibtex_messages(peers.written(room / "dump.blg"))), preamble)
@@ -63,7 +67,7 @@ def reading(program, text, blocks):
         room = pathlib.Path(name)
         if program == "bibtool-output":
             return bibtool_output(text, room)
-        if program == "bibtex" and "aux" in blocks:
+        if program == "bibtex" and any(name == "aux" or name.startswith("bib:") for name in blocks):
             return as_lines(with_aux(text, blocks, room))
         call = {"bibtex": peers.bibtex, "bibtool": peers.bibtool}.get(program, peers.biber)
         options = {"is_resolved": True} if program == "biber-resolved" else {}

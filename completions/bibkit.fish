@@ -38,6 +38,7 @@ complete -c bibkit -n '__fish_seen_subcommand_from lint' -x -l format -a 'text j
 complete -c bibkit -n '__fish_seen_subcommand_from lint' -x -l fail-on -a 'error warning info never' -d 'Status 1 for findings of at least this severity'
 complete -c bibkit -n '__fish_seen_subcommand_from lint' -r -l cited -d 'Report keys that this document cites and no file contains'
 complete -c bibkit -n '__fish_seen_subcommand_from lint' -l unused -d 'Report entries that the document doesn\'t cite'
+complete -c bibkit -n '__fish_seen_subcommand_from lint' -l each -d 'Check each file by itself, not all files as one database'
 complete -c bibkit -n '__fish_seen_subcommand_from lint' -x -l color -a 'auto always never' -d 'When to print colours'
 complete -c bibkit -n '__fish_seen_subcommand_from lint' -r -l stdin-filename -d 'The name of standard input in findings'
 complete -c bibkit -n '__fish_seen_subcommand_from fmt' -x -l indent -a '0 1 2 3 4 5 6 7 8' -d 'Spaces before a field'

@@ -100,7 +100,7 @@ for word in help --help -h; do
     done
 done
 run_start 'help of lint' 0 $'Report errors and likely mistakes in files\n\nUsage: bibkit lint [OPTIONS] [FILE]...\n' lint --help
-for option in '--only <CODES>' '--ignore <CODES>' '--explain <CODE>' '--format <FORMAT>' '--fail-on <SEVERITY>' '--cited <DOCUMENT>' '--unused' '--color <WHEN>' '--where <CONDITION>' '--stdin-filename <NAME>'; do
+for option in '--only <CODES>' '--ignore <CODES>' '--explain <CODE>' '--format <FORMAT>' '--fail-on <SEVERITY>' '--cited <DOCUMENT>' '--unused' '--each' '--color <WHEN>' '--where <CONDITION>' '--stdin-filename <NAME>'; do
     holds "help of lint names $option" grep -qE "^      $option +[A-Z]" results
 done
 run_start 'help of keys' 0 $'Print the key of each entry\n\nUsage: bibkit keys [OPTIONS] [FILE]...\n' keys --help
@@ -151,11 +151,11 @@ run 'a code that is asked for and left out' 0 $'errors: 0, warnings: 0\n' lint -
 run 'two files' 1 $'broken.bib:1:7: warning: a: missing year [missing-field]\nbroken.bib:3:1: error: c: expected comma [syntax]\n'"$lines_of_one"$'errors: 1, warnings: 4\n' lint broken.bib one.bib
 cp one.bib input
 run 'standard input' 1 "${lines_of_one//one.bib/-}"$'errors: 0, warnings: 3\n' lint
-run 'standard input by its name, after a file' 1 "$lines_of_one${lines_of_one//one.bib/-}"$'errors: 0, warnings: 6\n' lint one.bib -
+run 'standard input by its name, after a file' 1 "$lines_of_one${lines_of_one//one.bib/-}"$'errors: 0, warnings: 6\n' lint --each one.bib -
 
 # standard input under another name, and with the settings of a file with that name
 run 'standard input under a name' 1 "${lines_of_one//one.bib/no.bib}"$'errors: 0, warnings: 3\n' lint --stdin-filename no.bib
-run 'standard input under a name, after a file' 1 "$lines_of_one${lines_of_one//one.bib/no.bib}"$'errors: 0, warnings: 6\n' lint --stdin-filename no.bib one.bib -
+run 'standard input under a name, after a file' 1 "$lines_of_one${lines_of_one//one.bib/no.bib}"$'errors: 0, warnings: 6\n' lint --each --stdin-filename no.bib one.bib -
 mkdir named
 printf 'ignore = ["missing-field"]\n' >named/bibkit.toml
 run 'standard input with the settings of its name' 0 $'errors: 0, warnings: 0\n' lint --stdin-filename named/no.bib -
@@ -168,7 +168,7 @@ run 'a list in JSON' 1 '[
 {"file":"one.bib","line":1,"column":10,"end_line":1,"end_column":14,"severity":"warning","code":"missing-field","message":"test: missing year"}
 ]
 ' lint --format json one.bib
-"$program" lint --format json one.bib broken.bib one.bib >output
+"$program" lint --each --format json one.bib broken.bib one.bib >output
 holds 'a list of three files in JSON' python3 -c 'import json, sys; found = json.load(open("output")); sys.exit(len(found) != 8 or found[4] != {"file": "broken.bib", "line": 3, "column": 1, "end_line": 3, "end_column": 1, "severity": "error", "code": "syntax", "message": "c: expected comma"})'
 run 'an empty list in JSON' 0 $'[\n]\n' lint --format json
 printf '@misc{a, title={A}}\n' >'a "b" \ c.bib'
@@ -250,7 +250,7 @@ run 'commands of GitHub' 1 "::warning file=broken.bib,line=1,endLine=1,col=7,end
 ::error file=broken.bib,line=3,endLine=3,col=1,endColumn=1,title=syntax::c: expected comma
 ::notice file=infos.bib,line=1,endLine=1,col=48,endColumn=53,title=foreign-field::field owner of another program, 1 time
 $(commands_of one.bib)
-" lint --format github --ignore not-a-number broken.bib infos.bib one.bib
+" lint --each --format github --ignore not-a-number broken.bib infos.bib one.bib
 run 'no commands of GitHub' 0 '' lint --format github
 run_start 'a command for three lines' 1 '::error file=circle.bib,line=1,endLine=3,title=circular-reference::' lint --format github --only circular-reference circle.bib
 run 'a file name in a command' 1 "$(commands_of 'a "b"%2C&%25%3A.bib')"$'\n' lint --format github 'a "b",&%:.bib'
@@ -272,7 +272,7 @@ run 'elements of Checkstyle' 1 '<?xml version="1.0" encoding="utf-8"?>
     <error line="1" column="48" severity="info" message="field owner of another program, 1 time" source="bibkit.foreign-field"/>
   </file>
 </checkstyle>
-' lint --format checkstyle --ignore not-a-number 'a "b",&%:.bib' broken.bib infos.bib
+' lint --each --format checkstyle --ignore not-a-number 'a "b",&%:.bib' broken.bib infos.bib
 run 'no elements of Checkstyle' 0 '<?xml version="1.0" encoding="utf-8"?>
 <checkstyle version="4.3">
 </checkstyle>
@@ -329,7 +329,7 @@ for result in run["results"]:
 assert found == json.loads(sys.argv[2]), found
 PY
 version=$("$program" --version)
-"$program" lint --format sarif --ignore not-a-number 'a "b",&%:.bib' broken.bib infos.bib >output
+"$program" lint --each --format sarif --ignore not-a-number 'a "b",&%:.bib' broken.bib infos.bib >output
 holds 'a log in SARIF' python3 sarif.py "$version" '[
     ["missing-field", "warning", "a%20%22b%22%2C%26%25%3A.bib", 1, 10, 1, 14, "test: missing title"],
     ["missing-field", "warning", "a%20%22b%22%2C%26%25%3A.bib", 1, 10, 1, 14, "test: missing journaltitle"],
@@ -414,6 +414,179 @@ printf '@Control{biblatex-control,\n  options = {3.10:0},\n}\n' >control-blx.bib
 run 'the entry of BibLaTeX' 1 $'control.aux:1:1: error: no file has an entry "biblatex-control" [missing-entry]\nerrors: 1, warnings: 0\n' lint --only missing-entry --cited control.aux two.bib
 run 'the entry of BibLaTeX, and its file' 0 $'errors: 0, warnings: 0\n' lint --only missing-entry --cited control.aux two.bib control-blx.bib
 run 'a document that is not there' 2 '' lint --cited no.aux two.bib
+
+# lint takes several files as one database: entries and definitions of all files count in the order of the files, each file is read by itself,
+# and each finding has the name of its file and its position there; with --each, each file is a database
+clean=$'errors: 0, warnings: 0\n'
+printf '@string{jsl = {Journal}}\n' >def.bib
+printf '@article{x, author={B}, title={X}, journal=jsl, year={2001}}\n' >use.bib
+undefined=$'use.bib:1:44: warning: unknown abbreviation "jsl" [unknown-abbreviation]\nerrors: 0, warnings: 1\n'
+run 'a definition in the file before' 0 "$clean" lint def.bib use.bib
+run 'a definition in the file after' 0 "$clean" lint use.bib def.bib
+run 'a definition in two files' 0 "$clean" lint def.bib use.bib def.bib
+run 'a definition in a file, and one file alone' 1 "$undefined" lint use.bib
+run 'a definition in a file, and each file by itself' 1 "$undefined" lint --each def.bib use.bib
+run 'one file by itself' 1 "$undefined" lint --each use.bib
+printf '@misc{k, title={One}, year={2001}}\n' >key1.bib
+printf '%% the second k\n@misc{k, title={Two}, year={2002}}\n' >key2.bib
+second=$'key2.bib:2:1: error: duplicate key "k" [duplicate-key]\nerrors: 1, warnings: 0\n'
+run 'a key in two files' 1 "$second" lint key1.bib key2.bib
+run 'a key in two files, in the other order' 1 $'key1.bib:1:1: error: duplicate key "k" [duplicate-key]\nerrors: 1, warnings: 0\n' lint key2.bib key1.bib
+run 'a key in two files, and each file by itself' 0 "$clean" lint --each key1.bib key2.bib
+run 'a file that is named twice' 1 $'key1.bib:1:1: error: duplicate key "k" [duplicate-key]\nerrors: 1, warnings: 0\n' lint key1.bib key1.bib
+: >void.bib
+run 'a key in two files after and between empty ones' 1 "$second" lint void.bib key1.bib void.bib key2.bib
+run 'two empty files' 0 "$clean" lint void.bib void.bib
+cp key2.bib input
+run 'a key in a file and in standard input' 1 "${second//key2.bib/-}" lint key1.bib -
+run 'a key in a file and in standard input under a name' 1 "${second//key2.bib/draft.bib}" lint --stdin-filename draft.bib key1.bib -
+: >input
+run 'a key in two files beside one that is not there' 2 "$second" lint key1.bib no.bib key2.bib
+holds 'a key in two files: the file that is not there is named' grep -qx 'bibkit: no.bib: there is no such file' messages
+run 'a file that is not there beside one' 2 "$clean" lint no.bib key1.bib
+run 'a command for the second of two files' 1 $'::error file=key2.bib,line=2,endLine=2,col=1,endColumn=34,title=duplicate-key::duplicate key "k"\n' \
+    lint --format github key1.bib key2.bib
+"$program" lint --format sarif key1.bib key2.bib >output
+holds 'a log in SARIF for the second of two files' python3 sarif.py "$version" '[["duplicate-key", "error", "key2.bib", 2, 1, 2, 34, "duplicate key \"k\""]]'
+run 'a finding about an entry of another file, which is selected' 1 "$second" lint --where 'year = 2001' key1.bib key2.bib
+run 'no entry is tested that an earlier file makes a duplicate' 0 "$clean" lint --where 'year = 2002' key1.bib key2.bib
+printf '@misc{i, ids={k}, title={Three}, year={2003}}\n' >ids.bib
+run 'a key that is in ids of the file before' 1 "$second" lint ids.bib key2.bib
+run 'a key that is in ids of the file after' 0 "$clean" lint key1.bib ids.bib
+printf '@misc{K, title={Four}, year={2004}}\n' >upper.bib
+run 'a key in another case in another file' 1 $'upper.bib:1:7: warning: K: key differs from `k` only in case [key-case]\nerrors: 0, warnings: 1\n' lint key1.bib upper.bib
+printf '@book{w1, author={Ann Bell}, title={T}, year={1999}}\n' >work1.bib
+printf '@book{w2, author={Ann Bell}, title={T}, year={1999}}\n' >work2.bib
+likely=$'work2.bib:1:7: warning: w2: likely the same as "w1" [likely-duplicate]\nerrors: 0, warnings: 1\n'
+run 'a work in two files' 1 "$likely" lint work1.bib work2.bib
+run 'a work in two files, and the entry of the first is selected' 1 "$likely" lint --where 'key = w1' work1.bib work2.bib
+run 'a work in two files, and each file by itself' 0 "$clean" lint --each work1.bib work2.bib
+
+# a reference to an entry of another file, and fields that are inherited from it
+printf '@misc{m, title={M}, year={2000}, related={k, gone}}\n' >named.bib
+gone=$'named.bib:1:34: warning: m: no entry "gone" (related) [unknown-reference]\n'
+run 'references to another file and to no file' 1 "$gone"$'errors: 0, warnings: 1\n' lint named.bib key1.bib
+run 'references to another file, and each file by itself' 1 $'named.bib:1:34: warning: m: no entry "k" (related) [unknown-reference]\n'"$gone"$'errors: 0, warnings: 2\n' \
+    lint --each named.bib key1.bib
+printf '@incollection{c, author={C}, title={T}, crossref={par}}\n' >kid.bib
+printf '@collection{par, editor={E}, title={P}, year={2000}}\n' >par.bib
+early=$'kid.bib:1:41: info: c: the parent `par` comes first; BibTeX finds it only if it is cited too [early-parent]\n'
+run 'required fields from the file after' 0 "$clean" lint kid.bib par.bib
+run 'required fields from the file before' 0 "$early"$'errors: 0, warnings: 0, info: 1\n' lint par.bib kid.bib
+run 'required fields from another file, and each file by itself' 1 'kid.bib:1:15: warning: c: missing editor [missing-field]
+kid.bib:1:15: warning: c: missing booktitle [missing-field]
+kid.bib:1:15: warning: c: missing year [missing-field]
+kid.bib:1:41: warning: c: no entry "par" (crossref) [unknown-reference]
+errors: 0, warnings: 4
+' lint --each kid.bib par.bib
+printf '@incollection{c, author={C}, title={T}, crossref={par}, note2={x}}\n' >kid2.bib
+run 'an entry that inherits the field of a condition from another file' 1 $'kid2.bib:1:57: warning: c: unknown field `note2` [unknown-field]\nerrors: 0, warnings: 1\n' \
+    lint --where 'type = incollection and year = 2000' kid2.bib par.bib
+run 'an entry that inherits nothing, because each file is by itself' 0 "$clean" lint --each --where 'type = incollection and year = 2000' kid2.bib par.bib
+printf '@collection{par, editor={E}' >cutpar.bib
+run 'required fields from an entry of another file, which is cut' 1 $'cutpar.bib:1:28: error: par: expected comma [syntax]\nerrors: 1, warnings: 0\n' lint kid.bib cutpar.bib
+printf '@misc{l1, title={A}, year={2000}, crossref={l2}}\n' >loop1.bib
+printf '@misc{l2, title={B}, year={2001}, crossref={l1}}\n' >loop2.bib
+run 'a cycle through two files' 1 'loop1.bib:1:1: error: circular reference "l1" [circular-reference]
+loop2.bib:1:1: error: circular reference "l2" [circular-reference]
+loop2.bib:1:35: info: l2: the parent `l1` comes first; BibTeX finds it only if it is cited too [early-parent]
+errors: 2, warnings: 0, info: 1
+' lint loop1.bib loop2.bib
+
+# an error at the end of a file ends there: nothing of the next file is read as a part of the block
+printf '@misc{a, title={A}, year={2000}}\n@misc{b, title={B}' >end1.bib
+printf '@misc{c, title={C}, year={2002}}\n' >end2.bib
+ended=$'end1.bib:2:19: error: b: expected comma [syntax]\nerrors: 1, warnings: 0\n'
+run 'a block without an end in the first file' 1 "$ended" lint end1.bib end2.bib
+run 'a block without an end in the first file, and its entry is selected' 1 "$ended" lint --where 'key = b' end1.bib end2.bib
+run 'a block without an end in the first file, and an entry of the second is selected' 0 "$clean" lint --where 'key = c' end1.bib end2.bib
+run 'a block without an end in the last file' 1 "$ended" lint end2.bib end1.bib
+printf '@misc{b, title={B' >open1.bib
+printf '}, year={2001}}\n@misc{c, title={C}, year={2002}}\n' >open2.bib
+run 'an open brace in the first file, and a closing one in the second' 1 $'open1.bib:1:10: error: b: incomplete field; is a brace or a quote open? [syntax]\nerrors: 1, warnings: 0\n' \
+    lint open1.bib open2.bib
+printf '@misc{w, title={W}, year={2000}}\n@' >at1.bib
+printf 'misc{y, title={Y}}\n@misc{z, title={Z}, year={2001}}\n' >at2.bib
+run 'an at sign at the end of the first file' 1 $'at1.bib:2:1: error: a block without an end; is a brace or a quote open? [syntax]\nerrors: 1, warnings: 0\n' lint at1.bib at2.bib
+printf '@misc{s, title={S}, year={2000}}' >last1.bib
+printf 'year = {2001}\n@misc{t, title={T}, year={2002}}\n' >last2.bib
+run 'the text at the start of a file is not after the last entry of the file before' 0 "$clean" lint last1.bib last2.bib
+
+# positions in the second file
+printf '\xef\xbb\xbf@string{n = {N}}\r\n@misc{r,\r\n  title = {R},\r\n  note2 = n\r\n}\r\n' >crlf2.bib
+run 'positions in a second file with CR LF and a byte order mark' 1 $'crlf2.bib:2:7: warning: r: missing year [missing-field]\ncrlf2.bib:4:3: warning: r: unknown field `note2` [unknown-field]\nerrors: 0, warnings: 2\n' \
+    lint end2.bib crlf2.bib
+run 'a second file that is not UTF-8, and a third one' 1 $'latin.bib:1:17: error: not UTF-8 from here on, so the file is read as Windows-1252 [unread-bytes]\nlatin.bib:1:7: warning: a: missing year [missing-field]\n'"$lines_of_one"$'errors: 1, warnings: 4\n' \
+    lint end2.bib latin.bib one.bib
+printf '@string{j = {a $ b}}\n' >math1.bib
+printf '@misc{u, title=j, year={2000}}\n' >math2.bib
+run 'an error in the definition that another file uses' 1 $'math1.bib:1:19: error: unexpected end of file [unread-field]\nerrors: 1, warnings: 0\n' lint --only unread-field math2.bib math1.bib
+printf '@inbook{d, author={A}, title={T}, bookauthor={B}, crossref={p}}\n@book{p, author={A}, title={P}, year={}}\n' >noyear.bib
+"$program" lint --only unread-date end2.bib noyear.bib >output
+holds "a year of the second file that can't be read" prints 'noyear.bib:2:39: warning: '
+
+# fields of other programs are counted over all files
+printf '@misc{f1, title={A}, year={2000}, owner={me}, groups={x}}\n' >own1.bib
+printf '@misc{f2, title={B}, year={2001}, Owner={you}, timestamp={t}}\n@misc{f3, title={C}, year={2002}, owner={me}}\n' >own2.bib
+run 'fields of other programs in two files' 0 'own1.bib:1:35: info: field owner of another program, 3 times [foreign-field]
+own1.bib:1:47: info: field groups of another program, 1 time [foreign-field]
+own2.bib:1:48: info: field timestamp of another program, 1 time [foreign-field]
+errors: 0, warnings: 0, info: 3
+' lint own1.bib own2.bib
+run 'fields of other programs, and each file by itself' 0 'own1.bib:1:35: info: field owner of another program, 1 time [foreign-field]
+own1.bib:1:47: info: field groups of another program, 1 time [foreign-field]
+own2.bib:1:35: info: field Owner of another program, 2 times [foreign-field]
+own2.bib:1:48: info: field timestamp of another program, 1 time [foreign-field]
+errors: 0, warnings: 0, info: 4
+' lint --each own1.bib own2.bib
+
+# what a document cites of two files: entries that it doesn't cite are among the other findings of their file
+printf '@misc{p, title={P}}\n@misc{q, title={Q}, year={2001}}\n' >cite1.bib
+printf '@misc{r, title={R}, nofield={x}}\n' >cite2.bib
+printf '\\relax\n\\citation{q}\n\\citation{nokey}\n' >cites.aux
+of_cite1=$'cite1.bib:1:7: warning: p: missing year [missing-field]\ncite1.bib:1:7: warning: p: never cited [unused-entry]\n'
+no_year=$'cite2.bib:1:7: warning: r: missing year [missing-field]\n'
+not_cited=$'cite2.bib:1:7: warning: r: never cited [unused-entry]\n'
+no_field=$'cite2.bib:1:21: warning: r: unknown field `nofield` [unknown-field]\n'
+no_entry=$'cites.aux:3:1: error: no file has an entry "nokey" [missing-entry]\n'
+run 'citations of two files' 1 "$of_cite1$no_year$not_cited$no_field$no_entry"$'errors: 1, warnings: 5\n' lint --cited cites.aux --unused cite1.bib cite2.bib
+run 'citations, and each file by itself' 1 "$of_cite1$no_year$no_field$not_cited$no_entry"$'errors: 1, warnings: 5\n' lint --each --cited cites.aux --unused cite1.bib cite2.bib
+run 'citations of one file' 1 "$no_year$no_field$not_cited"$'cites.aux:2:1: error: no file has an entry "q" [missing-entry]\n'"$no_entry"$'errors: 2, warnings: 3\n' \
+    lint --cited cites.aux --unused cite2.bib
+run 'citations of two files, and a selected entry' 1 "$no_year$not_cited$no_field"$'errors: 0, warnings: 3\n' lint --cited cites.aux --unused --where 'key = r' cite1.bib cite2.bib
+run 'citations of two files, and no requested entries' 1 "${of_cite1%cite1.bib*}$no_year$no_field$no_entry"$'errors: 1, warnings: 3\n' lint --cited cites.aux cite1.bib cite2.bib
+run 'citations of two files in JSON' 1 '[
+{"file":"cite1.bib","line":1,"column":7,"end_line":1,"end_column":8,"severity":"warning","code":"missing-field","message":"p: missing year"},
+{"file":"cite1.bib","line":1,"column":7,"end_line":1,"end_column":8,"severity":"warning","code":"unused-entry","message":"p: never cited"},
+{"file":"cite2.bib","line":1,"column":7,"end_line":1,"end_column":8,"severity":"warning","code":"missing-field","message":"r: missing year"},
+{"file":"cite2.bib","line":1,"column":7,"end_line":1,"end_column":8,"severity":"warning","code":"unused-entry","message":"r: never cited"},
+{"file":"cite2.bib","line":1,"column":21,"end_line":1,"end_column":28,"severity":"warning","code":"unknown-field","message":"r: unknown field `nofield`"},
+{"file":"cites.aux","line":3,"column":1,"end_line":3,"end_column":1,"severity":"error","code":"missing-entry","message":"no file has an entry \"nokey\""}
+]
+' lint --format json --cited cites.aux --unused cite1.bib cite2.bib
+run 'citations of two files and of one without findings, in Checkstyle' 1 '<?xml version="1.0" encoding="utf-8"?>
+<checkstyle version="4.3">
+  <file name="cite1.bib">
+    <error line="1" column="7" severity="warning" message="p: missing year" source="bibkit.missing-field"/>
+    <error line="1" column="7" severity="warning" message="p: never cited" source="bibkit.unused-entry"/>
+  </file>
+  <file name="cite2.bib">
+    <error line="1" column="7" severity="warning" message="r: missing year" source="bibkit.missing-field"/>
+    <error line="1" column="7" severity="warning" message="r: never cited" source="bibkit.unused-entry"/>
+    <error line="1" column="21" severity="warning" message="r: unknown field `nofield`" source="bibkit.unknown-field"/>
+  </file>
+  <file name="cites.aux">
+    <error line="3" column="1" severity="error" message="no file has an entry &quot;nokey&quot;" source="bibkit.missing-entry"/>
+  </file>
+</checkstyle>
+' lint --format checkstyle --cited cites.aux --unused cite1.bib def.bib cite2.bib
+run 'an entry of a second file that is a duplicate and never cited' 1 'key1.bib:1:7: warning: k: never cited [unused-entry]
+key2.bib:2:1: error: duplicate key "k" [duplicate-key]
+key2.bib:2:7: warning: k: never cited [unused-entry]
+child.aux:1:1: error: no file has an entry "c" [missing-entry]
+errors: 2, warnings: 2
+' lint --cited child.aux --unused key1.bib key2.bib
+run 'a document that is not there, and two files' 2 '' lint --cited no.aux key1.bib key2.bib
 
 # statistics
 "$program" stats two.bib >output
@@ -1034,6 +1207,9 @@ for i in $(seq 1 100); do
 done
 run 'a hundred files' 0 "$want" keys "${names[@]}"
 run_messages 'no progress on a file' 0 '' keys "${names[@]}"
+want=''
+for i in $(seq 1 100); do want+="many$i.bib:1:7: warning: k$i: missing year [missing-field]"$'\n'; done
+run 'findings of a hundred files' 1 "$want"$'errors: 0, warnings: 100\n' lint "${names[@]}"
 
 # settings of a project
 mkdir -p project/deep/er
@@ -1042,6 +1218,8 @@ cp one.bib project/one.bib
 printf 'ignore = ["missing-field"]\n' >project/bibkit.toml
 run 'settings beside a file' 0 $'errors: 0, warnings: 0\n' lint project/one.bib
 run 'settings above a file' 0 $'errors: 0, warnings: 0\n' lint project/deep/er/one.bib
+run 'settings of the first of two files' 1 $'one.bib:1:1: error: duplicate key "test" [duplicate-key]\nerrors: 1, warnings: 0\n' lint project/one.bib one.bib
+run 'no settings of the second of two files' 1 "$lines_of_one"$'project/one.bib:1:1: error: duplicate key "test" [duplicate-key]\nerrors: 1, warnings: 3\n' lint one.bib project/one.bib
 run 'the command line wins' 1 "$lines_of_one"$'errors: 0, warnings: 3\n' lint --ignore syntax one.bib
 (cd project && "$program" lint <one.bib >../output)
 count 'settings of the current folder' $? 0 $'errors: 0, warnings: 0\n'
@@ -1069,6 +1247,39 @@ holds 'the severities are named' messages_have 'expected "error", "warning", "in
 printf 'fail-on = "error"\nformat = "github"\n' >project/bibkit.toml
 run 'a severity and a format of settings' 0 "$(commands_of project/one.bib)"$'\n' lint project/one.bib
 run 'a severity of the command line wins' 1 "$(commands_of project/one.bib)"$'\n' lint --fail-on warning project/one.bib
+# names of the project's own style
+printf '@Whatever{k, noField = {x}, title = acm}\n@other{l, nofield2 = {x}, title = ieee}\n' >project/own.bib
+unknown='unknown-field,unknown-type,unknown-abbreviation'
+own_fields=$'project/own.bib:1:14: warning: k: unknown field `noField` [unknown-field]\n'
+own_types=$'project/own.bib:1:2: warning: k: unknown entry type `Whatever` [unknown-type]\n'
+own_abbreviations=$'project/own.bib:1:37: warning: unknown abbreviation "acm" [unknown-abbreviation]\n'
+others=$'project/own.bib:2:2: warning: l: unknown entry type `other` [unknown-type]\nproject/own.bib:2:11: warning: l: unknown field `nofield2` [unknown-field]\nproject/own.bib:2:35: warning: unknown abbreviation "ieee" [unknown-abbreviation]\n'
+printf '[own]\nfields = []\n' >project/bibkit.toml
+run 'unknown names' 1 "$own_types$own_fields$own_abbreviations$others"$'errors: 0, warnings: 6\n' lint --only "$unknown" project/own.bib
+printf '[own]\nfields = ["title2", "NOFIELD"]\n' >project/bibkit.toml
+run 'own fields' 1 "$own_types$own_abbreviations$others"$'errors: 0, warnings: 5\n' lint --only "$unknown" project/own.bib
+printf '[own]\ntypes = ["whatever"]\n' >project/bibkit.toml
+run 'own entry types' 1 "$own_fields$own_abbreviations$others"$'errors: 0, warnings: 5\n' lint --only "$unknown" project/own.bib
+printf '[own]\nabbreviations = ["ACM"]\n' >project/bibkit.toml
+run 'own abbreviations' 1 "$own_types$own_fields$others"$'errors: 0, warnings: 5\n' lint --only "$unknown" project/own.bib
+printf '[own]\nfields = ["whatever", "acm"]\ntypes = ["nofield", "acm"]\nabbreviations = ["whatever", "nofield"]\n' >project/bibkit.toml
+run 'own names of another kind' 1 "$own_types$own_fields$own_abbreviations$others"$'errors: 0, warnings: 6\n' lint --only "$unknown" project/own.bib
+printf '[own]\nfields = ["nofield", "nofield2"]\ntypes = ["whatever", "other"]\nabbreviations = ["acm", "ieee"]\n' >project/bibkit.toml
+run 'own names of two files' 0 $'errors: 0, warnings: 0\n' lint --only "$unknown" project/own.bib one.bib
+while IFS='|' read -r key value wanted; do
+    printf '[own]\n%s = %s\n' "$key" "$value" >project/bibkit.toml
+    run "wrong own names, $key = $value" 2 '' lint project/one.bib
+    holds "wrong own names, $key = $value: what is said" messages_have "project/bibkit.toml: $wanted"
+done <<'ROWS'
+fields|"note2"|expected a list of field names for `own.fields`
+fields|[1]|expected a list of field names for `own.fields`
+types|true|expected a list of entry types for `own.types`
+abbreviations|["a", 2]|expected a list of abbreviations for `own.abbreviations`
+field|["note2"]|unknown setting `own.field`
+ROWS
+printf 'own = ["note2"]\n' >project/bibkit.toml
+run 'own names that are no table' 2 '' lint project/one.bib
+holds 'own names that are no table: what is said' messages_have 'project/bibkit.toml: expected a table for `own`'
 printf 'colour = "always"\n' >project/bibkit.toml
 run 'an unknown setting' 2 '' lint project/one.bib
 holds 'an unknown setting is named' messages_have 'unknown setting `colour`'
@@ -1165,7 +1376,7 @@ holds 'a style that is no table: what is said' messages_have 'styled/bibkit.toml
 printf 'indent = 4\n' >styled/bibkit.toml
 run 'a setting of no table' 2 '' fmt styled/a.bib
 holds 'a setting of no table: what is said' messages_have 'styled/bibkit.toml: unknown setting `indent`'
-printf 'ignore = ["unknown-field"]\nonly = ["no-code"]\ncolor = "never"\nformat = "text"\nfail-on = "none"\n' >styled/bibkit.toml
+printf 'ignore = ["unknown-field"]\nonly = ["no-code"]\ncolor = "never"\nformat = "text"\nfail-on = "none"\n[own]\nfields = 1\n' >styled/bibkit.toml
 run 'fmt passes over settings of lint' 0 "$(cat usual.bib)"$'\n' fmt styled/a.bib
 printf '[fmt]\nindent = 9\n' >styled/bibkit.toml
 run 'edits read no settings' 0 $'@book{a,\n    title = {X},\n    year  = {2000}\n}\n' set a year=2000 -f styled/a.bib
@@ -1179,6 +1390,11 @@ want="${bold}broken.bib:3:1:$plain ${red}error:$plain c: expected comma [syntax]
 errors: 1, warnings: 0
 "
 run 'colours' 1 "$want" lint --only syntax --color always broken.bib
+run 'colours for the second of two files' 1 "${bold}key2.bib:2:1:$plain ${red}error:$plain duplicate key \"k\" [duplicate-key]
+  @misc{k, title={Two}, year={2002}}
+  $green^$plain
+errors: 1, warnings: 0
+" lint --color always key1.bib key2.bib
 frame="  @article{test, author={A}}
            $green^$plain
 "
@@ -1797,6 +2013,7 @@ in_bash 'bibkit edit --re' $'--rename\n'
 in_bash 'bibkit keys --' $'--where\n--help\n'
 in_bash 'bibkit get --' $'--where\n--help\n'
 in_bash 'bibkit lint --wh' $'--where\n'
+in_bash 'bibkit lint --ea' $'--each\n'
 in_bash 'bibkit rekey --m' $'--map\n'
 in_bash 'bibkit convert --to ' $'csl\njson\nris\nbiblatex\nbibtex\n'
 in_bash 'bibkit set --wr' $'--write\n'

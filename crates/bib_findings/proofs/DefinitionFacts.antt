@@ -11,7 +11,7 @@ use Rattle.bib_syntax.specs.Views.{field_of, piece_of}
 use Rattle.bib_syntax.specs.declared.raw.Pair.{Pair}
 use Rattle.bib_syntax.specs.declared.raw.RawChunk.{RawChunk}
 use Rattle.bib_findings.specs.Counted.{lowercase_name}
-use Rattle.bib_findings.specs.Definitions.{are_same_pieces, is_same_piece}
+use Rattle.bib_findings.specs.Definitions.{are_equal_pieces, is_equal_piece}
 use Rattle.bib_findings.specs.LastDefinitions.{AreLastDefinitions, read_definition}
 use Rattle.bib_findings.proofs.SeenFacts.{from_index}
 
@@ -20,16 +20,16 @@ and_false true c fails = fails
 and_false false c fails = refl
 
 -- values with different numbers of pieces don't have the same pieces
-different_lengths : (pieces others : List Piece) → (length pieces ≡ length others → ⊥) → are_same_pieces pieces others ≡ false
+different_lengths : (pieces others : List Piece) → (length pieces ≡ length others → ⊥) → are_equal_pieces pieces others ≡ false
 different_lengths [] [] other = absurd (other refl)
 different_lengths [] (q ∷ others) other = refl
 different_lengths (p ∷ pieces) [] other = refl
 different_lengths (p ∷ pieces) (q ∷ others) other =
-    and_false (is_same_piece p q) (are_same_pieces pieces others) (different_lengths pieces others (λ same. other (ap suc same)))
+    and_false (is_equal_piece p q) (are_equal_pieces pieces others) (different_lengths pieces others (λ same. other (ap suc same)))
 
 -- values with different numbers of raw pieces don't have the same pieces
 pub different_counts : (one other : List (Spanned RawChunk)) → (length one ≡ length other → ⊥)
-    → are_same_pieces (map piece_of one) (map piece_of other) ≡ false
+    → are_equal_pieces (map piece_of one) (map piece_of other) ≡ false
 different_counts one other differ =
     different_lengths (map piece_of one) (map piece_of other)
     (λ same. differ (sym (length-map one piece_of) ∙ same ∙ length-map other piece_of))
@@ -37,46 +37,46 @@ different_counts one other differ =
 -- values have the same pieces from an index on if the pieces there are the same, and those after it
 pub pieces_next : (one other : List (Spanned RawChunk)) (index : ℕ) (p q : Spanned RawChunk) → index < length one
     → index < length other → p ≡ get_or one index p → q ≡ get_or other index q
-    → are_same_pieces (map piece_of (drop index one)) (map piece_of (drop index other))
-    ≡ (is_same_piece (piece_of p) (piece_of q)
-    && are_same_pieces (map piece_of (drop (index + 1) one)) (map piece_of (drop (index + 1) other)))
+    → are_equal_pieces (map piece_of (drop index one)) (map piece_of (drop index other))
+    ≡ (is_equal_piece (piece_of p) (piece_of q)
+    && are_equal_pieces (map piece_of (drop (index + 1) one)) (map piece_of (drop (index + 1) other)))
 pieces_next one other index p q within within' p_is q_is =
-    ap₂ (λ l m. are_same_pieces (map piece_of l) (map piece_of m))
+    ap₂ (λ l m. are_equal_pieces (map piece_of l) (map piece_of m))
     (from_index one index p within ∙ ap (λ x. x ∷ drop (index + 1) one) (sym p_is))
     (from_index other index q within' ∙ ap (λ x. x ∷ drop (index + 1) other) (sym q_is))
 
 -- values don't have the same pieces if the pieces at an index differ
 pub pieces_differ : (one other : List (Spanned RawChunk)) (index : ℕ) (p q : Spanned RawChunk) (same : Bool) → index < length one
     → index < length other → p ≡ get_or one index p → q ≡ get_or other index q
-    → are_same_pieces (map piece_of (drop index one)) (map piece_of (drop index other))
-    ≡ are_same_pieces (map piece_of one) (map piece_of other)
-    → same ≡ is_same_piece (piece_of p) (piece_of q) → same ≡ false
-    → are_same_pieces (map piece_of one) (map piece_of other) ≡ false
+    → are_equal_pieces (map piece_of (drop index one)) (map piece_of (drop index other))
+    ≡ are_equal_pieces (map piece_of one) (map piece_of other)
+    → same ≡ is_equal_piece (piece_of p) (piece_of q) → same ≡ false
+    → are_equal_pieces (map piece_of one) (map piece_of other) ≡ false
 pieces_differ one other index p q same within within' p_is q_is so_far is differ =
     sym so_far ∙ pieces_next one other index p q within within' p_is q_is
-    ∙ ap (λ b. b && are_same_pieces (map piece_of (drop (index + 1) one)) (map piece_of (drop (index + 1) other))) (sym is ∙ differ)
+    ∙ ap (λ b. b && are_equal_pieces (map piece_of (drop (index + 1) one)) (map piece_of (drop (index + 1) other))) (sym is ∙ differ)
 
 -- values have the same pieces if the pieces after an index are the same, and those at it and before it are
 pub pieces_same : (one other : List (Spanned RawChunk)) (index : ℕ) (p q : Spanned RawChunk) (same : Bool) → index < length one
     → index < length other → p ≡ get_or one index p → q ≡ get_or other index q
-    → are_same_pieces (map piece_of (drop index one)) (map piece_of (drop index other))
-    ≡ are_same_pieces (map piece_of one) (map piece_of other)
-    → same ≡ is_same_piece (piece_of p) (piece_of q) → same ≡ true
-    → are_same_pieces (map piece_of (drop (index + 1) one)) (map piece_of (drop (index + 1) other))
-    ≡ are_same_pieces (map piece_of one) (map piece_of other)
+    → are_equal_pieces (map piece_of (drop index one)) (map piece_of (drop index other))
+    ≡ are_equal_pieces (map piece_of one) (map piece_of other)
+    → same ≡ is_equal_piece (piece_of p) (piece_of q) → same ≡ true
+    → are_equal_pieces (map piece_of (drop (index + 1) one)) (map piece_of (drop (index + 1) other))
+    ≡ are_equal_pieces (map piece_of one) (map piece_of other)
 pieces_same one other index p q same within within' p_is q_is so_far is equal =
     sym
     (pieces_next one other index p q within within' p_is q_is
-    ∙ ap (λ b. b && are_same_pieces (map piece_of (drop (index + 1) one)) (map piece_of (drop (index + 1) other))) (sym is ∙ equal))
+    ∙ ap (λ b. b && are_equal_pieces (map piece_of (drop (index + 1) one)) (map piece_of (drop (index + 1) other))) (sym is ∙ equal))
     ∙ so_far
 
 -- values have the same pieces if all their pieces were compared
 pub pieces_end : (one other : List (Spanned RawChunk)) (index : ℕ) → length one ≤ index → length other ≤ index
-    → are_same_pieces (map piece_of (drop index one)) (map piece_of (drop index other))
-    ≡ are_same_pieces (map piece_of one) (map piece_of other)
-    → are_same_pieces (map piece_of one) (map piece_of other) ≡ true
+    → are_equal_pieces (map piece_of (drop index one)) (map piece_of (drop index other))
+    ≡ are_equal_pieces (map piece_of one) (map piece_of other)
+    → are_equal_pieces (map piece_of one) (map piece_of other) ≡ true
 pieces_end one other index past past' so_far =
-    sym so_far ∙ ap₂ (λ l m. are_same_pieces (map piece_of l) (map piece_of m)) (drop_all index one past) (drop_all index other past')
+    sym so_far ∙ ap₂ (λ l m. are_equal_pieces (map piece_of l) (map piece_of m)) (drop_all index one past) (drop_all index other past')
 
 -- storing a definition under its name in lowercase extends the last definitions by it
 pub lasts_more : (old new : List ℕ → Option (Bor Pair)) (earlier : List FieldReading) (definition : Bor Pair) (stored : List ℕ)

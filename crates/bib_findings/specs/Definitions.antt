@@ -13,26 +13,26 @@ use Rattle.bib_findings.specs.declared.codes.Code.TheVariants.{RepeatedDefinitio
 use Rattle.bib_findings.specs.declared.finding.Finding.{Finding}
 
 -- whether two pieces are two literals or two abbreviations, with one text
-abbrev pub is_same_piece : Piece → Piece → Bool
-is_same_piece (literal p) (literal q) = bytes_eq p.text q.text
-is_same_piece (literal p) (abbreviation q) = false
-is_same_piece (abbreviation p) (literal q) = false
-is_same_piece (abbreviation p) (abbreviation q) = bytes_eq p.text q.text
+abbrev pub is_equal_piece : Piece → Piece → Bool
+is_equal_piece (literal p) (literal q) = bytes_eq p.text q.text
+is_equal_piece (literal p) (abbreviation q) = false
+is_equal_piece (abbreviation p) (literal q) = false
+is_equal_piece (abbreviation p) (abbreviation q) = bytes_eq p.text q.text
 
 -- whether two values have the same pieces; white space between pieces and the form of a literal (braces or quotes) don't count
-abbrev pub are_same_pieces : List Piece → List Piece → Bool
-are_same_pieces [] [] = true
-are_same_pieces [] (q ∷ others) = false
-are_same_pieces (p ∷ pieces) [] = false
-are_same_pieces (p ∷ pieces) (q ∷ others) = is_same_piece p q && are_same_pieces pieces others
+abbrev pub are_equal_pieces : List Piece → List Piece → Bool
+are_equal_pieces [] [] = true
+are_equal_pieces [] (q ∷ others) = false
+are_equal_pieces (p ∷ pieces) [] = false
+are_equal_pieces (p ∷ pieces) (q ∷ others) = is_equal_piece p q && are_equal_pieces pieces others
 
 -- whether two definitions have different values
 abbrev pub have_other_values : FieldReading → FieldReading → Bool
-have_other_values f g = not (are_same_pieces f.value.pieces g.value.pieces)
+have_other_values f g = not (are_equal_pieces f.value.pieces g.value.pieces)
 
 -- the last earlier definition of the same abbreviation, in any ASCII case
-abbrev pub last_definition : List FieldReading → FieldReading → Option FieldReading
-last_definition earlier f = find (have_one_name f) (reverse earlier)
+abbrev pub definition_before : List FieldReading → FieldReading → Option FieldReading
+definition_before earlier f = find (have_one_name f) (reverse earlier)
 
 -- the message about a definition of an abbreviation that has this name
 abbrev pub definition_message : List ℕ → List ℕ
@@ -49,7 +49,7 @@ finding_after last f = if option_map_or (have_other_values f) last false then de
 
 -- the finding of a definition after these earlier ones
 abbrev pub definition_after : List FieldReading → FieldReading → List Finding
-definition_after earlier f = finding_after (last_definition earlier f) f
+definition_after earlier f = finding_after (definition_before earlier f) f
 
 -- the findings of the definitions of a file, in order
 abbrev pub definition_findings : List FieldReading → List Finding

@@ -1,6 +1,6 @@
 -- Meaning: words of public contracts.
--- The findings of URLs without a scheme. A URL begins with a scheme and a colon (RFC 3986, sections 3 and 3.1). Without them it is a relative
--- reference (section 4.2): BibLaTeX makes a link of it that viewers take for the name of a file.
+-- The findings of URLs without a scheme. A URL begins with a scheme and a colon (RFC 3986, sections 3 and 3.1). Without them it is a
+-- relative reference (section 4.2): BibLaTeX makes a link of it that viewers take for the name of a file.
 use Rattle.std.specs.Prelude.{ℕ, Bool, false, not, ◌==◌, ◌&&◌, ◌||◌, List, [], ◌∷◌, codes, if◌then◌else◌, length}
 use Rattle.std.specs.Char.{is_ascii_alphabetic, is_ascii_alphanumeric, is_ascii_whitespace}
 use Rattle.std.specs.List.{list_any}

@@ -36,7 +36,7 @@ pub enum Code {
     Syntax,
     /// A field whose value can't be parsed. It is removed.
     UnreadField,
-    /// A name that is neither an abbreviation of the file nor a month (`jan` to `dec`). It is parsed as text.
+    /// A name that is neither defined nor a month (`jan` to `dec`). It is parsed as text.
     UnknownAbbreviation,
     /// An abbreviation whose definition uses itself, directly or through others. Fields that use it are removed.
     CircularAbbreviation,
@@ -296,13 +296,13 @@ impl Code {
             Self::StrayField =>
                 "The text after the closing brace of an entry reads as a field. BibTeX and Biber ignore it, so the field is lost. Most often a value before this brace has a closing brace too many.",
             Self::UnknownReference =>
-                "The field `crossref`, `xdata`, `xref`, `related` or `entryset` names a key that no entry of the file has as its key or in `ids`. An entry with the code `duplicate-key` doesn't count, because it is left out. Nothing is inherited through this reference. Correct the key, or add the entry.",
+                "The field `crossref`, `xdata`, `xref`, `related` or `entryset` names a key that no entry has as its key or in `ids`. An entry with the code `duplicate-key` doesn't count, because it is left out. Nothing is inherited through this reference. Correct the key, or add the entry.",
             Self::LikelyDuplicate =>
                 "An earlier entry has the same DOI, the same ISBN of a whole book, or the same title, first person and year, and no volume, number, pages, chapter, part, edition or subtitle differs. Keep one of the two, and name the key of the other in its field `ids`.",
             Self::KeyCase =>
                 "The key equals the key of an earlier entry except for case. BibTeX reports a repeated entry and skips this one. Biber keeps both and warns of a typing error. Give one of them another key.",
             Self::EarlyParent =>
-                "The field `crossref` names an entry that comes earlier in the file. If the document doesn't cite this parent itself, BibTeX reports a bad cross reference, and the entry inherits nothing. Biber inherits as usual. `fmt --sort` puts children before their parents.",
+                "The field `crossref` names an earlier entry. If the document doesn't cite this parent itself, BibTeX reports a bad cross reference, and the entry inherits nothing. Biber inherits as usual. `fmt --sort` puts children before their parents.",
             Self::RepeatedDefinition =>
                 "An earlier `@string` defines the same abbreviation, in any case, with another value. BibTeX and Biber use the last definition before an entry, so the entries between the two have the earlier value. For all entries, this program uses the last definition whose name is written as in the entry. Remove one of the two definitions, or rename one of them.",
             Self::MissingEntry =>

@@ -19,8 +19,8 @@ use std::alloc::{AllocError, Global};
 use std::collections::BTreeMap;
 
 // Returns whether two pieces are two literals or two abbreviations, with one text.
-fn is_same_piece(one: &Spanned<RawChunk<'_>>, other: &Spanned<RawChunk<'_>>) -> bool
-    ensures { result ≡ spec.is_same_piece (piece_of one.now) (piece_of other.now) }
+fn is_equal_piece(one: &Spanned<RawChunk<'_>>, other: &Spanned<RawChunk<'_>>) -> bool
+    ensures { result ≡ spec.is_equal_piece (piece_of one.now) (piece_of other.now) }
 {
     match one.v {
         RawChunk::Normal(first) => match other.v {
@@ -35,14 +35,14 @@ fn is_same_piece(one: &Spanned<RawChunk<'_>>, other: &Spanned<RawChunk<'_>>) -> 
 }
 
 // Returns whether two values have the same pieces.
-fn are_same_pieces(one: &[Spanned<RawChunk<'_>>], other: &[Spanned<RawChunk<'_>>]) -> bool
-    ensures { result ≡ spec.are_same_pieces (map piece_of one.now) (map piece_of other.now) }
+fn are_equal_pieces(one: &[Spanned<RawChunk<'_>>], other: &[Spanned<RawChunk<'_>>]) -> bool
+    ensures { result ≡ spec.are_equal_pieces (map piece_of one.now) (map piece_of other.now) }
 {
     if one.len() != other.len() {
         return false;
     }
     'pieces: for (index, piece) in one.iter().enumerate() {
-        if !is_same_piece(piece, &other[index]) {
+        if !is_equal_piece(piece, &other[index]) {
             return false;
         }
     }
@@ -54,7 +54,7 @@ fn has_other_value(last: Option<&Pair<'_>>, definition: &Pair<'_>) -> bool
     ensures { result ≡ option_map_or (have_other_values (field_of definition.now)) (read_definition last.entry) false }
 {
     match last {
-        Some(last) => !are_same_pieces(definition.value.v.as_slice(), last.value.v.as_slice()),
+        Some(last) => !are_equal_pieces(definition.value.v.as_slice(), last.value.v.as_slice()),
         None => false,
     }
 }

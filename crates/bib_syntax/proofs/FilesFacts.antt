@@ -18,19 +18,30 @@ get_longer xs more i x is =
     let longer : i < length (xs ++ more) = omega (arith, within, length-append xs more) in
     slice_get-get_or (xs ++ more) i 0 longer ∙ ap Some (get_or-append xs more 0 i within ∙ get_or_from_slice_get xs i x 0 is)
 
--- files in a text are the same files if the text gets longer, and a file with a line feed after it is one more
+-- files in a text are the same files if the text gets longer, and a file with a percent sign and a line feed after it is one more
 pub one_more : (text file : List ℕ) (start : ℕ) (ends : List ℕ) → start ≤ length text → AreFiles text start ends
-    → AreFiles (text ++ (file ++ 10 ∷ [])) start (ends ++ (length text + length file) ∷ [])
-one_more text file start [] within is = (
-  omega (arith, within),
-  ap (λ xs. slice_get xs (length text + length file)) (sym (append_assoc text file (10 ∷ [])))
-      ∙ ap (slice_get ((text ++ file) ++ 10 ∷ [])) (sym (length-append text file)) ∙ get_here (text ++ file) 10 [],
-  _,
-)
+    → AreFiles (text ++ (file ++ 37 ∷ 10 ∷ [])) start (ends ++ (length text + length file) ∷ [])
+one_more text file start [] within is =
+    let whole = text ++ (file ++ 37 ∷ 10 ∷ []) in
+    let size = length-append text file in
+    let marks : (text ++ file) ++ 37 ∷ 10 ∷ [] ≡ whole = append_assoc text file (37 ∷ 10 ∷ []) in
+    let next : (text ++ (file ++ 37 ∷ [])) ++ 10 ∷ [] ≡ whole =
+    append_assoc text (file ++ 37 ∷ []) (10 ∷ []) ∙ ap (λ xs. text ++ xs) (append_assoc file (37 ∷ []) (10 ∷ [])) in
+    let past : length (text ++ (file ++ 37 ∷ [])) ≡ length text + length file + 1 =
+    length-append text (file ++ 37 ∷ []) ∙ ap (λ n. length text + n) (length-append file (37 ∷ []))
+    ∙ omega arith in (
+      omega (arith, within),
+      ap (λ xs. slice_get xs (length text + length file)) (sym marks) ∙ ap (slice_get ((text ++ file) ++ 37 ∷ 10 ∷ [])) (sym size)
+          ∙ get_here (text ++ file) 37 (10 ∷ []),
+      ap (λ xs. slice_get xs (length text + length file + 1)) (sym next)
+          ∙ ap (slice_get ((text ++ (file ++ 37 ∷ [])) ++ 10 ∷ [])) (sym past) ∙ get_here (text ++ (file ++ 37 ∷ [])) 10 [],
+      _,
+    )
 one_more text file start (end ∷ ends) within is = (
   is.0,
-  get_longer text (file ++ 10 ∷ []) end 10 is.1,
-  one_more text file (end + 1) ends (omega (arith, slice_get_within text end 10 is.1)) is.2,
+  get_longer text (file ++ 37 ∷ 10 ∷ []) end 37 is.1,
+  get_longer text (file ++ 37 ∷ 10 ∷ []) (end + 1) 10 is.2,
+  one_more text file (end + 2) ends (omega (arith, slice_get_within text (end + 1) 10 is.2)) is.3,
 )
 
 -- the files from an index on are the file there and those after it
@@ -54,19 +65,26 @@ drop_all (x ∷ xs) (suc n) all = drop_all xs n (omega (arith, all))
 -- files in a text are the same files if the text gets longer
 pub files_longer : (text more : List ℕ) (start : ℕ) (ends : List ℕ) → AreFiles text start ends → AreFiles (text ++ more) start ends
 files_longer text more start [] is = _
-files_longer text more start (end ∷ ends) is = (is.0, get_longer text more end 10 is.1, files_longer text more (end + 1) ends is.2)
+files_longer text more start (end ∷ ends) is = (
+  is.0,
+  get_longer text more end 37 is.1,
+  get_longer text more (end + 1) 10 is.2,
+  files_longer text more (end + 2) ends is.3,
+)
 
 -- a file ends at a character boundary
-pub end_boundary : (text : List ℕ) (end : ℕ) → slice_get text end ≡ Some 10 → IsCharBoundary text end
+pub end_boundary : (text : List ℕ) (end : ℕ) → slice_get text end ≡ Some 37 → IsCharBoundary text end
 end_boundary text end is =
-    let here : get_or text end 0 ≡ 10 = get_or_from_slice_get text end 10 0 is in
-    IsCharBoundary-before_ascii text end (slice_get_within text end 10 is) (omega (arith, here))
+    let here : get_or text end 0 ≡ 37 = get_or_from_slice_get text end 37 0 is in
+    IsCharBoundary-before_ascii text end (slice_get_within text end 37 is) (omega (arith, here))
 
 -- the next file begins at a character boundary
-pub next_boundary : (text : List ℕ) (end : ℕ) → IsUtf8 text → slice_get text end ≡ Some 10 → IsCharBoundary text (end + 1)
+pub next_boundary : (text : List ℕ) (end : ℕ) → IsUtf8 text → slice_get text (end + 1) ≡ Some 10 → IsCharBoundary text (end + 2)
 next_boundary text end utf8 is =
-    let here : get_or text end 0 ≡ 10 = get_or_from_slice_get text end 10 0 is in
-    IsCharBoundary-after_ascii text end utf8 (slice_get_within text end 10 is) (omega (arith, here))
+    let here : get_or text (end + 1) 0 ≡ 10 = get_or_from_slice_get text (end + 1) 10 0 is in
+    let next : end + 1 + 1 ≡ end + 2 = omega arith in
+    subst (IsCharBoundary text) next
+    (IsCharBoundary-after_ascii text (end + 1) utf8 (slice_get_within text (end + 1) 10 is) (omega (arith, here)))
 
 -- a boundary is one of the text up to a later offset, too
 pub boundary_cut : (text : List ℕ) (start end : ℕ) → end ≤ length text → start ≤ end → IsCharBoundary text start
@@ -84,5 +102,5 @@ boundary_cut text start end within ordered is =
 pub ends_within : (text : List ℕ) (start : ℕ) (ends : List ℕ) → AreFiles text start ends → (k d : ℕ) → k < length ends
     → get_or ends k d < length text
 ends_within text start [] are k d below = absurd (omega (arith, below))
-ends_within text start (end ∷ ends) are zero d below = slice_get_within text end 10 are.1
-ends_within text start (end ∷ ends) are (suc k) d below = ends_within text (end + 1) ends are.2 k d (omega (arith, below))
+ends_within text start (end ∷ ends) are zero d below = slice_get_within text end 37 are.1
+ends_within text start (end ∷ ends) are (suc k) d below = ends_within text (end + 2) ends are.3 k d (omega (arith, below))

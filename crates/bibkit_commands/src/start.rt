@@ -93,6 +93,7 @@ fn lint_request<'a>(
         words.is_each,
     );
     lint.conditions = conditions;
+    lint.own = project.own;
     Ok(Request::Lint(lint))
 }
 

@@ -50,7 +50,7 @@ pub files_more : {lint : Lint} (files : List StoredFile) (ends : List ℕ) (foun
     → AreFilesPrinted lint start (drop index files) (drop index ends) (drop first found) old.tally rest after
     → AreFilesPrinted lint 0 files ends found no_findings (string_bytes old.text ++ rest) after)
     → (rest : List ℕ) (after : Tally)
-    → AreFilesPrinted lint (get_or ends index 0 + 1) (drop (index + 1) files) (drop (index + 1) ends) (drop (first + count) found)
+    → AreFilesPrinted lint (get_or ends index 0 + 2) (drop (index + 1) files) (drop (index + 1) ends) (drop (first + count) found)
     new.tally rest after
     → AreFilesPrinted lint 0 files ends found no_findings (string_bytes new.text ++ rest) after
 files_more {lint} files ends found slice start first count index file {old} {new} in_files in_ends is counted sliced added before rest
@@ -59,9 +59,9 @@ files_more {lint} files ends found slice start first count index file {old} {new
     let left = drop first found in
     let here : IsStoredPrinted lint start file (take (count_to end left) left) old.tally added.text new.tally =
     subst (λ l. IsStoredPrinted lint start file l old.tally added.text new.tally) (sliced ∙ ap (λ n. take n left) counted) added.are in
-    let following : AreFilesPrinted lint (end + 1) (drop (index + 1) files) (drop (index + 1) ends) (drop (count_to end left) left)
+    let following : AreFilesPrinted lint (end + 2) (drop (index + 1) files) (drop (index + 1) ends) (drop (count_to end left) left)
     new.tally rest after =
-    subst (λ l. AreFilesPrinted lint (end + 1) (drop (index + 1) files) (drop (index + 1) ends) l new.tally rest after)
+    subst (λ l. AreFilesPrinted lint (end + 2) (drop (index + 1) files) (drop (index + 1) ends) l new.tally rest after)
     (sym (ap (λ n. drop n left) (sym counted) ∙ drop-drop count first found)) tail in
     let both : AreFilesPrinted lint start (file ∷ drop (index + 1) files) (end ∷ drop (index + 1) ends) left old.tally
     (added.text ++ rest) after = printed.next added.text rest here following in

@@ -19,6 +19,7 @@ use Rattle.bibkit_core.specs.Conditions.{AreReportedFindings, findings_of_no_ent
 use Rattle.bib_source.specs.declared.decoding.Decoded.{Decoded}
 use Rattle.bib_findings.specs.Findings.{AreFindings}
 use Rattle.bibkit_core.specs.declared.request.Lint.{Lint}
+use Rattle.bibkit_core.specs.OwnNames.{without_own}
 use Rattle.bibkit_core.specs.Linted.{IsPrintedKept, AreShown, ArePrinted, IsPrintedFile, tally_after, unread_findings}
 use Rattle.bibkit_core.specs.Linted.AreShown.{none, next}
 use Rattle.bibkit_core.specs.Regions.{region_at}
@@ -153,7 +154,8 @@ kept_added kept {a} {b} {c} first second = record {
 pub file_added : {lint : Lint} {name bytes : List ℕ} {decoded : Decoded} (found kept : List Finding) {a c : Printed}
     → AreFindings (string_bytes decoded.text) found
     → AreReportedFindings lint.conditions.items (string_bytes decoded.text) found kept
-    → IsAdded (IsPrintedKept lint name bytes decoded kept) a c → IsAdded (IsPrintedFile lint name bytes decoded) a c
+    → IsAdded (IsPrintedKept lint name bytes decoded (without_own lint.own kept)) a c
+    → IsAdded (IsPrintedFile lint name bytes decoded) a c
 file_added found kept are reported printed = record {
   text = printed.text;
   are = record { found = found; are = are; kept = kept; reported = reported; printed = printed.are };

@@ -12,6 +12,7 @@ use Rattle.bibkit_core.specs.Asked.{selected_findings}
 use Rattle.bibkit_core.specs.Compared.{missing_among, unused_findings}
 use Rattle.bibkit_core.specs.Conditions.{AreReportedAmong, findings_of_no_entry}
 use Rattle.bibkit_core.specs.Linted.{IsPrintedKept, ArePrinted}
+use Rattle.bibkit_core.specs.OwnNames.{without_own}
 use Rattle.bibkit_core.specs.Tasks.{AreDecoded, IsEndOfFindings, in_file, lint_status, opening}
 use Rattle.bibkit_core.specs.declared.cited.Document.{Document}
 use Rattle.bibkit_core.specs.declared.database.Database.{Database}
@@ -43,7 +44,9 @@ pub record AreOfDatabase (lint : Lint) (document : Option Document) (texts : Fil
   pub are : AreFindingsOf texts.text says skipped of_files
   pub found : List Finding
   pub sorted : AreSortedByPlace (of_files ++ unused_by document says.entries) found
-  pub reported : AreReportedAmong lint.conditions.items says skipped found kept
+  pub reported : List Finding
+  pub are_reported : AreReportedAmong lint.conditions.items says skipped found reported
+  pub kept_are : kept ≡ without_own lint.own reported
 
 -- a finding of a file that begins at this offset in the text of all files, with its span in the text of the file
 abbrev pub finding_in : ℕ → Finding → Finding
@@ -60,14 +63,15 @@ pub record IsStoredPrinted (lint : Lint) (start : ℕ) (file : StoredFile) (foun
   pub printed : IsPrintedKept lint (string_bytes file.name) file.bytes.items file.decoded (map (finding_in start) found) before first after
   pub is : text ≡ in_file lint.style (string_bytes file.name) first
 
--- `text` is the output for files, the first of which begins at `start`. Each ends at one of the offsets, and the next begins after that.
+-- `text` is the output for files, the first of which begins at `start`. Each ends at one of the offsets, and the next begins after the
+-- percent sign and the line feed at this offset.
 -- `found` has the reported findings in order of their places; those up to the end of a file are about this file.
 pub data AreFilesPrinted (lint : Lint) : ℕ → List StoredFile → List ℕ → List Finding → Tally → List ℕ → Tally → Type 0 where
   none : {start : ℕ} {found : List Finding} {tally : Tally} → AreFilesPrinted lint start [] [] found tally [] tally
   next : {start end : ℕ} {file : StoredFile} {files : List StoredFile} {ends : List ℕ} {found : List Finding}
       {before between after : Tally} (first rest : List ℕ)
       → IsStoredPrinted lint start file (take (count_to end found) found) before first between
-      → AreFilesPrinted lint (end + 1) files ends (drop (count_to end found) found) between rest after
+      → AreFilesPrinted lint (end + 2) files ends (drop (count_to end found) found) between rest after
       → AreFilesPrinted lint start (file ∷ files) (end ∷ ends) found before (first ++ rest) after
 
 -- `text` is the output for the citations of the document, if there is one, that are the names of no entry: at their positions in the

@@ -12,6 +12,7 @@ pub mod Linted
 pub mod Marks
 pub mod Objects
 pub mod Outcomes
+pub mod OwnNames
 pub mod Printed
 pub mod Regions
 pub mod Running

@@ -9,6 +9,7 @@ use Rattle.bib_findings.specs.declared.finding.Finding.{Finding}
 use Rattle.bibkit_core.specs.Asked.{selected_findings}
 use Rattle.bibkit_core.specs.Regions.{region_at}
 use Rattle.bibkit_core.specs.Conditions.{AreReportedFindings, findings_of_no_entry}
+use Rattle.bibkit_core.specs.OwnNames.{without_own}
 use Rattle.bibkit_core.specs.declared.request.Lint.{Lint}
 use Rattle.bibkit_core.specs.declared.request.Style.{Style}
 use Rattle.bibkit_core.specs.declared.tally.Tally.{Tally}
@@ -65,4 +66,4 @@ pub record IsPrintedFile (lint : Lint) (name bytes : List ℕ) (decoded : Decode
   pub are : AreFindings (string_bytes decoded.text) found
   pub kept : List Finding
   pub reported : AreReportedFindings lint.conditions.items (string_bytes decoded.text) found kept
-  pub printed : IsPrintedKept lint name bytes decoded kept before text after
+  pub printed : IsPrintedKept lint name bytes decoded (without_own lint.own kept) before text after

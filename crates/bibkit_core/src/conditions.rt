@@ -287,7 +287,7 @@ pub(crate) fn all_names<'s>(
 }
 
 // Returns the text after the first occurrence of `words`, or `None` without one.
-fn text_after<'m>(message: &'m str, words: &str) -> Option<&'m str>
+pub(crate) fn text_after<'m>(message: &'m str, words: &str) -> Option<&'m str>
     ensures { option_map (λ rest. rest.now) result ≡ text_after_part words.now message.now }
 {
     match message.split_once(words) {

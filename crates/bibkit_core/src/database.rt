@@ -13,6 +13,7 @@ use crate::conditions::{findings_of_no_entry, reported_among};
 use crate::decoding::decode_bytes;
 use crate::lint::{Origin, Printed, print_findings, print_kept};
 use crate::linting::{closing, in_file, lint_status, opening};
+use crate::own_names::without_own;
 use crate::request::Lint;
 use crate::tally::Tally;
 use crate::task::{End, Task};
@@ -121,7 +122,8 @@ fn find(
     let missing = missing_by(alloc, document, &recovery.raw.entries)?;
     found.append(&mut unused)?;
     let found = sorted_by_place(found)?;
-    let kept = reported_among(alloc, &lint.conditions, recovery, found)?;
+    let reported = reported_among(alloc, &lint.conditions, recovery, found)?;
+    let kept = without_own(alloc, &lint.own, reported)?;
     Ok(Found { kept, missing })
 }
 
@@ -222,7 +224,7 @@ fn print_files(
             &left[..count],
         )?;
         first += count;
-        start = end + 1;
+        start = end + 2;
     }
     Ok(printed)
 }

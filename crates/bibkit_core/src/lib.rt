@@ -36,6 +36,7 @@ mod lint_run;
 pub mod linting;
 mod messages;
 mod objects;
+pub mod own_names;
 mod regions;
 pub mod replacing;
 pub mod request;

@@ -15,6 +15,7 @@ use crate::conditions::{findings_of_no_entry, reported_findings};
 use crate::frames::framed_finding;
 use crate::lines::finding_line;
 use crate::objects::{object_element, object_line};
+use crate::own_names::without_own;
 use crate::regions::{Region, region_at};
 use crate::request::{Lint, Style};
 use crate::sarif::result_element;
@@ -185,7 +186,8 @@ pub fn print_file(
     ensures { OnOk result (IsAdded (IsPrintedFile lint.now origin.now.name.now origin.now.bytes.now decoded.now) printed.old printed.new) }
 {
     let found = findings(alloc, decoded.text.as_str())?;
-    let kept = reported_findings(alloc, &lint.conditions, decoded.text.as_str(), found)?;
+    let reported = reported_findings(alloc, &lint.conditions, decoded.text.as_str(), found)?;
+    let kept = without_own(alloc, &lint.own, reported)?;
     print_kept(alloc, printed, lint, origin, decoded, &kept)?;
     Ok(())
 }

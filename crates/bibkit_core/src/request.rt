@@ -1,5 +1,6 @@
 //! The requests that the program runs.
 
+use crate::own_names::OwnNames;
 use crate::selection::Selection;
 use bib_findings::codes::Code;
 use bib_queries::request::Request as Excerpts;
@@ -62,6 +63,8 @@ pub struct Lint<'a> {
     /// The conditions on entries. If there is one, only findings about entries whose key is that of an entry that meets all conditions
     /// are reported.
     pub conditions: Vec<Condition>,
+    /// The names that aren't reported as unknown, beside those of BibLaTeX.
+    pub own: OwnNames,
 }
 
 /// The conditions on entries of files, and the output for the entries that they select: those with the key of an entry that meets all

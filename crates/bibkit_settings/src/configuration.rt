@@ -3,6 +3,7 @@
 use crate::settings::{Color, OutputFormat, Settings, fail_on_named};
 use crate::style_settings::{StyleSettings, delimiters_named, width_of};
 use bib_findings::codes::Code;
+use bibkit_core::own_names::OwnNames;
 use edit_format::style::Delimiters;
 use edit_orders::order::Order;
 use std::alloc::{AllocError, AllocFailed, Global};
@@ -26,6 +27,8 @@ pub enum Reader {
 pub struct Project {
     /// The settings of `lint`.
     pub lint: Settings,
+    /// The names of the project's own style.
+    pub own: OwnNames,
     /// The settings of `fmt`, except the order of fields.
     pub style: StyleSettings<'static>,
     /// The order of fields: the names of the fields that come first, if that is set.
@@ -34,9 +37,10 @@ pub struct Project {
 
 impl Project {
     // Returns settings of which none is set.
-    fn none() -> Self {
+    fn none(alloc: Global) -> Self {
         Project {
             lint: Settings::none(),
+            own: OwnNames::none(alloc),
             style: StyleSettings::none(),
             order: None,
         }
@@ -178,24 +182,76 @@ fn delimiters(alloc: Global, value: &Value) -> Result<Option<Delimiters>, Config
     }
 }
 
-// Returns a field name from an element of `fmt.order`.
-fn field_name(alloc: Global, value: &Value) -> Result<String, ConfigurationError> {
+// Returns a name from an element of the setting `key`, which is to be `wanted`, such as a list of field names.
+fn listed_name(
+    alloc: Global,
+    key: &str,
+    wanted: &str,
+    value: &Value,
+) -> Result<String, ConfigurationError> {
     match value.as_str() {
         Some(name) => Ok(String::from_str(alloc, name)?),
-        None => wrong(alloc, "fmt.order", "a list of field names"),
+        None => wrong(alloc, key, wanted),
     }
 }
 
-// Returns the field names that `fmt.order` lists, as a setting.
-fn field_names(alloc: Global, value: &Value) -> Result<Option<Vec<String>>, ConfigurationError> {
+// Returns the names that the setting `key` lists, which is to be `wanted`, such as a list of field names.
+fn listed_names(
+    alloc: Global,
+    key: &str,
+    wanted: &str,
+    value: &Value,
+) -> Result<Vec<String>, ConfigurationError> {
     let Some(values) = value.as_array() else {
-        return wrong(alloc, "fmt.order", "a list of field names");
+        return wrong(alloc, key, wanted);
     };
     let mut names = Vec::new(alloc);
     'values: for value in values {
-        names.push(field_name(alloc, value)?)?;
+        names.push(listed_name(alloc, key, wanted, value)?)?;
     }
-    Ok(Some(names))
+    Ok(names)
+}
+
+// What settings that list names of fields are to be.
+const FIELD_NAMES: &str = "a list of field names";
+
+// Sets the setting with this key of the table `own`. Fails if the table has no such setting, or if the value is wrong for it.
+fn set_own(
+    alloc: Global,
+    own: &mut OwnNames,
+    key: &str,
+    value: &Value,
+) -> Result<(), ConfigurationError> {
+    match key {
+        "fields" => own.fields = listed_names(alloc, "own.fields", FIELD_NAMES, value)?,
+        "types" => {
+            own.types = listed_names(alloc, "own.types", "a list of entry types", value)?;
+        }
+        "abbreviations" => {
+            let wanted = "a list of abbreviations";
+            own.abbreviations = listed_names(alloc, "own.abbreviations", wanted, value)?;
+        }
+        _ => {
+            let key = format!(in alloc; "own.{key}")?;
+            return unknown(alloc, &key);
+        }
+    }
+    Ok(())
+}
+
+// Sets all settings of the table `own`.
+fn set_own_names(
+    alloc: Global,
+    own: &mut OwnNames,
+    value: &Value,
+) -> Result<(), ConfigurationError> {
+    let Some(table) = value.as_table() else {
+        return wrong(alloc, "own", "a table");
+    };
+    'keys: for (key, value) in table {
+        set_own(alloc, own, key.as_str(), value)?;
+    }
+    Ok(())
 }
 
 // Returns the width of `fmt.width`: an integer that isn't negative. 0 is no limit (`Some(None)`).
@@ -237,7 +293,7 @@ fn set_style(
         "delimiters" => settings.delimiters = delimiters(alloc, value)?,
         "width" => settings.width = width(alloc, value)?,
         "sort" => settings.sort = sort(alloc, value)?,
-        "order" => project.order = field_names(alloc, value)?,
+        "order" => project.order = Some(listed_names(alloc, "fmt.order", FIELD_NAMES, value)?),
         _ => {
             let key = format!(in alloc; "fmt.{key}")?;
             return unknown(alloc, &key);
@@ -272,8 +328,9 @@ fn set(
 ) -> Result<(), ConfigurationError> {
     match (reader, key) {
         (Reader::Lint, "fmt") => Ok(()),
+        (Reader::Lint, "own") => set_own_names(alloc, &mut project.own, value),
         (Reader::Lint, _) => set_lint(alloc, &mut project.lint, key, value),
-        (Reader::Fmt, "only" | "ignore" | "color" | "format" | "fail-on") => Ok(()),
+        (Reader::Fmt, "only" | "ignore" | "color" | "format" | "fail-on" | "own") => Ok(()),
         (Reader::Fmt, "fmt") => set_styles(alloc, project, value),
         (Reader::Fmt, _) => unknown(alloc, key),
     }
@@ -285,7 +342,7 @@ fn settings_of(
     reader: Reader,
     table: &Table,
 ) -> Result<Project, ConfigurationError> {
-    let mut project = Project::none();
+    let mut project = Project::none(alloc);
     'keys: for (key, value) in table {
         set(alloc, &mut project, reader, key.as_str(), value)?;
     }
@@ -352,12 +409,12 @@ pub fn project_settings<R: Files + AllocGlobal>(
     name: &str,
 ) -> Result<Project, ConfigurationError> {
     let Ok(start) = fs::canonicalize(rt, folder(name)) else {
-        return Ok(Project::none());
+        return Ok(Project::none(rt.alloc()));
     };
     'folders: for folder in start.ancestors() {
         if let Some(settings) = settings_in(rt, reader, folder)? {
             return Ok(settings);
         }
     }
-    Ok(Project::none())
+    Ok(Project::none(rt.alloc()))
 }

@@ -9,6 +9,7 @@ ghost use Rattle.bibkit_settings.specs.Settings.{fail_on_name, fail_on_named, fo
 ghost use Rattle.bibkit_settings.specs.Settings.{is_colored, listed_codes, no_settings, over, style_of};
 
 use bib_findings::codes::Code;
+use bibkit_core::own_names::OwnNames;
 use bibkit_core::request::{Cited, FailOn, Lint, Style};
 use bibkit_core::selection::Selection;
 use std::alloc::Global;
@@ -204,7 +205,7 @@ impl Settings {
     /// Returns the request for `lint` with these settings. If `only` is empty or isn't set, all codes except the ignored ones are reported.
     /// If `color` is `Auto` or isn't set, `are_colors_shown` says whether lines are printed in colours. Only lines have colours. If
     /// `fail_on` isn't set, the status is 1 for errors and warnings. `is_each` says whether each of several files is a database of its own.
-    /// The request has no conditions.
+    /// The request has no conditions and no own names.
     pub fn lint<'a>(
         self,
         alloc: Global,
@@ -219,6 +220,9 @@ impl Settings {
         ensures cited { result.cited ≡ cited.entry }
         ensures each { result.is_each ≡ is_each }
         ensures conditions { result.conditions.items ≡ [] }
+        ensures own_fields { result.own.fields.items ≡ [] }
+        ensures own_types { result.own.types.items ≡ [] }
+        ensures own_abbreviations { result.own.abbreviations.items ≡ [] }
     {
         let style = style(self.format, is_colored(self.color, are_colors_shown));
         Lint {
@@ -231,6 +235,7 @@ impl Settings {
             cited,
             is_each,
             conditions: Vec::new(alloc),
+            own: OwnNames::none(alloc),
         }
     }
 }

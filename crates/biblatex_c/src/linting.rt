@@ -8,6 +8,7 @@ ghost use Rattle.biblatex_c.specs.declared.status.Status.TheVariants.{OutOfMemor
 use crate::buffers::end;
 use crate::status::Status;
 use bibkit_core::linting::Linting;
+use bibkit_core::own_names::OwnNames;
 use bibkit_core::request::{FailOn, Lint, Style};
 use bibkit_core::selection::Selection;
 use bibkit_core::task::Task;
@@ -28,6 +29,7 @@ fn faults_of(alloc: Global, bytes: &[u8]) -> Result<String, Status>
         cited: None,
         is_each: false,
         conditions: Vec::new(alloc),
+        own: OwnNames::none(alloc),
     };
     let mut linting = Linting::new(&lint);
     let mut text = String::from_str(alloc, linting.begin())?;

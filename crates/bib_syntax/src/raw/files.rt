@@ -9,7 +9,7 @@ use crate::raw::recovery::{RawRecovery, recover};
 use std::alloc::{AllocError, Global};
 use std::marker::Model;
 
-/// The texts of several files in one text. A line feed follows each file.
+/// The texts of several files in one text. A percent sign and a line feed follow each file.
 #[derive(Debug, Drop)]
 pub struct JoinedFiles {
     text: String,
@@ -44,7 +44,7 @@ impl JoinedFiles {
     {
         self.text.push_str(file)?;
         let end = self.text.as_str().len();
-        self.text.push('\n')?;
+        self.text.push_str("%\n")?;
         self.ends.push(end)?;
         Ok(())
     }
@@ -56,7 +56,7 @@ impl JoinedFiles {
         &self.text
     }
 
-    /// Returns the offset at which each file ends, in bytes of the text. The line feed after the file begins there.
+    /// Returns the offset at which each file ends, in bytes of the text. The percent sign after the file is there.
     pub fn ends(&self) -> &[usize]
         ensures ends { result.now ≡ self.now.ends }
         ensures within { All (λ end. end < length self.now.text) result.now }
@@ -74,7 +74,7 @@ impl JoinedFiles {
         let mut start = 0;
         'files: for end in &self.ends {
             found.append(recover(alloc, &text[..*end], start, true)?)?;
-            start = *end + 1;
+            start = *end + 2;
         }
         Ok(found)
     }

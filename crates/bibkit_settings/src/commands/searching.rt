@@ -6,7 +6,7 @@ use crate::commands::shared::WHERE;
 // The text at the end of the help of `lint`.
 const LINT_HELP: &str = "\
 Findings are lines FILE:LINE:COLUMN: error|warning|info: TEXT [CODE]. A file bibkit.toml in the folder of the first file, or in one
-above it, has the settings of a project: ignore, only, color, format and fail-on.
+above it, has the settings of a project: ignore, only, color, format, fail-on and the table own.
 
 Several files are one database: a file can use the definitions and the entries of the others, and a key of one is a duplicate in another.
 With --each, each file is a database of its own.

@@ -50,7 +50,7 @@ recover-requires c =
     let ends = c.deref-end-items.result.now in
     let end = get_or ends c.files.end-index 0 in
     let are = this_file text ends c.files.start c.files.end-index c.files-test.true c.files.invariant.1 in
-    let within = slice_get_within text end 10 are.1 in
+    let within = slice_get_within text end 37 are.1 in
     subst (λ t. IsCharBoundary t c.files.start) (sym (cut at.After-range))
     (boundary_cut text c.files.start end (omega (arith, within)) are.0 c.files.invariant.2)
 
@@ -77,8 +77,8 @@ files-preserved c =
           (then (file_of c.files.found.raw) (then (file_of c.in_ok-recover.field-0.raw) says)) xs)
           (sym (ap (λ xs. xs ++ errors) c.in_ok-append.ensures.skipped
           ∙ append_assoc c.files.found.skipped.items c.in_ok-recover.field-0.skipped.items errors)) all)),
-      are.2,
-      next_boundary text end c.text-text.utf8 are.1,
+      are.3,
+      next_boundary text end c.text-text.utf8 are.2,
     )
 
 pub returns : goal.returns

@@ -1,20 +1,20 @@
 use Rattle.std.proofs.Common.{sym, ◌∙◌, arith}
 use Rattle.bib_findings.proofs.DefinitionFacts.{different_counts, pieces_differ, pieces_end, pieces_same}
-use Rattle.bib_findings.proofs.definitions.are_same_pieces.Goals as goal
+use Rattle.bib_findings.proofs.definitions.are_equal_pieces.Goals as goal
 
 pub returns-then-one-other : goal.returns-then-one-other
 returns-then-one-other c = sym (different_counts c.args.one.now c.args.other.now (λ same. omega (arith, same, c.if-one-other.true)))
 
-pub returns-then-not-is_same_piece : goal.returns-then-not-is_same_piece
-returns-then-not-is_same_piece c =
+pub returns-then-not-is_equal_piece : goal.returns-then-not-is_equal_piece
+returns-then-not-is_equal_piece c =
     sym
     (pieces_differ c.args.one.now c.args.other.now c.pieces.index _ _ _ (omega arith) (omega (arith, c.if-one-other.false))
-    c.index-one-index.is c.index-other-index.is c.pieces.invariant c.is_same_piece.ensures c.if-not-is_same_piece.true)
+    c.index-one-index.is c.index-other-index.is c.pieces.invariant c.is_equal_piece.ensures c.if-not-is_equal_piece.true)
 
 pub pieces-preserved : goal.pieces-preserved
 pieces-preserved c =
     pieces_same c.args.one.now c.args.other.now c.pieces.index _ _ _ (omega arith) (omega (arith, c.if-one-other.false))
-    c.index-one-index.is c.index-other-index.is c.pieces.invariant c.is_same_piece.ensures c.if-not-is_same_piece.false
+    c.index-one-index.is c.index-other-index.is c.pieces.invariant c.is_equal_piece.ensures c.if-not-is_equal_piece.false
 
 pub returns : goal.returns
 returns c =

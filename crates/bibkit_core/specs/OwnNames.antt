@@ -1,0 +1,49 @@
+-- Meaning: words of public contracts.
+-- Names of a project's own style. A project can declare fields, entry types and abbreviations that BibLaTeX's data model doesn't have;
+-- then they aren't reported as unknown.
+use Rattle.std.specs.Prelude.{◌==◌, ℕ, Bool, false, not, List, [], Option, Some, None, codes, filter, if◌then◌else◌, length, nat_lt, string_bytes}
+use Rattle.std.specs.List.{before_first, list_any, position_or_len}
+use Rattle.std.specs.Option.{option_and_then, option_map_or}
+use Rattle.bib_text.specs.Characters as char
+use Rattle.bib_findings.specs.declared.codes.Code.{Code}
+use Rattle.bib_findings.specs.declared.codes.Code.TheVariants.{UnknownAbbreviation, UnknownField, UnknownType}
+use Rattle.bib_findings.specs.declared.finding.Finding.{Finding}
+use Rattle.bib_queries.specs.Elements.{text_after_part, text_before_quote}
+use Rattle.bib_syntax.specs.Grammar.{is_word}
+use Rattle.bibkit_core.specs.declared.own_names.OwnNames.{OwnNames}
+
+-- the text before the first backtick, or `None` without one
+abbrev pub text_before_backtick : List ℕ → Option (List ℕ)
+text_before_backtick text =
+    if nat_lt (position_or_len (λ b. b == char.grave) text) (length text) then Some (before_first (λ b. b == char.grave) text) else None
+
+-- the name in backticks after the first occurrence of these words, or `None` without one
+abbrev pub name_in_backticks : List ℕ → List ℕ → Option (List ℕ)
+name_in_backticks words message = option_and_then text_before_backtick (text_after_part words message)
+
+-- the name in quotes after the first occurrence of these words, or `None` without one
+abbrev pub name_in_quotes : List ℕ → List ℕ → Option (List ℕ)
+name_in_quotes words message = option_and_then text_before_quote (text_after_part words message)
+
+-- the name that a finding with this code and this message reports as unknown, or `None` for any other finding. No key of an entry
+-- contains a space, so the words are those of the message.
+abbrev pub unknown_name : Code → List ℕ → Option (List ℕ)
+unknown_name UnknownField message = name_in_backticks (codes "unknown field `") message
+unknown_name UnknownType message = name_in_backticks (codes "unknown entry type `") message
+unknown_name UnknownAbbreviation message = name_in_quotes (codes "unknown abbreviation \"") message
+unknown_name _ message = None
+
+-- whether a name that a finding with this code reports is one of the project's, in any ASCII case
+abbrev pub is_own_name : OwnNames → Code → List ℕ → Bool
+is_own_name own UnknownField name = list_any (λ one. is_word name (string_bytes one)) own.fields.items
+is_own_name own UnknownType name = list_any (λ one. is_word name (string_bytes one)) own.types.items
+is_own_name own UnknownAbbreviation name = list_any (λ one. is_word name (string_bytes one)) own.abbreviations.items
+is_own_name own _ name = false
+
+-- whether a finding reports a name of the project as unknown
+abbrev pub is_own : OwnNames → Finding → Bool
+is_own own f = option_map_or (is_own_name own f.code) (unknown_name f.code f.message) false
+
+-- the findings that don't report a name of the project as unknown
+abbrev pub without_own : OwnNames → List Finding → List Finding
+without_own own found = filter (λ f. not (is_own own f)) found
