@@ -424,6 +424,9 @@ undefined=$'use.bib:1:44: warning: unknown abbreviation "jsl" [unknown-abbreviat
 run 'a definition in the file before' 0 "$clean" lint def.bib use.bib
 run 'a definition in the file after' 0 "$clean" lint use.bib def.bib
 run 'a definition in two files' 0 "$clean" lint def.bib use.bib def.bib
+printf '@string{JSL = "Other"}\n@misc{o, title={O}, year={2001}, url={www.example.org}}\n' >other.bib
+run 'an abbreviation with two texts in two files' 1 $'other.bib:1:9: warning: definition of `JSL` occurs again with another value; BibTeX and Biber use it for later entries [repeated-definition]\nother.bib:2:34: warning: o: `url` has no scheme such as `https:`; viewers take the link for a file [url-scheme]\nerrors: 0, warnings: 2\n' lint def.bib use.bib other.bib
+run 'an abbreviation with two texts, and each file by itself' 0 $'errors: 0, warnings: 0\n' lint --each --ignore unknown-abbreviation,url-scheme def.bib use.bib other.bib
 run 'a definition in a file, and one file alone' 1 "$undefined" lint use.bib
 run 'a definition in a file, and each file by itself' 1 "$undefined" lint --each def.bib use.bib
 run 'one file by itself' 1 "$undefined" lint --each use.bib

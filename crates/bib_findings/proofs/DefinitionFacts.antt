@@ -35,39 +35,36 @@ different_counts one other differ =
     (λ same. differ (sym (length-map one piece_of) ∙ same ∙ length-map other piece_of))
 
 -- values have the same pieces from an index on if the pieces there are the same, and those after it
-pub pieces_next : (one other : List (Spanned RawChunk)) (index : ℕ) (p q : Spanned RawChunk) → index < length one
-    → index < length other → p ≡ get_or one index p → q ≡ get_or other index q
+pieces_next : (one other : List (Spanned RawChunk)) (index : ℕ) (d e : Spanned RawChunk) → index < length one → index < length other
     → are_equal_pieces (map piece_of (drop index one)) (map piece_of (drop index other))
-    ≡ (is_equal_piece (piece_of p) (piece_of q)
+    ≡ (is_equal_piece (piece_of (get_or one index d)) (piece_of (get_or other index e))
     && are_equal_pieces (map piece_of (drop (index + 1) one)) (map piece_of (drop (index + 1) other)))
-pieces_next one other index p q within within' p_is q_is =
-    ap₂ (λ l m. are_equal_pieces (map piece_of l) (map piece_of m))
-    (from_index one index p within ∙ ap (λ x. x ∷ drop (index + 1) one) (sym p_is))
-    (from_index other index q within' ∙ ap (λ x. x ∷ drop (index + 1) other) (sym q_is))
+pieces_next one other index d e within within' =
+    ap₂ (λ l m. are_equal_pieces (map piece_of l) (map piece_of m)) (from_index one index d within) (from_index other index e within')
 
 -- values don't have the same pieces if the pieces at an index differ
-pub pieces_differ : (one other : List (Spanned RawChunk)) (index : ℕ) (p q : Spanned RawChunk) (same : Bool) → index < length one
-    → index < length other → p ≡ get_or one index p → q ≡ get_or other index q
+pub pieces_differ : (one other : List (Spanned RawChunk)) (index : ℕ) (d e : Spanned RawChunk) → index < length one
+    → index < length other
     → are_equal_pieces (map piece_of (drop index one)) (map piece_of (drop index other))
     ≡ are_equal_pieces (map piece_of one) (map piece_of other)
-    → same ≡ is_equal_piece (piece_of p) (piece_of q) → same ≡ false
+    → is_equal_piece (piece_of (get_or one index d)) (piece_of (get_or other index e)) ≡ false
     → are_equal_pieces (map piece_of one) (map piece_of other) ≡ false
-pieces_differ one other index p q same within within' p_is q_is so_far is differ =
-    sym so_far ∙ pieces_next one other index p q within within' p_is q_is
-    ∙ ap (λ b. b && are_equal_pieces (map piece_of (drop (index + 1) one)) (map piece_of (drop (index + 1) other))) (sym is ∙ differ)
+pieces_differ one other index d e within within' so_far differ =
+    sym so_far ∙ pieces_next one other index d e within within'
+    ∙ ap (λ b. b && are_equal_pieces (map piece_of (drop (index + 1) one)) (map piece_of (drop (index + 1) other))) differ
 
--- values have the same pieces if the pieces after an index are the same, and those at it and before it are
-pub pieces_same : (one other : List (Spanned RawChunk)) (index : ℕ) (p q : Spanned RawChunk) (same : Bool) → index < length one
-    → index < length other → p ≡ get_or one index p → q ≡ get_or other index q
+-- if the pieces at an index are the same, the values have the same pieces if those after the index are the same
+pub pieces_same : (one other : List (Spanned RawChunk)) (index : ℕ) (d e : Spanned RawChunk) → index < length one
+    → index < length other
     → are_equal_pieces (map piece_of (drop index one)) (map piece_of (drop index other))
     ≡ are_equal_pieces (map piece_of one) (map piece_of other)
-    → same ≡ is_equal_piece (piece_of p) (piece_of q) → same ≡ true
+    → is_equal_piece (piece_of (get_or one index d)) (piece_of (get_or other index e)) ≡ true
     → are_equal_pieces (map piece_of (drop (index + 1) one)) (map piece_of (drop (index + 1) other))
     ≡ are_equal_pieces (map piece_of one) (map piece_of other)
-pieces_same one other index p q same within within' p_is q_is so_far is equal =
+pieces_same one other index d e within within' so_far equal =
     sym
-    (pieces_next one other index p q within within' p_is q_is
-    ∙ ap (λ b. b && are_equal_pieces (map piece_of (drop (index + 1) one)) (map piece_of (drop (index + 1) other))) (sym is ∙ equal))
+    (pieces_next one other index d e within within'
+    ∙ ap (λ b. b && are_equal_pieces (map piece_of (drop (index + 1) one)) (map piece_of (drop (index + 1) other))) equal)
     ∙ so_far
 
 -- values have the same pieces if all their pieces were compared

@@ -22,5 +22,5 @@ returns-clause-added c = λ earlier are.
     c.in_ok-add_if_changed.ensures
     ∙ ap (λ last. old ++ finding_after last one)
     (ap read_definition
-    (c.copied.ensures ∙ c.get.ensures.value ∙ ap (get_by_text c.args.lasts.now) (c.as_str.ensures.value ∙ c.in_ok-name.ensures.ok))
+    (c.copied-last.ensures ∙ c.get.ensures.value ∙ ap (get_by_text c.args.lasts.now) (c.as_str.ensures.value ∙ c.in_ok-name.ensures.ok))
     ∙ are (lowercase_name one))

@@ -8,13 +8,13 @@ returns-then-one-other c = sym (different_counts c.args.one.now c.args.other.now
 pub returns-then-not-is_equal_piece : goal.returns-then-not-is_equal_piece
 returns-then-not-is_equal_piece c =
     sym
-    (pieces_differ c.args.one.now c.args.other.now c.pieces.index _ _ _ (omega arith) (omega (arith, c.if-one-other.false))
-    c.index-one-index.is c.index-other-index.is c.pieces.invariant c.is_equal_piece.ensures c.if-not-is_equal_piece.true)
+    (pieces_differ c.args.one.now c.args.other.now c.pieces.index _ _ (omega arith) (omega (arith, c.if-one-other.false))
+    c.pieces.invariant (sym c.is_equal_piece.ensures ∙ c.if-not-is_equal_piece.true))
 
 pub pieces-preserved : goal.pieces-preserved
 pieces-preserved c =
-    pieces_same c.args.one.now c.args.other.now c.pieces.index _ _ _ (omega arith) (omega (arith, c.if-one-other.false))
-    c.index-one-index.is c.index-other-index.is c.pieces.invariant c.is_equal_piece.ensures c.if-not-is_equal_piece.false
+    pieces_same c.args.one.now c.args.other.now c.pieces.index _ _ (omega arith) (omega (arith, c.if-one-other.false))
+    c.pieces.invariant (sym c.is_equal_piece.ensures ∙ c.if-not-is_equal_piece.false)
 
 pub returns : goal.returns
 returns c =
