@@ -63,7 +63,9 @@ fn has_other_value(last: Option<&Pair<'_>>, definition: &Pair<'_>) -> bool
 fn definition_message(alloc: Global, name: &str) -> Result<String, AllocError>
     ensures { IfOk result (λ text. string_bytes text ≡ spec.definition_message name.now) }
 {
-    format!(in alloc; "definition of `{name}` occurs again with another value; BibTeX and Biber use it for later entries")
+    format!(in alloc;
+        "definition of `{name}` occurs again with another value; BibTeX and Biber use it for later entries"
+    )
 }
 
 // Returns the finding of a definition whose abbreviation had another value.

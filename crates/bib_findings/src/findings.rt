@@ -227,7 +227,14 @@ pub fn findings_of(
     let said = &raw.entries;
     let definitions = raw.abbreviations.as_slice();
     let linked = between(
-        alloc, text, skipped, said, &origins, &names, &entries, definitions,
+        alloc,
+        text,
+        skipped,
+        said,
+        &origins,
+        &names,
+        &entries,
+        definitions,
     )?;
     let lacking = lacking_flags(alloc, skipped, &names, said, &origins, &entries)?;
     let mut unresolved = resolve_readable(alloc, &spans, &names, &mut entries)?;

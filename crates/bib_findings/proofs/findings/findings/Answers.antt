@@ -9,5 +9,5 @@ returns c =
     let skipped = c.in_ok-recovery.recovery.skipped.items in
     if_ok_more (λ found. AreFindingsOf c.args.text.now says skipped found.items) (λ found. AreFindings c.args.text.now found.items)
     c.findings_of.result
-    (λ found are. record { says = says; skipped = skipped; recovery = c.in_ok-recovery.ensures; are = are; })
+    (λ found are. record { says = says; skipped = skipped; recovery = c.in_ok-recovery.ensures; are = are })
     c.findings_of.ensures
