@@ -2,7 +2,9 @@
 -- The findings of abbreviations that `@string` defines again with another value. BibTeX and Biber match the names of abbreviations in any
 -- ASCII case, and use the last definition before an entry: the value of an abbreviation differs before and after such a definition.
 use Rattle.std.specs.Prelude.{ℕ, Bool, true, false, not, ◌&&◌, List, [], ◌∷◌, ◌++◌, bytes_eq, codes, find, if◌then◌else◌, reverse, Option}
+use Rattle.std.specs.Char.{is_ascii_whitespace}
 use Rattle.std.specs.Option.{option_map_or}
+use Rattle.bib_text.specs.Characters as char
 use Rattle.bib_syntax.specs.Reading.{FieldReading, Piece}
 use Rattle.bib_syntax.specs.Reading.Piece.{abbreviation, literal}
 use Rattle.bib_findings.specs.After.{each_after}
@@ -12,14 +14,26 @@ use Rattle.bib_findings.specs.Foreign.{have_one_name}
 use Rattle.bib_findings.specs.declared.codes.Code.TheVariants.{RepeatedDefinition}
 use Rattle.bib_findings.specs.declared.finding.Finding.{Finding}
 
--- whether two pieces are two literals or two abbreviations, with one text
+-- a text in which each run of white space is one space, as BibTeX reads it. The flag says whether white space is before the text
+abbrev pub with_single_spaces : Bool → List ℕ → List ℕ
+with_single_spaces is_after [] = []
+with_single_spaces is_after (b ∷ rest) =
+    if is_ascii_whitespace b
+    then if is_after then with_single_spaces true rest else char.space ∷ with_single_spaces true rest
+    else b ∷ with_single_spaces false rest
+
+-- whether two texts are the same if each run of white space is one space
+abbrev pub are_equal_texts : List ℕ → List ℕ → Bool
+are_equal_texts text other = bytes_eq (with_single_spaces false text) (with_single_spaces false other)
+
+-- whether two pieces are two literals with the same text, or two abbreviations with the same name
 abbrev pub is_equal_piece : Piece → Piece → Bool
-is_equal_piece (literal p) (literal q) = bytes_eq p.text q.text
+is_equal_piece (literal p) (literal q) = are_equal_texts p.text q.text
 is_equal_piece (literal p) (abbreviation q) = false
 is_equal_piece (abbreviation p) (literal q) = false
 is_equal_piece (abbreviation p) (abbreviation q) = bytes_eq p.text q.text
 
--- whether two values have the same pieces; white space between pieces and the form of a literal (braces or quotes) don't count
+-- whether two values have the same pieces; it doesn't count whether a literal is in braces or in quotes
 abbrev pub are_equal_pieces : List Piece → List Piece → Bool
 are_equal_pieces [] [] = true
 are_equal_pieces [] (q ∷ others) = false

@@ -18,44 +18,87 @@ use bib_text::text::Text;
 use std::alloc::{AllocError, Global};
 use std::collections::BTreeMap;
 
-// Returns whether two pieces are two literals or two abbreviations, with one text.
-fn is_equal_piece(one: &Spanned<RawChunk<'_>>, other: &Spanned<RawChunk<'_>>) -> bool
-    ensures { result ≡ spec.is_equal_piece (piece_of one.now) (piece_of other.now) }
+// Returns a text in which each run of ASCII white space is one space.
+fn with_single_spaces(alloc: Global, text: &[u8]) -> Result<Vec<u8>, AllocError>
+    ensures { IfOk result (λ spaced. spaced.items ≡ spec.with_single_spaces false text.now) }
+{
+    let mut spaced = Vec::new(alloc);
+    let mut is_after = false;
+    'bytes: for b in text {
+        let is_white = b.is_ascii_whitespace();
+        if !is_white {
+            spaced.push(*b)?;
+        } else if !is_after {
+            spaced.push(b' ')?;
+        }
+        is_after = is_white;
+    }
+    Ok(spaced)
+}
+
+// Returns whether two texts are the same if each run of white space is one space.
+fn are_equal_texts(alloc: Global, text: &str, other: &str) -> Result<bool, AllocError>
+    ensures { IfOk result (λ equal. equal ≡ spec.are_equal_texts text.now other.now) }
+{
+    let first = with_single_spaces(alloc, text.as_bytes())?;
+    let second = with_single_spaces(alloc, other.as_bytes())?;
+    Ok(first.as_slice() == second.as_slice())
+}
+
+// Returns whether two pieces are two literals with the same text, or two abbreviations with the same name.
+fn is_equal_piece(
+    alloc: Global,
+    one: &Spanned<RawChunk<'_>>,
+    other: &Spanned<RawChunk<'_>>,
+) -> Result<bool, AllocError>
+    ensures { IfOk result (λ equal. equal ≡ spec.is_equal_piece (piece_of one.now) (piece_of other.now)) }
 {
     match one.v {
         RawChunk::Normal(first) => match other.v {
-            RawChunk::Normal(second) => first == second,
-            RawChunk::Abbreviation(_) => false,
+            RawChunk::Normal(second) => are_equal_texts(alloc, first, second),
+            RawChunk::Abbreviation(_) => Ok(false),
         },
         RawChunk::Abbreviation(first) => match other.v {
-            RawChunk::Normal(_) => false,
-            RawChunk::Abbreviation(second) => first == second,
+            RawChunk::Normal(_) => Ok(false),
+            RawChunk::Abbreviation(second) => Ok(first == second),
         },
     }
 }
 
 // Returns whether two values have the same pieces.
-fn are_equal_pieces(one: &[Spanned<RawChunk<'_>>], other: &[Spanned<RawChunk<'_>>]) -> bool
-    ensures { result ≡ spec.are_equal_pieces (map piece_of one.now) (map piece_of other.now) }
+fn are_equal_pieces(
+    alloc: Global,
+    one: &[Spanned<RawChunk<'_>>],
+    other: &[Spanned<RawChunk<'_>>],
+) -> Result<bool, AllocError>
+    ensures { IfOk result (λ equal. equal ≡ spec.are_equal_pieces (map piece_of one.now) (map piece_of other.now)) }
 {
     if one.len() != other.len() {
-        return false;
+        return Ok(false);
     }
     'pieces: for (index, piece) in one.iter().enumerate() {
-        if !is_equal_piece(piece, &other[index]) {
-            return false;
+        if !is_equal_piece(alloc, piece, &other[index])? {
+            return Ok(false);
         }
     }
-    true
+    Ok(true)
 }
 
 // Returns whether there is a last definition, and it has another value than this one.
-fn has_other_value(last: Option<&Pair<'_>>, definition: &Pair<'_>) -> bool
-    ensures { result ≡ option_map_or (have_other_values (field_of definition.now)) (read_definition last.entry) false }
+fn has_other_value(
+    alloc: Global,
+    last: Option<&Pair<'_>>,
+    definition: &Pair<'_>,
+) -> Result<bool, AllocError>
+    ensures { IfOk result (λ other. other ≡
+        option_map_or (have_other_values (field_of definition.now)) (read_definition last.entry) false) }
 {
     match last {
-        Some(last) => !are_equal_pieces(definition.value.v.as_slice(), last.value.v.as_slice()),
-        None => false,
+        Some(last) => {
+            let value = definition.value.v.as_slice();
+            Ok(!are_equal_pieces(alloc, value, last.value.v.as_slice())?)
+        }
+        None => Ok(false),
     }
 }
 
@@ -90,7 +133,7 @@ fn add_if_changed(
 ) -> Result<(), AllocError>
     ensures { OnOk result (found.new.items ≡ found.old.items ++ finding_after (read_definition last.entry) (field_of definition.now)) }
 {
-    if has_other_value(last, definition) {
+    if has_other_value(alloc, last, definition)? {
         found.push(definition_finding(alloc, definition)?)?;
     }
     Ok(())

@@ -5,16 +5,16 @@ use Rattle.bib_findings.proofs.definitions.are_equal_pieces.Goals as goal
 pub returns-then-one-other : goal.returns-then-one-other
 returns-then-one-other c = sym (different_counts c.args.one.now c.args.other.now (λ same. omega (arith, same, c.if-one-other.true)))
 
-pub returns-then-not-is_equal_piece : goal.returns-then-not-is_equal_piece
-returns-then-not-is_equal_piece c =
+pub returns-then-not-branch : goal.returns-then-not-branch
+returns-then-not-branch c =
     sym
     (pieces_differ c.args.one.now c.args.other.now c.pieces.index _ _ (omega arith) (omega (arith, c.if-one-other.false))
-    c.pieces.invariant (sym c.is_equal_piece.ensures ∙ c.if-not-is_equal_piece.true))
+    c.pieces.invariant (sym c.in_ok-is_equal_piece.ensures ∙ c.if-not-branch.true))
 
 pub pieces-preserved : goal.pieces-preserved
 pieces-preserved c =
     pieces_same c.args.one.now c.args.other.now c.pieces.index _ _ (omega arith) (omega (arith, c.if-one-other.false))
-    c.pieces.invariant (sym c.is_equal_piece.ensures ∙ c.if-not-is_equal_piece.false)
+    c.pieces.invariant (sym c.in_ok-is_equal_piece.ensures ∙ c.if-not-branch.false)
 
 pub returns : goal.returns
 returns c =
