@@ -415,8 +415,8 @@ run 'the entry of BibLaTeX' 1 $'control.aux:1:1: error: no file has an entry "bi
 run 'the entry of BibLaTeX, and its file' 0 $'errors: 0, warnings: 0\n' lint --only missing-entry --cited control.aux two.bib control-blx.bib
 run 'a document that is not there' 2 '' lint --cited no.aux two.bib
 
-# lint takes several files as one database: entries and definitions of all files count in the order of the files, each file is read by itself,
-# and each finding has the name of its file and its position there; with --each, each file is a database
+# lint takes several files as one database: entries and definitions of all files count in the order of the files. Each file is parsed by itself.
+# Each finding has the name of its file and its position there. With --each, each file is a database.
 clean=$'errors: 0, warnings: 0\n'
 printf '@string{jsl = {Journal}}\n' >def.bib
 printf '@article{x, author={B}, title={X}, journal=jsl, year={2001}}\n' >use.bib

@@ -108,8 +108,9 @@ pub record AreFindingsIn (skipped : List SkippedBlock) (lacking : List Bool) (er
   pub reports : AreOfEach AreOfKept said origins (with_flags lacking entries) of_entries
   pub sorted : AreSortedByPlace (map (block_finding said) skipped ++ (map error_finding errors ++ (of_entries ++ between))) found
 
--- whether these are all findings of a recovered text: it has this content, with the complete parts of its skipped blocks. The findings of a
--- kept entry also use the fields that it inherits. The findings between entries use only the fields that each entry has itself.
+-- whether these are all findings of a recovered text with this content and these skipped blocks. The content includes the complete parts of
+-- the skipped blocks. The findings of a kept entry also use the fields that it inherits. The findings between entries use only the fields
+-- that each entry has itself.
 pub record AreFindingsOf (text : List ℕ) (says : FileReading) (skipped : List SkippedBlock) (found : List Finding) : Type 0 where
   pub own : List Entry
   pub names : ByText ℕ

@@ -169,7 +169,7 @@ pub fn between(
     Ok(found)
 }
 
-/// Sorts findings by their starts. Findings with the same start keep their order. Fails only if out of memory.
+/// Returns findings sorted by their starts. Findings with the same start keep their order. Fails only if out of memory.
 pub fn sorted_by_place(found: Vec<Finding>) -> Result<Vec<Finding>, AllocError>
     ensures { IfOk result (λ sorted. AreSortedByPlace found.items sorted.items) }
 {
@@ -206,9 +206,9 @@ pub fn findings_in(
     sorted_by_place(found)
 }
 
-/// Returns all findings of a recovered text, sorted by their starts. Spans are in bytes of the text. For the text of several files
-/// (`JoinedFiles`), these are the findings of the files as one database: a file can use the definitions and the entries of the others, and a
-/// key or a work can occur in two files. Fails only if out of memory.
+/// Returns all findings of a recovered text, sorted by their starts, with the codes of `findings`. Spans are in bytes of the text. The text
+/// may be that of several files (`JoinedFiles`). Then a file can use the definitions and the entries of the others, and an entry can be a
+/// duplicate of one in another file. Fails only if out of memory.
 pub fn findings_of(
     alloc: Global,
     text: &str,

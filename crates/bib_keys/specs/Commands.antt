@@ -15,7 +15,7 @@ use Rattle.bib_chunks.specs.declared.chunk.Chunk.TheVariants.{Normal, Verbatim, 
 abbrev pub has_argument : List ℕ → Bool
 has_argument rest = starts_with eqb rest (codes "{") && not (starts_with eqb rest (codes "{}"))
 
--- whether the name of a command counts as text: no argument follows it, and it is in math, or it has a capital, as that of `\BibTeX`
+-- whether the name of a command counts as text: no argument follows it, and it is in math or has a capital, as in `\BibTeX`
 abbrev pub is_name_shown : Bool → List ℕ → List ℕ → Bool
 is_name_shown is_math name rest = (is_math || list_any is_ascii_uppercase name) && not (has_argument rest)
 
@@ -28,7 +28,7 @@ without_space (c ∷ rest) = if c == char.space then rest else c ∷ rest
 abbrev pub after_name : List ℕ → List ℕ → List ℕ
 after_name name rest = if length name == 0 then rest else without_space rest
 
--- a name and the text that follows it: only this text, unless the name counts
+-- the text that follows a name, with the name before it if the name counts as text
 abbrev pub shown_command : Bool → List ℕ → List ℕ → List ℕ
 shown_command is_math name rest = (if is_name_shown is_math name rest then name else []) ++ after_name name rest
 
@@ -36,11 +36,12 @@ shown_command is_math name rest = (if is_name_shown is_math name rest then name 
 abbrev pub name_len : List ℕ → ℕ
 name_len command = prefix_len is_ascii_alphabetic command
 
--- a text that follows a backslash, without the name with which it begins, unless the name counts
+-- a text that follows a backslash, without the name with which it begins, unless the name counts as text
 abbrev pub without_name : Bool → List ℕ → List ℕ
 without_name is_math command = shown_command is_math (take (name_len command) command) (drop (name_len command) command)
 
--- the parts of a text between its backslashes, joined; the first part follows no backslash
+-- the parts of a text between its backslashes, joined. The first part follows no backslash, so it is unchanged. The others are without
+-- their names, unless these count as text
 abbrev pub joined_commands : Bool → List (List ℕ) → List ℕ
 joined_commands is_math [] = []
 joined_commands is_math (first ∷ commands) = first ++ flat_map (without_name is_math) commands

@@ -100,7 +100,7 @@ fn uncited_among<'s>(
     Ok(found)
 }
 
-/// Returns the keys, with their spans, of those of `entries` that have no name among `keys`.
+/// Returns the keys, with their spans, of the entries in `entries` that have no name among `keys`. Fails only if out of memory.
 pub fn uncited_in<'s>(
     alloc: Global,
     entries: &[Spanned<RawEntry<'s>>],

@@ -11,14 +11,14 @@ use Rattle.std.proofs.Math.Seq.{drop-cons}
 use Rattle.bib_text.proofs.ListFacts.{get_here}
 use Rattle.bib_syntax.specs.Files.{AreFiles}
 
--- an element of a list stays where it is if the list gets longer
+-- an element of a list keeps its index if the list gets longer
 get_longer : (xs more : List ℕ) (i x : ℕ) → slice_get xs i ≡ Some x → slice_get (xs ++ more) i ≡ Some x
 get_longer xs more i x is =
     let within = slice_get_within xs i x is in
     let longer : i < length (xs ++ more) = omega (arith, within, length-append xs more) in
     slice_get-get_or (xs ++ more) i 0 longer ∙ ap Some (get_or-append xs more 0 i within ∙ get_or_from_slice_get xs i x 0 is)
 
--- files in a text are the same files if the text gets longer, and a file with a percent sign and a line feed after it is one more
+-- if a file, a percent sign and a line feed are appended to a text, the files of the text and this file are files in the new text
 pub one_more : (text file : List ℕ) (start : ℕ) (ends : List ℕ) → start ≤ length text → AreFiles text start ends
     → AreFiles (text ++ (file ++ 37 ∷ 10 ∷ [])) start (ends ++ (length text + length file) ∷ [])
 one_more text file start [] within is =
@@ -50,19 +50,19 @@ next_file ends i within =
     let next : suc i ≡ i + 1 = omega arith in
     drop-cons ends i 0 within ∙ ap (λ n. get_or ends i 0 ∷ drop n ends) next
 
--- the file at an index and those after it are files in the text if the files from the index on are
+-- if the files from an index on are files in the text, so are the file at the index and those after it
 pub this_file : (text ends : List ℕ) (start i : ℕ) → i < length ends → AreFiles text start (drop i ends)
     → AreFiles text start (get_or ends i 0 ∷ drop (i + 1) ends)
 this_file text ends start i within are = subst (AreFiles text start) (next_file ends i within) are
 
--- nothing is left after all elements of a list
+-- no element follows the last element of a list
 pub drop_all : {A : Type 0} (xs : List A) (n : ℕ) → length xs ≤ n → drop n xs ≡ []
 drop_all [] zero all = refl
 drop_all [] (suc n) all = refl
 drop_all (x ∷ xs) zero all = absurd (omega (arith, all))
 drop_all (x ∷ xs) (suc n) all = drop_all xs n (omega (arith, all))
 
--- files in a text are the same files if the text gets longer
+-- files in a text are also files in a longer text
 pub files_longer : (text more : List ℕ) (start : ℕ) (ends : List ℕ) → AreFiles text start ends → AreFiles (text ++ more) start ends
 files_longer text more start [] is = _
 files_longer text more start (end ∷ ends) is = (
@@ -86,7 +86,7 @@ next_boundary text end utf8 is =
     subst (IsCharBoundary text) next
     (IsCharBoundary-after_ascii text (end + 1) utf8 (slice_get_within text (end + 1) 10 is) (omega (arith, here)))
 
--- a boundary is one of the text up to a later offset, too
+-- a character boundary of a text is also one of the text up to a later offset
 pub boundary_cut : (text : List ℕ) (start end : ℕ) → end ≤ length text → start ≤ end → IsCharBoundary text start
     → IsCharBoundary (take end text) start
 boundary_cut text start end within ordered is =

@@ -1,6 +1,6 @@
 -- Meaning: words of public contracts.
--- Several files in one text, and their recovery. BibTeX and Biber read the databases of a document in turn as one: a file can use the
--- definitions and the entries of the others, but an error in a file ends at its end.
+-- Several files in one text, and their recovery. BibTeX and Biber read the files of a document in turn, as one database. An error in a file
+-- ends with the file.
 use Rattle.std.specs.Prelude.{◌≡◌, ℕ, ◌+◌, ◌≤◌, List, [], ◌∷◌, ◌++◌, ⊤, Some, length, slice_get, take, true}
 use Rattle.bib_text.specs.Characters as char
 use Rattle.bib_text.specs.Places.{place}
@@ -8,8 +8,8 @@ use Rattle.bib_syntax.specs.Reading.{FileReading, empty_reading, then}
 use Rattle.bib_syntax.specs.Recovery.{Recovered}
 use Rattle.bib_syntax.specs.declared.raw.recovery.SkippedBlock.{SkippedBlock}
 
--- the text of several files, and the offset at which each file ends. A line with a percent sign follows each file, so nothing that the text
--- after a part of the file could be lies in the next file.
+-- The text of several files, and the offset at which each file ends. A percent sign and a line feed follow each file. The percent sign
+-- separates the text after the last entry of a file from the next file: the two never read as one field.
 pub record FilesText : Type 0 where
   pub text : List ℕ
   pub ends : List ℕ
@@ -25,8 +25,8 @@ with_next files file = record {
   ends = files.ends ++ (length files.text + length file) ∷ [];
 }
 
--- the first file begins at `start`, each ends at one of these offsets with a percent sign and a line feed after it, and the next begins
--- after that
+-- whether files end at these offsets of a text. The first file begins at `start`. A percent sign and a line feed follow each file, and the
+-- next file begins after them.
 abbrev pub AreFiles : List ℕ → ℕ → List ℕ → Type 0
 AreFiles text start [] = ⊤
 AreFiles text start (end ∷ ends) =

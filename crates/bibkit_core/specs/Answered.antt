@@ -35,11 +35,12 @@ pub record AsksForCited (found : Citations) (asked : CitedKeys) : Type 0 where
   pub keys : map (λ key. key.now) asked.keys.items ≡ cited_keys found
   pub all : asked.all ≡ found.all
 
--- whether files with these names are one database for `lint`: there are several, and they aren't separate by request
+-- whether `lint` takes files with these names as one database: there are several, and the request doesn't say that each is a database
 abbrev pub is_database : Lint → List (List ℕ) → Bool
 is_database lint names = not lint.is_each && nat_lt 1 (length names)
 
--- `document` is that of a request: with the name and the setting of the request, and with the citations of its file, which is read
+-- the file of a document is read, and `document` has its text and its citations. The name, and whether entries that aren't cited are
+-- reported, are those of the request.
 pub record IsDocumentFor {F : Type 0} (reads : F → List ℕ → Option (List ℕ) → F → Type 0) (files : F) (cited : Cited)
     (files' : F) (document : Document) : Type 0 where
   pub name_is : document.name.now ≡ cited.name.now

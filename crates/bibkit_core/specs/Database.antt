@@ -1,6 +1,6 @@
 -- Meaning: words of public contracts.
--- The findings of several files as one database. BibTeX and Biber read the files of a document in turn as one database, so a file can use
--- the definitions and the entries of the others.
+-- The findings of several files as one database. BibTeX and Biber read the files of a document in turn, as one database. Here a file can
+-- use the definitions and the entries of all files, even of later ones.
 use Rattle.std.specs.Prelude.{◌≡◌, ℕ, ◌+◌, ◌-◌, List, [], ◌∷◌, ◌++◌, Option, Some, None, drop, fold, map, nat_le, string_bytes, take}
 use Rattle.std.specs.List.{prefix_len}
 use Rattle.bib_findings.specs.Findings.{AreFindingsOf, AreSortedByPlace}
@@ -52,7 +52,7 @@ pub record AreOfDatabase (lint : Lint) (document : Option Document) (texts : Fil
 abbrev pub finding_in : ℕ → Finding → Finding
 finding_in start f = record f { span = record { start = f.span.start - start; end = f.span.end - start } }
 
--- the number of the first findings that begin at most at this offset
+-- the number of findings before the first one that begins after this offset
 abbrev pub count_to : ℕ → List Finding → ℕ
 count_to end found = prefix_len (λ f. nat_le f.span.start end) found
 
@@ -64,8 +64,8 @@ pub record IsStoredPrinted (lint : Lint) (start : ℕ) (file : StoredFile) (foun
   pub is : text ≡ in_file lint.style (string_bytes file.name) first
 
 -- `text` is the output for files, the first of which begins at `start`. Each ends at one of the offsets, and the next begins after the
--- percent sign and the line feed at this offset.
--- `found` has the reported findings in order of their places; those up to the end of a file are about this file.
+-- percent sign and the line feed at this offset. `found` has the reported findings in order of their places. Those that begin up to the end
+-- of a file are about this file. Findings after the end of the last file have no output.
 pub data AreFilesPrinted (lint : Lint) : ℕ → List StoredFile → List ℕ → List Finding → Tally → List ℕ → Tally → Type 0 where
   none : {start : ℕ} {found : List Finding} {tally : Tally} → AreFilesPrinted lint start [] [] found tally [] tally
   next : {start end : ℕ} {file : StoredFile} {files : List StoredFile} {ends : List ℕ} {found : List Finding}
@@ -74,8 +74,8 @@ pub data AreFilesPrinted (lint : Lint) : ℕ → List StoredFile → List ℕ �
       → AreFilesPrinted lint (end + 2) files ends (drop (count_to end found) found) between rest after
       → AreFilesPrinted lint start (file ∷ files) (end ∷ ends) found before (first ++ rest) after
 
--- `text` is the output for the citations of the document, if there is one, that are the names of no entry: at their positions in the
--- document's file, and only without conditions
+-- `text` is the output for the citations of the document, if there is one, that are the names of no entry. They are at their positions in
+-- the document's file. With conditions, there are none.
 abbrev pub AreMissingPrinted : Lint → Option Document → List EntryReading → Tally → List ℕ → Tally → Type 0
 AreMissingPrinted lint None entries before text after = (text ≡ []) × (after ≡ before)
 AreMissingPrinted lint (Some document) entries before text after =

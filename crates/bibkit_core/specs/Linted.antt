@@ -46,9 +46,9 @@ abbrev pub unread_findings : Option ℕ → List Finding
 unread_findings None = []
 unread_findings (Some at) = unread_finding at ∷ []
 
--- `text` is the output for a file with these reported findings of its decoded text, with the counts before and after them. The finding that
--- the file isn't UTF-8 comes first, at its position in the bytes, if the file isn't and there are no conditions. The selected ones of the
--- reported findings follow, at their positions in the decoded text.
+-- `text` is the output for a file with the reported findings `kept` of its decoded text, with the counts before and after them. If the file
+-- isn't UTF-8 and there are no conditions, the finding that says so comes first, at its position in the bytes. The selected findings among
+-- `kept` follow, at their positions in the decoded text.
 pub record IsPrintedKept (lint : Lint) (name bytes : List ℕ) (decoded : Decoded) (kept : List Finding) (before : Tally)
     (text : List ℕ) (after : Tally) : Type 0 where
   pub between : Tally
@@ -59,7 +59,8 @@ pub record IsPrintedKept (lint : Lint) (name bytes : List ℕ) (decoded : Decode
   pub of_text : ArePrinted lint.style name (string_bytes decoded.text) (selected_findings lint.selection kept) between second after
   pub is : text ≡ first ++ second
 
--- `text` is the output for the selected findings of a file, with the counts before and after them
+-- `text` is the output for the selected findings of a file, with the counts before and after them. Findings that report a name of the
+-- project as unknown are left out.
 pub record IsPrintedFile (lint : Lint) (name bytes : List ℕ) (decoded : Decoded) (before : Tally) (text : List ℕ)
     (after : Tally) : Type 0 where
   pub found : List Finding

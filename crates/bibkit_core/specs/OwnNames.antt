@@ -1,6 +1,6 @@
 -- Meaning: words of public contracts.
--- Names of a project's own style. A project can declare fields, entry types and abbreviations that BibLaTeX's data model doesn't have;
--- then they aren't reported as unknown.
+-- Names of a project's own style: fields, entry types and abbreviations that BibLaTeX doesn't have. A project lists them, so that they
+-- aren't reported as unknown.
 use Rattle.std.specs.Prelude.{◌==◌, ℕ, Bool, false, not, List, [], Option, Some, None, codes, filter, if◌then◌else◌, length, nat_lt, string_bytes}
 use Rattle.std.specs.List.{before_first, list_any, position_or_len}
 use Rattle.std.specs.Option.{option_and_then, option_map_or}
@@ -33,7 +33,7 @@ unknown_name UnknownType message = name_in_backticks (codes "unknown entry type 
 unknown_name UnknownAbbreviation message = name_in_quotes (codes "unknown abbreviation \"") message
 unknown_name _ message = None
 
--- whether a name that a finding with this code reports is one of the project's, in any ASCII case
+-- whether a name that a finding with this code reports is one of the project's names, in any ASCII case
 abbrev pub is_own_name : OwnNames → Code → List ℕ → Bool
 is_own_name own UnknownField name = list_any (λ one. is_word name (string_bytes one)) own.fields.items
 is_own_name own UnknownType name = list_any (λ one. is_word name (string_bytes one)) own.types.items

@@ -225,7 +225,7 @@ impl<'t> Document<'t> {
         }
     }
 
-    /// Returns the findings of those of these entries that the document doesn't cite. Returns none if they aren't requested, or if the
+    /// Returns the findings of the entries in `entries` that the document doesn't cite. Returns none if they aren't requested, or if the
     /// document cites all entries.
     pub fn unused_among(
         &self,

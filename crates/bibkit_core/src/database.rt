@@ -35,8 +35,8 @@ pub struct StoredFile {
     pub decoded: Decoded,
 }
 
-/// Prints the selected findings of files as one database, and those that compare the files with the citations of a document, if there is
-/// one.
+/// Prints the selected findings of files as one database. If there is a document, also prints those that compare the files with its
+/// citations.
 #[derive(Drop)]
 pub struct Database<'r, 'a> {
     lint: &'r Lint<'a>,
@@ -44,7 +44,7 @@ pub struct Database<'r, 'a> {
     files: Vec<StoredFile>,
 }
 
-/// The findings of a database, and what else is printed at the end.
+// The findings that are printed for a database.
 #[derive(Drop)]
 struct Found {
     // The reported findings, in order of their places in the text of all files.
@@ -77,7 +77,7 @@ fn joined_texts(alloc: Global, files: &[StoredFile]) -> Result<JoinedFiles, Allo
     Ok(texts)
 }
 
-// Returns the findings of those of these entries that the document, if there is one, doesn't cite.
+// Returns the findings of the entries that the document, if there is one, doesn't cite.
 fn unused_by(
     alloc: Global,
     document: &Option<Document<'_>>,
@@ -127,14 +127,14 @@ fn find(
     Ok(Found { kept, missing })
 }
 
-// Returns whether a finding begins at most at the offset `end`.
+// Returns whether a finding begins at or before the offset `end`.
 fn begins_by(finding: &Finding, end: usize) -> bool
     ensures { result ≡ nat_le finding.now.span.start end }
 {
     finding.span.start <= end
 }
 
-// Returns the number of the first findings that begin at most at the offset `end`.
+// Returns the number of findings before the first one that begins after the offset `end`.
 fn count_to(found: &[Finding], end: usize) -> usize
     ensures count { result ≡ spec.count_to end found.now }
     ensures within { result ≤ length found.now }

@@ -151,8 +151,8 @@ fn print_unread(
     print_findings(alloc, printed, lint, origin, &kept)
 }
 
-/// Appends the selected ones of the reported findings of a file's decoded text to `printed`, and counts them. If the file isn't UTF-8 and
-/// there are no conditions, a finding says so first, with its position in the file's bytes.
+/// Appends the selected findings among `kept` to `printed`, and counts them. `kept` are the reported findings of the file's decoded text. If
+/// the file isn't UTF-8 and there are no conditions, a finding says so first, with its position in the file's bytes.
 pub fn print_kept(
     alloc: Global,
     printed: &mut Printed,
@@ -175,7 +175,8 @@ pub fn print_kept(
 
 /// Appends the selected findings of a file to `printed`, and counts them. If the file isn't UTF-8, a finding says so first, with its
 /// position in the file's bytes. The findings of the decoded text follow, with their positions in this text. If there are conditions,
-/// only findings about entries whose key is that of an entry that meets all of them are appended.
+/// only findings about entries whose key is that of an entry that meets all of them are appended. Findings that report one of the names
+/// `lint.own` as unknown are left out.
 pub fn print_file(
     alloc: Global,
     printed: &mut Printed,

@@ -111,7 +111,8 @@ fn run_compared_database<F: Files, K: Sink, M: Sink>(
     Ok(status)
 }
 
-// Returns whether files with these names are one database for `lint`: there are several, and they aren't separate by request.
+// Returns whether `lint` takes files with these names as one database: there are several, and the request doesn't say that each is a
+// database.
 fn is_database(lint: &Lint<'_>, names: &[&str]) -> bool
     ensures { result ≡ spec.is_database lint.now (names_given names.now) }
 {

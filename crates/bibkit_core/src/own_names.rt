@@ -124,7 +124,7 @@ fn push_other(kept: &mut Vec<Finding>, own: &OwnNames, finding: Finding) -> Resu
     Ok(())
 }
 
-/// Returns the findings that don't report one of these names as unknown. The only error is out of memory.
+/// Returns the findings in `found` except those that report one of the names `own` as unknown. The only error is out of memory.
 pub fn without_own(
     alloc: Global,
     own: &OwnNames,

@@ -63,7 +63,7 @@ pub struct Lint<'a> {
     /// The conditions on entries. If there is one, only findings about entries whose key is that of an entry that meets all conditions
     /// are reported.
     pub conditions: Vec<Condition>,
-    /// The names that aren't reported as unknown, beside those of BibLaTeX.
+    /// The names of the project's own style. They aren't reported as unknown.
     pub own: OwnNames,
 }
 

@@ -182,7 +182,8 @@ fn delimiters(alloc: Global, value: &Value) -> Result<Option<Delimiters>, Config
     }
 }
 
-// Returns a name from an element of the setting `key`, which is to be `wanted`, such as a list of field names.
+// Returns a name from an element of the list that is the value of the setting `key`. If the element isn't a text, the error says that the
+// setting should be `wanted`, such as a list of field names.
 fn listed_name(
     alloc: Global,
     key: &str,
@@ -195,7 +196,8 @@ fn listed_name(
     }
 }
 
-// Returns the names that the setting `key` lists, which is to be `wanted`, such as a list of field names.
+// Returns the names in the list that is the value of the setting `key`. If the value isn't a list of texts, the error says that the setting
+// should be `wanted`, such as a list of field names.
 fn listed_names(
     alloc: Global,
     key: &str,
@@ -212,7 +214,7 @@ fn listed_names(
     Ok(names)
 }
 
-// What settings that list names of fields are to be.
+// The words for a list of field names in errors.
 const FIELD_NAMES: &str = "a list of field names";
 
 // Sets the setting with this key of the table `own`. Fails if the table has no such setting, or if the value is wrong for it.

@@ -212,7 +212,7 @@ can_be_removed text f (g ∷ gs) = is_comment_free text f (g ∷ gs)
 -- the change of a field, by its replacement. `fields` are those of its entry, and `following` are those after it. The last part of a date
 -- is replaced by the date, and the parts before it are removed. A `type` that became the entry's type is removed. If it can't be, its value
 -- becomes the text that styles print for the type. New fields have the layout of the field that they replace: the white space before its
--- name is before each of them, and their equals signs are as in `sign_at`.
+-- name is before each of them, and `sign_at` is between their names and values.
 abbrev pub field_change : List ℕ → List FieldReading → FieldReading → List FieldReading → Option Replacement → FieldChange
 field_change text fields f following None = FieldChange.kept
 field_change text fields f following (Some (Replacement.with_name name)) = FieldChange.renamed name

@@ -129,8 +129,8 @@ abbrev pub to_fields : Bool → Option Side → List NewField
 to_fields defines None = []
 to_fields defines (Some side) = side_year to_names side ∷ more_fields defines to_names side
 
--- the text of the fields of a date's parts. The function returns the text between a name and its value, and a comma and the white space are
--- between two fields.
+-- the text of the fields of a date's parts. `sign` returns the text between a name and its value. A comma and the text `white` separate the
+-- fields.
 abbrev pub written_sides : (List ℕ → List ℕ) → List ℕ → Bool → Sides → List ℕ
 written_sides sign white defines sides =
     field_text_by sign (side_year from_names sides.from)

@@ -40,7 +40,7 @@ braced_field name text = record { name = name; value = braced_value text }
 
 -- the change of a field: it is kept, preceded by a new field, renamed, given a new value, replaced by new fields, or removed.
 -- The first text of `preceded` is between the new name and its value. The function of `replaced` returns this text for each new name. The
--- last text of both is white space: a comma and it follow each new field, except the last one of `replaced`.
+-- last text of both is white space. A comma and this white space follow each new field, except the last one of `replaced`.
 pub data FieldChange : Type 0 where
   kept : FieldChange
   preceded : NewField → List ℕ → List ℕ → FieldChange

@@ -141,8 +141,8 @@ pub(crate) fn new_sign(
 ///
 /// If `field` has more than one byte between its name and its equals sign, the new equals sign is in the same column. Otherwise it is in
 /// the column of the first of `fields` with more than one byte there. If there is no such field, the white space before the sign is that
-/// of `field`. The white space after the sign is that of `field`, too. If `field` has more than spaces and tabs around its sign, one
-/// space is before and after the new one.
+/// of `field`. The white space after the sign is that of `field`, too. If `field` has any other character than spaces and tabs around its
+/// sign, such as a line end, one space is before and after the new sign.
 ///
 /// # Errors
 ///

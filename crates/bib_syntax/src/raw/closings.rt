@@ -86,7 +86,8 @@ impl Braces {
     }
 }
 
-// Returns a `Closing` for each opening brace of `text` from the offset `start` on that no backslash escapes, sorted by `start`.
+// Returns a `Closing` for each opening brace that no backslash escapes, from the offset `start` of `text` on. They are sorted by their field
+// `start`.
 pub(crate) fn closings(alloc: Global, text: &str, start: usize) -> Result<Vec<Closing>, AllocError>
     requires { IsCharBoundary text.now start }
     ensures { IfOk result (λ found. AreClosings text.now found.items) }

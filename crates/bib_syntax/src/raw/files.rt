@@ -38,7 +38,7 @@ impl JoinedFiles {
         }
     }
 
-    /// Adds a file with this text after the others. Fails only if out of memory. The value must not be used after that.
+    /// Adds a file with this text after the others. Fails only if out of memory. Then a part of the file may have been added.
     pub fn push(&mut self, file: &str) -> Result<(), AllocError>
         ensures { OnOk result (self.new ≡ with_next self.old file.now) }
     {
@@ -64,8 +64,8 @@ impl JoinedFiles {
         &self.ends
     }
 
-    /// Parses each file like `RawBibliography::recover_parts`, as if the text ended with the file, and returns their content and
-    /// their skipped blocks in order. All spans are in bytes of the text of all files. Fails only if out of memory.
+    /// Parses each file as `RawBibliography::recover_parts` does, as if the text ended with the file. Returns the content and the skipped
+    /// blocks of all files, in order. All spans are in bytes of the text of all files. Fails only if out of memory.
     pub fn recover_parts(&self, alloc: Global) -> Result<RawRecovery<'_>, AllocError>
         ensures { IfOk result (λ found. AreFilesRecovered self.now (file_of found.raw) found.skipped.items) }
     {

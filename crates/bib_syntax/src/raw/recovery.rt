@@ -286,8 +286,8 @@ impl<'s> RawRecovery<'s> {
     }
 }
 
-// Parses the blocks of a file that begins at the offset `start` and ends with `src`. Skips those that can't be parsed. If `keeps_parts` is
-// true, keeps the complete parts of these.
+// Parses the blocks of a file that begins at the offset `start` of `src` and ends with `src`. Skips those that can't be parsed. If
+// `keeps_parts` is true, keeps the complete parts of these.
 pub(crate) fn recover(
     alloc: Global,
     src: &str,

@@ -4,7 +4,7 @@ use Rattle.bibkit_core.specs.Database.{AreFilesPrinted, no_findings}
 use Rattle.bibkit_core.specs.declared.tally.Tally.{Tally}
 use Rattle.bibkit_core.proofs.database.print_files.Given as goal
 
--- whatever is printed for the files that are left, the output for all files begins with what is printed
+-- whatever the output for the remaining files is, the output for all files begins with the text that is printed so far
 abbrev pub invariant-files : goal.invariant-files
 invariant-files l =
     ((rest : List ℕ) (after : Tally)

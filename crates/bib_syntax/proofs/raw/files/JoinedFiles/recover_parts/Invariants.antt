@@ -6,7 +6,7 @@ use Rattle.bib_syntax.specs.Views.{file_of}
 use Rattle.bib_syntax.specs.declared.raw.recovery.SkippedBlock.{SkippedBlock}
 use Rattle.bib_syntax.proofs.raw.files.JoinedFiles.recover_parts.Given as goal
 
--- whatever the files that are left contain, the content of all files begins with what is found
+-- whatever the remaining files contain, the content of all files begins with the content that is found so far
 abbrev pub invariant-files : goal.invariant-files
 invariant-files l =
     ((says : FileReading) (errors : List SkippedBlock) → RecoveredFrom l.text l.start (drop l.end-index l.end-items) says errors
