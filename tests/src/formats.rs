@@ -4,7 +4,7 @@
 //! commas between them, that come first, `width` and how many characters a field's line has at most.
 
 use edit_entries::document::RawDocument;
-use edit_format::formatting::format;
+use edit_format::formatting::{format, format_text};
 use edit_format::style::{Delimiters, Style};
 use std::alloc::{AllocError, Global};
 use crate::support::rows::Calls;
@@ -54,11 +54,20 @@ fn style_of<'a>(words: &str, order: &'a [&'a str]) -> Option<Style<'a>> {
     Some(style)
 }
 
-// A text in a style.
+// A text in a style, which `format` and `format_text` agree on.
 fn formatted(alloc: Global, text: &str, style: &Style<'_>) -> Result<String, AllocError> {
-    match RawDocument::parse(alloc, text) {
-        Ok(document) => format(alloc, &document, style),
-        Err(_) => String::from_str(alloc, "no bibliography"),
+    let by_entries = format_text(alloc, text, style);
+    let Ok(document) = RawDocument::parse(alloc, text) else {
+        let error = match by_entries {
+            Ok(_) => "`format_text` accepts it",
+            Err(_) => "no bibliography",
+        };
+        return String::from_str(alloc, error);
+    };
+    let new = format(alloc, &document, style)?;
+    match by_entries {
+        Ok(other) if other.as_str() == new.as_str() => Ok(new),
+        _ => String::from_str(alloc, "`format_text` differs"),
     }
 }
 

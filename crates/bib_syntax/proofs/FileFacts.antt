@@ -6,6 +6,7 @@ use Rattle.std.specs.Char.{is_whitespace}
 use Rattle.bib_text.specs.Places.{Place, CharAt, Run, Longest, AtEnd, between}
 use Rattle.bib_text.specs.Places.Run.{stop, step}
 use Rattle.bib_text.proofs.PlaceFacts.{same_char, char_clash, pass_clash, longest_same, longest_rest, left_smaller, Ahead, ahead_here, ahead_then, ahead_char, ahead_run, no_char_at_end}
+pub use Rattle.bib_syntax.specs.EntryReader.{FileRead}
 use Rattle.bib_syntax.specs.Characters.{is_key}
 use Rattle.bib_syntax.specs.Reading.{Part, part, FieldReading, EntryReading, FileReading, empty_reading, then, joined_preambles}
 use Rattle.bib_syntax.specs.Grammar.{Identifier, LineComment, Gap, Fields, Head, Body, Block, File, block_kind, longest}
@@ -142,11 +143,6 @@ then-empty_reading a =
 
 pub empty_reading-then : (a : FileReading) → then empty_reading a ≡ a
 empty_reading-then a = refl
-
--- the content parsed from `start` to `here`: a file from `here` continues it, and a failure from `here` is one from `start`
-pub record FileRead (start : Place) (says : FileReading) (here : Place) : Type 0 where
-  pub there : (r : FileReading) → File longest here r → File longest start (then says r)
-  pub fails : (kind : ParseErrorKind) (v : Place) → FileFails here kind v → FileFails start kind v
 
 -- whether a character outside of blocks and line comments is skipped
 abbrev pub is_skipped : ℕ → Bool

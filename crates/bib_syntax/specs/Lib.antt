@@ -1,6 +1,7 @@
 pub mod Blocks
 pub mod Characters
 pub mod Closings
+pub mod EntryReader
 pub mod Errors
 pub mod Failures
 pub mod Files

@@ -5,6 +5,7 @@
 //! the returned reading. `fails` (Err) states that the rule fails at the place before the call with the returned error, unless
 //! memory ran out. `words` parses names, keys, and the pieces of values. `fields` parses line comments, values and fields.
 //! `file` parses blocks and the file. Nested braces are counted without recursion, so no depth of braces overflows the stack.
+//! `entry_reader` parses a file one entry at a time, for callers that don't need the whole content at once.
 //!
 //! `specs/SyntaxErrors.antt` states how the rules of the grammar fail: with which error and at which place. `laws`
 //! proves, from the definitions only, that each UTF-8 text has exactly one raw reading or exactly one error, but not both.

@@ -10,6 +10,7 @@ ghost use Rattle.bib_syntax.specs.Views.{file_of};
 ghost use Rattle.bib_syntax.specs.declared.raw.ParseErrorKind.TheVariants.{OutOfMemory};
 
 mod closings;
+mod entry_reader;
 mod failing;
 mod failures;
 mod fields;
@@ -26,6 +27,7 @@ use bib_tables::type_error::TypeErrorKind;
 use bib_text::scanner::Scanner;
 use bib_text::spanned::{Span, Spanned};
 use bib_text::text::Text;
+pub use entry_reader::EntryReader;
 use file::blocks;
 pub use file::is_word;
 pub use files::JoinedFiles;

@@ -143,7 +143,7 @@ gaps_cut text start end {u} {v} same ordered cut (fields.more {v = stop_place} {
 
 -- ---- entries
 
-entry_cut : (text : List ℕ) {u v : Place} {e : EntryReading} → u.text ≡ text → EntryBlock u e v
+pub entry_cut : (text : List ℕ) {u v : Place} {e : EntryReading} → u.text ≡ text → EntryBlock u e v
     → IsCharBoundary text v.at → IsEntryCut text e
 entry_cut text {u} {v} {e} same b after =
     let to_key = ahead_then (ahead_head b.head) (ahead_run b.key.run) in

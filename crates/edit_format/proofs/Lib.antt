@@ -14,6 +14,7 @@ pub mod NameFacts
 pub mod OrderFacts
 pub mod PercentFacts
 pub mod PieceFacts
+pub mod ReaderFacts
 pub mod TwiceFacts
 pub mod ValueFacts
 pub mod WidthFacts

@@ -185,3 +185,10 @@ pub record IsReadAlike (says : FileReading) (text : List ℕ) : Type 0 where
   pub tells : FileReading
   pub read : IsRawReading text tells
   pub alike : content tells ≡ content says
+
+-- `new` is this text in one style, by the reading of the text; it parses to the expected reading
+pub record IsTextInStyle (style : Style) (text new : List ℕ) : Type 0 where
+  pub says : FileReading
+  pub read : IsRawReading text says
+  pub is : new ≡ text_in_style style text says
+  pub alike : IsReadAlike (says_in_order style text says) new

@@ -1,17 +1,20 @@
 //! The layout of a whole file.
 
-ghost use Rattle.std.specs.Prelude.{◌≡◌, IfOk, None, map};
+ghost use Rattle.std.specs.Prelude.{◌≡◌, ◌⊎◌, IfErr, IfOk, None, map};
 ghost use Rattle.std.specs.String.{string_bytes};
+ghost use Rattle.bib_syntax.specs.Errors.{Refuses, out_of_memory};
+ghost use Rattle.bib_syntax.specs.Grammar.{IsFile};
+ghost use Rattle.bib_syntax.specs.SyntaxErrors.{IsReported};
 ghost use Rattle.bib_syntax.specs.Views.{entry_reading_of};
 ghost use Rattle.edit_entries.specs.Cuts.{AreEntriesCut};
 ghost use Rattle.edit_format.specs.Formatted as styled;
-ghost use Rattle.edit_format.specs.Formatted.{IsReadAlike, line_end_of, says_in_order, text_in_style};
+ghost use Rattle.edit_format.specs.Formatted.{IsReadAlike, IsTextInStyle, line_end_of, says_in_order, text_in_style};
 
 use crate::entries::push_entry;
 use crate::gaps::push_gap;
 use crate::layout::Layout;
 use crate::style::Style;
-use bib_syntax::raw::RawEntry;
+use bib_syntax::raw::{EntryReader, ParseError, RawEntry};
 use bib_text::spanned::Spanned;
 use edit_entries::document::RawDocument;
 use edit_entries::line_ends::line_end;
@@ -75,4 +78,35 @@ pub fn format(
         style: *style,
     };
     with_entries(alloc, &layout, &document.raw().entries)
+}
+
+/// Returns `text` in one style, as `format` returns the text of its document. Parses entry by entry, so memory holds one entry beside the
+/// two texts. Fails like `RawDocument::parse`, or if out of memory.
+pub fn format_text(alloc: Global, text: &str, style: &Style<'_>) -> Result<String, ParseError>
+    ensures made { IfOk result (λ new. IsTextInStyle style.now text.now (string_bytes new)) }
+    ensures refused { IfErr result (λ e. Refuses text.now e (IsFile text.now → ⊥)) }
+    ensures reported { IfErr result (λ e. (e ≡ out_of_memory) ⊎ IsReported text.now e) }
+{
+    let layout = Layout {
+        text,
+        line_end: line_end(text),
+        style: *style,
+    };
+    let mut entries = EntryReader::new(text);
+    let mut new = String::new(alloc);
+    let mut at = 0usize;
+    let mut blank_lines = None;
+    'entries: while let Some(entry) = entries.next_entry(alloc)? {
+        push_gap(
+            &mut new,
+            layout.line_end,
+            blank_lines,
+            &text[at..entry.span.start],
+        )?;
+        push_entry(alloc, &mut new, &layout, &entry)?;
+        at = entries.cursor();
+        blank_lines = style.blank_lines;
+    }
+    new.push_str(&text[at..])?;
+    Ok(new)
 }
