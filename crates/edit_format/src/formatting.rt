@@ -95,7 +95,7 @@ pub fn format_text(alloc: Global, text: &str, style: &Style<'_>) -> Result<Strin
     let mut entries = EntryReader::new(text);
     let mut new = String::new(alloc);
     let mut at = 0usize;
-    let mut blank_lines = None;
+    let mut blank_lines: Option<usize> = None;
     'entries: while let Some(entry) = entries.next_entry(alloc)? {
         push_gap(
             &mut new,

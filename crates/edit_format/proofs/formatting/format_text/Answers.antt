@@ -52,7 +52,8 @@ pub returns-in_err-entry-clause-refused : goal.returns-in_err-entry-clause-refus
 returns-in_err-entry-clause-refused c =
     let p = err_from_is_err_and c.from_residual.result c.from_residual.ensures.1 in
     let read = c.entries.invariant.3.1 in
-    rw (p.1, p.2) (refuses_from {u = place c.args.text.now 0} {v = c.entries.entries} _ _ (record { text = c.entries.invariant.0; at = omega arith })
+    rw (p.1, p.2) (refuses_from {u = place c.args.text.now 0} {v = c.entries.entries} _ _
+    (record { text = c.entries.invariant.0; at = omega arith })
     (λ r file. let l = file_longest file.1 in file_unread (read.fails r.kind r.place r.fails) l.1)
     c.in_err-entry.ensures.fails)
 
