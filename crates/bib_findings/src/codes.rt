@@ -248,7 +248,7 @@ impl Code {
             Self::UnreadField =>
                 "The text of a field can't be parsed: a closing brace has no opening one, math has one dollar sign, or a command's argument has no closing brace. The field is removed. Add what is missing, or write \\$ for a dollar sign.",
             Self::UnknownAbbreviation =>
-                "A name has no braces or quotes around it, and is neither defined by @string nor a month (jan to dec). It is parsed as text. BibTeX and Biber put nothing in its place. Write it in braces, or define it.",
+                "A name has no braces or quotes around it, and is neither defined by @string nor a month (jan to dec). It is parsed as text. BibTeX and Biber put nothing in its place. Write it in braces, or define it. If a style defines it, list it in the table `own` of bibkit.toml.",
             Self::CircularAbbreviation =>
                 "The definition of an abbreviation refers to the abbreviation itself, directly or through others. Fields that use it are removed. Write the text itself in one of the definitions.",
             Self::DuplicateKey =>
@@ -258,7 +258,7 @@ impl Code {
             Self::UnreadDate =>
                 "An entry would inherit a year, month and day that can't be parsed, so it doesn't inherit them. Write the date as YYYY-MM-DD, YYYY-MM or YYYY in the entry that it refers to.",
             Self::UnknownType =>
-                "BibLaTeX doesn't know this entry type. It treats the entry as `misc`. Correct the type. If a known one is nearly the same, the message names it. A type of a style of your own is also unknown; then ignore this code.",
+                "BibLaTeX doesn't know this entry type. It treats the entry as `misc`. Correct the type. If a known one is nearly the same, the message names it. A type of a style of your own is also unknown; list it in the table `own` of bibkit.toml.",
             Self::MissingField =>
                 "BibLaTeX's data model requires this field of an entry of this type. The entry neither has nor inherits it, or has it without a value.",
             Self::SuperfluousField =>
@@ -270,7 +270,7 @@ impl Code {
             Self::MalformedDate =>
                 "The field isn't a date, so Biber ignores it. Write it as YYYY-MM-DD, YYYY-MM or YYYY, or as two of these with a slash between them.",
             Self::UnknownField =>
-                "BibLaTeX's data model has no field of this name, so BibLaTeX ignores it. If a known name is nearly the same, the message names it. Ignore this code if a style or a program of your own uses the field.",
+                "BibLaTeX's data model has no field of this name, so BibLaTeX ignores it. If a known name is nearly the same, the message names it. If a style or a program of your own uses the field, list it in the table `own` of bibkit.toml.",
             Self::ForeignField =>
                 "Another program writes this field for itself, for example a reference manager or a database. BibLaTeX ignores it. One finding for each name counts all fields with it.",
             Self::RepeatedField =>

@@ -1,7 +1,7 @@
 -- Meaning: words of public contracts.
 -- The findings of several files as one database. BibTeX and Biber read the files of a document in turn, as one database. Here a file can
 -- use the definitions and the entries of all files, even of later ones.
-use Rattle.std.specs.Prelude.{◌≡◌, ℕ, ◌+◌, ◌-◌, List, [], ◌∷◌, ◌++◌, Option, Some, None, drop, fold, map, nat_le, string_bytes, take}
+use Rattle.std.specs.Prelude.{◌≡◌, ℕ, ◌+◌, ◌-◌, List, [], ◌∷◌, ◌++◌, Option, Some, None, drop, fold, length, map, nat_le, string_bytes, take}
 use Rattle.std.specs.List.{prefix_len}
 use Rattle.bib_findings.specs.Findings.{AreFindingsOf, AreSortedByPlace}
 use Rattle.bib_findings.specs.declared.finding.Finding.{Finding}
@@ -56,6 +56,12 @@ finding_in start f = record f { span = record { start = f.span.start - start; en
 abbrev pub count_to : ℕ → List Finding → ℕ
 count_to end found = prefix_len (λ f. nat_le f.span.start end) found
 
+-- the number of findings about a file that ends at this offset, if files with these ends follow it: those that begin up to its end, or all
+-- if it is the last file
+abbrev pub count_in : List ℕ → ℕ → List Finding → ℕ
+count_in [] end found = length found
+count_in (next ∷ ends) end found = count_to end found
+
 -- `text` is the output for a file that begins at `start`, with these reported findings
 pub record IsStoredPrinted (lint : Lint) (start : ℕ) (file : StoredFile) (found : List Finding) (before : Tally) (text : List ℕ)
     (after : Tally) : Type 0 where
@@ -65,13 +71,13 @@ pub record IsStoredPrinted (lint : Lint) (start : ℕ) (file : StoredFile) (foun
 
 -- `text` is the output for files, the first of which begins at `start`. Each ends at one of the offsets, and the next begins after the
 -- percent sign and the line feed at this offset. `found` has the reported findings in order of their places. Those that begin up to the end
--- of a file are about this file. Findings after the end of the last file have no output.
+-- of a file are about this file, and all others are about the last file.
 pub data AreFilesPrinted (lint : Lint) : ℕ → List StoredFile → List ℕ → List Finding → Tally → List ℕ → Tally → Type 0 where
   none : {start : ℕ} {found : List Finding} {tally : Tally} → AreFilesPrinted lint start [] [] found tally [] tally
   next : {start end : ℕ} {file : StoredFile} {files : List StoredFile} {ends : List ℕ} {found : List Finding}
       {before between after : Tally} (first rest : List ℕ)
-      → IsStoredPrinted lint start file (take (count_to end found) found) before first between
-      → AreFilesPrinted lint (end + 2) files ends (drop (count_to end found) found) between rest after
+      → IsStoredPrinted lint start file (take (count_in ends end found) found) before first between
+      → AreFilesPrinted lint (end + 2) files ends (drop (count_in ends end found) found) between rest after
       → AreFilesPrinted lint start (file ∷ files) (end ∷ ends) found before (first ++ rest) after
 
 -- `text` is the output for the citations of the document, if there is one, that are the names of no entry. They are at their positions in

@@ -1,8 +1,8 @@
 -- Meaning: words of public contracts.
 -- Names of a project's own style: fields, entry types and abbreviations that BibLaTeX doesn't have. A project lists them, so that they
 -- aren't reported as unknown.
-use Rattle.std.specs.Prelude.{◌==◌, ℕ, Bool, false, not, List, [], Option, Some, None, codes, filter, if◌then◌else◌, length, nat_lt, string_bytes}
-use Rattle.std.specs.List.{before_first, list_any, position_or_len}
+use Rattle.std.specs.Prelude.{◌==◌, ℕ, Bool, false, not, List, [], Option, None, codes, eqb, filter, if◌then◌else◌, string_bytes}
+use Rattle.std.specs.List.{before_first, list_any}
 use Rattle.std.specs.Option.{option_and_then, option_map_or}
 use Rattle.bib_text.specs.Characters as char
 use Rattle.bib_findings.specs.declared.codes.Code.{Code}
@@ -10,16 +10,21 @@ use Rattle.bib_findings.specs.declared.codes.Code.TheVariants.{UnknownAbbreviati
 use Rattle.bib_findings.specs.declared.finding.Finding.{Finding}
 use Rattle.bib_queries.specs.Elements.{text_after_part, text_before_quote}
 use Rattle.bib_syntax.specs.Grammar.{is_word}
+use Rattle.bibkit_core.specs.Conditions.{before_end}
 use Rattle.bibkit_core.specs.declared.own_names.OwnNames.{OwnNames}
 
--- the text before the first backtick, or `None` without one
-abbrev pub text_before_backtick : List ℕ → Option (List ℕ)
-text_before_backtick text =
-    if nat_lt (position_or_len (λ b. b == char.grave) text) (length text) then Some (before_first (λ b. b == char.grave) text) else None
+-- the text before the first space, or the whole text
+abbrev pub first_word : List ℕ → List ℕ
+first_word text = before_first (λ b. b == char.space) text
 
--- the name in backticks after the first occurrence of these words, or `None` without one
+-- a word without the backtick at its end, or without the backtick and the semicolon there, or `None` without a backtick
+abbrev pub before_backtick : List ℕ → Option (List ℕ)
+before_backtick word = if ends_with eqb word (codes ";") then before_end (codes "`;") word else before_end (codes "`") word
+
+-- the name in backticks after the first occurrence of these words, or `None` without one. A name may contain a backtick, but no space. Its
+-- end is that of the message, or a semicolon and a space follow it.
 abbrev pub name_in_backticks : List ℕ → List ℕ → Option (List ℕ)
-name_in_backticks words message = option_and_then text_before_backtick (text_after_part words message)
+name_in_backticks words message = option_and_then (λ rest. before_backtick (first_word rest)) (text_after_part words message)
 
 -- the name in quotes after the first occurrence of these words, or `None` without one
 abbrev pub name_in_quotes : List ℕ → List ℕ → Option (List ℕ)

@@ -297,7 +297,7 @@ pub(crate) fn text_after<'m>(message: &'m str, words: &str) -> Option<&'m str>
 }
 
 // Returns the text without `words` at its end, or `None` if it doesn't end with them.
-fn before_end<'m>(text: &'m str, words: &str) -> Option<&'m str>
+pub(crate) fn before_end<'m>(text: &'m str, words: &str) -> Option<&'m str>
     ensures { option_map (λ name. name.now) result ≡ spec.before_end words.now text.now }
 {
     text.strip_suffix(words)

@@ -147,6 +147,18 @@ fn count_to(found: &[Finding], end: usize) -> usize
     found.len()
 }
 
+// Returns the number of findings about a file that ends at the offset `end`: those that begin up to it, or all if no files follow. `later`
+// has the ends of the files that follow.
+fn count_in(found: &[Finding], end: usize, later: &[usize]) -> usize
+    ensures count { result ≡ spec.count_in later.now end found.now }
+    ensures within { result ≤ length found.now }
+{
+    match later {
+        [] => found.len(),
+        [_, ..] => count_to(found, end),
+    }
+}
+
 // Returns these findings of a file that begins at the offset `start`, with their spans in the text of the file.
 fn findings_in(alloc: Global, start: usize, found: &[Finding]) -> Result<Vec<Finding>, AllocError>
     ensures { IfOk result (λ moved. moved.items ≡ map (finding_in start) found.now) }
@@ -207,14 +219,13 @@ fn print_files(
         text: String::new(alloc),
         tally: Tally::none(),
     };
-    let text = texts.text();
     let ends = texts.ends();
     let mut start = 0usize;
     let mut first = 0usize;
     'files: for index in 0..files.len() {
         let end = ends[index];
         let left = &found[first..];
-        let count = count_to(left, end);
+        let count = count_in(left, end, &ends[index + 1..]);
         print_file(
             alloc,
             &mut printed,

@@ -8,7 +8,7 @@ ghost use Rattle.bib_queries.specs.Elements.{text_before_quote};
 ghost use Rattle.bib_syntax.specs.Grammar.{is_word};
 ghost use Rattle.bibkit_core.specs.OwnNames as spec;
 
-use crate::conditions::text_after;
+use crate::conditions::{before_end, text_after};
 use bib_findings::codes::Code;
 use bib_findings::finding::Finding;
 use bib_syntax::raw::is_word;
@@ -40,12 +40,25 @@ impl OwnNames {
     }
 }
 
-// Returns the text before the first backtick, or `None` without one.
-fn before_backtick(text: &str) -> Option<&str>
-    ensures { option_map (λ name. name.now) result ≡ spec.text_before_backtick text.now }
+// Returns the text before the first space, or the whole text.
+fn first_word(text: &str) -> &str
+    ensures { result.now ≡ spec.first_word text.now }
 {
-    let (name, _) = text.split_once('`')?;
-    Some(name)
+    match text.split_once(' ') {
+        Some((word, _)) => word,
+        None => text,
+    }
+}
+
+// Returns a word without the backtick at its end, or without the backtick and the semicolon there. Returns `None` without a backtick.
+fn before_backtick(word: &str) -> Option<&str>
+    ensures { option_map (λ name. name.now) result ≡ spec.before_backtick word.now }
+{
+    if word.ends_with(";") {
+        before_end(word, "`;")
+    } else {
+        before_end(word, "`")
+    }
 }
 
 // Returns the text before the first quote, or `None` without one.
@@ -56,12 +69,12 @@ fn before_quote(text: &str) -> Option<&str>
     Some(name)
 }
 
-// Returns the name in backticks after the first occurrence of `words`, or `None` without one.
+// Returns the name in backticks after the first occurrence of `words`, or `None` without one. The name contains no space.
 fn name_in_backticks<'m>(message: &'m str, words: &str) -> Option<&'m str>
     ensures { option_map (λ name. name.now) result ≡ spec.name_in_backticks words.now message.now }
 {
     let rest = text_after(message, words)?;
-    before_backtick(rest)
+    before_backtick(first_word(rest))
 }
 
 // Returns the name in quotes after the first occurrence of `words`, or `None` without one.

@@ -17,7 +17,7 @@ use Rattle.edit_entries.specs.declared.errors.EditError.{EditError}
 use Rattle.edit_entries.specs.declared.errors.EditError.TheVariants as error
 use Rattle.edit_convert.specs.Conversions.{IsConverted}
 use Rattle.bib_tables.specs.declared.dialects.Dialect.{Dialect}
-use Rattle.edit_format.specs.Formatted.{IsReadAlike, says_in_order, text_in_style}
+use Rattle.edit_format.specs.Formatted.{IsReadAlike, IsTextInStyle, says_in_order, text_in_style}
 use Rattle.edit_format.specs.declared.style.Style.{Style}
 use Rattle.edit_entries.specs.Changes.{IsChanged}
 use Rattle.edit_entries.specs.FieldEdits.{HasFitValue, edit_name, first_start, selected_edited}
@@ -37,6 +37,7 @@ use Rattle.edit_orders.specs.declared.order.Order.{Order}
 use Rattle.bibkit_edits.specs.Edited.AreMade.{none, next}
 use Rattle.bibkit_edits.specs.Steps.{AddsError, AddsUnread, AreFirstMade, IsRefusedAt, IsTextRefused, StepIsRefused, edit_refusal, refusal_at, unless_no_memory}
 use Rattle.bibkit_edits.specs.declared.edit.Edit.{Edit}
+use Rattle.bibkit_edits.specs.declared.edit.Edit.TheVariants.{Format}
 use Rattle.bibkit_edits.specs.declared.edit.Refusal.{Refusal}
 use Rattle.bibkit_edits.specs.declared.edit.Refusal.TheVariants as refusal
 use Rattle.bibkit_edits.specs.declared.editing.Step.{Step}
@@ -51,6 +52,17 @@ style_made style d new is alike = record {
   is = refl;
   read = alike.read;
 }
+
+-- a text in a style that is made from another text is the text after a format
+pub text_style_made : (style : Style) (text new : List ℕ) → IsTextInStyle style text new → IsMade (Format style) text new
+text_style_made style text new is =
+    let document : Document = record { text = text; says = is.says } in
+    record {
+      document = document;
+      read = record { same = refl; read = is.read };
+      safe = refl;
+      edited = style_made style document new is.is is.alike;
+    }
 
 -- a text sorted by the places of an order, which parses like the sorted document, is an outcome of `Sort`
 pub order_made : (order : Order) (d : Document) (places new : List ℕ) → ArePlacesIn (order_parts order) d.says places

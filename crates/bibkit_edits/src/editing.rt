@@ -24,7 +24,7 @@ use edit_entries::document::RawDocument;
 use edit_entries::errors::EditError;
 use edit_entries::field_edits::FieldEdit;
 use edit_entries::line_ends::with_line_ends_of;
-use edit_format::formatting::format;
+use edit_format::formatting::{format, format_text};
 use edit_format::style::Style;
 use edit_orders::order::Order;
 use edit_orders::places::order_places;
@@ -328,9 +328,9 @@ fn refusal(step: Step, index: usize) -> Refusal
     }
 }
 
-// Applies an edit to a text, and returns the new text. `index` is the index of the edit, for its refusal. `is_last` says whether the
-// process ends after this edit. If so, the parsed text isn't freed, unless the edit is refused.
-fn edit_once(
+// Applies an edit to the document of a text, and returns the new text. `index` is the index of the edit, for its refusal. `is_last` says
+// whether the process ends after this edit. If so, the document isn't freed, unless the edit is refused.
+fn edit_parsed(
     alloc: Global,
     text: &str,
     edit: &Edit<'_>,
@@ -351,6 +351,27 @@ fn edit_once(
             Err(step) => Err(refusal(step, index)),
         },
         Err(error) => Err(file_refusal(error)),
+    }
+}
+
+// Applies an edit to a text, and returns the new text. `index` is the index of the edit, for its refusal. `is_last` says whether the
+// process ends after this edit, so that memory needn't be freed. To format a text takes no document of it, which would need more memory.
+fn edit_once(
+    alloc: Global,
+    text: &str,
+    edit: &Edit<'_>,
+    index: usize,
+    is_last: bool,
+) -> Result<String, Refusal>
+    ensures made { IfOk result (λ new. IsMade edit.now text.now (string_bytes new)) }
+    ensures refused { IfErr result (IsTextRefused edit.now text.now index) }
+{
+    match *edit {
+        Edit::Format { style } => match format_text(alloc, text, &style) {
+            Ok(new) => Ok(new),
+            Err(error) => Err(file_refusal(error)),
+        },
+        _ => edit_parsed(alloc, text, edit, index, is_last),
     }
 }
 

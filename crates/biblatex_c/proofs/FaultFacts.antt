@@ -11,9 +11,10 @@ use Rattle.biblatex_c.specs.Calls.{AreFaults}
 pub faults_found : {bytes begin found : List ℕ} (end : List ℕ) {status : ℕ} {lint : Lint} (begun ended : Linting)
     → BeginsLinting lint begun → lint.style ≡ style.Json
     → lint.selection.only.items ≡ [] → lint.selection.ignored.items ≡ [] → lint.cited ≡ None → lint.conditions.items ≡ []
-    → begin ≡ linting_begins begun
+    → lint.own.fields.items ≡ [] → lint.own.types.items ≡ [] → lint.own.abbreviations.items ≡ [] → begin ≡ linting_begins begun
     → linting_prints begun [] bytes found ended → linting_ends ended end status → AreFaults bytes ((begin ++ found) ++ end)
-faults_found {bytes} {begin} {found} end begun ended begins json only ignored cited every opens prints ends =
+faults_found {bytes} {begin} {found} end begun ended begins json only ignored cited every fields types abbreviations opens
+    prints ends =
     let same = begins.lint_is in
     let in_json : begun.lint.now.style ≡ style.Json = ap (λ l. l.style) same ∙ json in
     let opened : begin ≡ codes "[" = opens ∙ ap opening in_json in
@@ -27,6 +28,9 @@ faults_found {bytes} {begin} {found} end begun ended begins json only ignored ci
       all = ap (λ l. l.selection.ignored.items) same ∙ ignored;
       uncited = ap (λ l. l.cited) same ∙ cited;
       every = ap (λ l. l.conditions.items) same ∙ every;
+      no_fields = ap (λ l. l.own.fields.items) same ∙ fields;
+      no_types = ap (λ l. l.own.types.items) same ∙ types;
+      no_abbreviations = ap (λ l. l.own.abbreviations.items) same ∙ abbreviations;
       none = begun.tally;
       no_errors = begins.no_errors;
       no_warnings = begins.no_warnings;

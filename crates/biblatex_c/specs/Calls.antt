@@ -82,8 +82,8 @@ pub record IsWrittenAs (target : Target) (text answer : List ℕ) : Type 0 where
   pub of_text : IsBibliographyOf text bibliography
   pub is : answer ≡ exported_text target bibliography
 
--- `answer` is a JSON array of all findings of `bytes`, each with an empty file name: no code is selected or ignored, and no
--- document is compared
+-- `answer` is a JSON array of all findings of `bytes`, each with an empty file name: no code is selected or ignored, no name is one of a
+-- project, and no document is compared
 pub record AreFaults (bytes answer : List ℕ) : Type 0 where
   pub lint : Lint
   pub in_json : lint.style ≡ style.Json
@@ -91,6 +91,9 @@ pub record AreFaults (bytes answer : List ℕ) : Type 0 where
   pub all : lint.selection.ignored.items ≡ []
   pub uncited : lint.cited ≡ None
   pub every : lint.conditions.items ≡ []
+  pub no_fields : lint.own.fields.items ≡ []
+  pub no_types : lint.own.types.items ≡ []
+  pub no_abbreviations : lint.own.abbreviations.items ≡ []
   pub none : Tally
   pub no_errors : none.errors ≡ 0
   pub no_warnings : none.warnings ≡ 0

@@ -8,8 +8,8 @@ const LINT_HELP: &str = "\
 Findings are lines FILE:LINE:COLUMN: error|warning|info: TEXT [CODE]. A file bibkit.toml in the folder of the first file, or in one
 above it, has the settings of a project: ignore, only, color, format, fail-on and the table own.
 
-Several files are one database: a file can use the definitions and the entries of the others, and a key of one is a duplicate in another.
-With --each, each file is a database of its own.
+Several files are one database. A file can use the definitions and the entries of the others. An entry is a duplicate if an entry of an
+earlier file has its key. With --each, each file is a database of its own.
 
 --where leaves out findings that are about no entry, such as bytes that aren't UTF-8. It keeps a finding about two entries, such as a
 duplicate, if one of them meets the conditions. `bibkit help select` has the conditions.
