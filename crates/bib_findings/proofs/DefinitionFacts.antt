@@ -1,5 +1,5 @@
 -- Definitions with the same pieces, and the last definition of each abbreviation.
-use Rattle.std.proofs.Common.{◌≡◌, ◌<◌, ◌≤◌, ◌+◌, ℕ, Bool, true, false, ◌&&◌, List, [], ◌∷◌, ◌++◌, length, drop, get_or, map, suc, Option, Some, None, refl, sym, ap, ap₂, ◌∙◌, cond}
+use Rattle.std.proofs.Common.{◌≡◌, ◌<◌, ◌≤◌, ◌+◌, ℕ, Bool, true, false, ◌&&◌, List, [], ◌∷◌, ◌++◌, length, drop, get_or, map, suc, Option, Some, refl, sym, ap, ap₂, ◌∙◌, cond}
 use Rattle.std.specs.Prelude.{bytes_eq, find, reverse}
 use Rattle.std.specs.Borrow.{Bor}
 use Rattle.std.specs.Map.{update}
