@@ -527,6 +527,17 @@ run 'an error in the definition that another file uses' 1 $'math1.bib:1:19: erro
 printf '@inbook{d, author={A}, title={T}, bookauthor={B}, crossref={p}}\n@book{p, author={A}, title={P}, year={}}\n' >noyear.bib
 "$program" lint --only unread-date end2.bib noyear.bib >output
 holds "a year of the second file that can't be read" prints 'noyear.bib:2:39: warning: '
+# an error in a long month, at an offset after the end of all files
+{
+    printf '@string{w={%s}}\n' '- - - - - - - - - - - - - - - - - - - - '
+    printf '@inbook{d, author={A}, title={T}, bookauthor={B}, crossref={p}}\n@book{p, author={A}, title={P}, year={2000}, month="may "'
+    for part in {1..30}; do printf '#w'; done
+    printf '#{x}}\n'
+} >void.bib
+"$program" lint --only unread-date end2.bib void.bib >output
+holds 'an error after the end of the last file' prints 'errors: 0, warnings: 1'
+"$program" lint --only unread-date void.bib end2.bib >output
+holds 'an error after the end of the first file' prints 'errors: 0, warnings: 1'
 
 # fields of other programs are counted over all files
 printf '@misc{f1, title={A}, year={2000}, owner={me}, groups={x}}\n' >own1.bib
@@ -1269,6 +1280,12 @@ printf '[own]\nfields = ["whatever", "acm"]\ntypes = ["nofield", "acm"]\nabbrevi
 run 'own names of another kind' 1 "$own_types$own_fields$own_abbreviations$others"$'errors: 0, warnings: 6\n' lint --only "$unknown" project/own.bib
 printf '[own]\nfields = ["nofield", "nofield2"]\ntypes = ["whatever", "other"]\nabbreviations = ["acm", "ieee"]\n' >project/bibkit.toml
 run 'own names of two files' 0 $'errors: 0, warnings: 0\n' lint --only "$unknown" project/own.bib one.bib
+printf '@a`b{k, title={T}, note`2={x}, note2`={x}, titel`={x}}\n' >project/backtick.bib
+printf '[own]\nfields = ["note", "titel"]\ntypes = ["a"]\n' >project/bibkit.toml
+"$program" lint --only "$unknown" project/backtick.bib >output
+holds 'names up to a backtick are not own names' prints 'errors: 0, warnings: 4'
+printf '[own]\nfields = ["note`2", "note2`", "titel`"]\ntypes = ["A`B"]\n' >project/bibkit.toml
+run 'own names with backticks' 0 $'errors: 0, warnings: 0\n' lint --only "$unknown" project/backtick.bib
 while IFS='|' read -r key value wanted; do
     printf '[own]\n%s = %s\n' "$key" "$value" >project/bibkit.toml
     run "wrong own names, $key = $value" 2 '' lint project/one.bib

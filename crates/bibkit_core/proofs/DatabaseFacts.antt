@@ -12,7 +12,7 @@ use Rattle.bib_syntax.specs.Files.{FilesText, no_files, with_next}
 use Rattle.std.specs.List.{fold}
 use Rattle.bibkit_core.specs.Adding.{IsAdded}
 use Rattle.bibkit_core.specs.Compared.{missing_finding}
-use Rattle.bibkit_core.specs.Database.{AreFilesPrinted, IsStoredPrinted, count_in, joined_texts, no_findings}
+use Rattle.bibkit_core.specs.Database.{AreFilesPrinted, IsStoredPrinted, count_of_file, joined_texts, no_findings}
 use Rattle.bibkit_core.specs.Database.{AreFilesPrinted as printed}
 use Rattle.bibkit_core.specs.declared.database.StoredFile.{StoredFile}
 use Rattle.bibkit_core.specs.declared.lint.Printed.{Printed}
@@ -37,14 +37,14 @@ missing_more known cs i c within is =
     ∙ map-append missing_finding (filter test (take i cs)) (filter test (c ∷ []))
     ∙ ap (λ l. map missing_finding (filter test (take i cs)) ++ l) (one_missing known c)
 
--- the findings from an index on
-pub left_is : (found : List Finding) (first : ℕ) → take (length found - first) (drop first found) ≡ drop first found
-left_is found first = take_all (length found - first) (drop first found) (omega (arith, length-drop first found))
+-- the elements from an index on
+pub left_is : {A : Type 0} (xs : List A) (first : ℕ) → take (length xs - first) (drop first xs) ≡ drop first xs
+left_is xs first = take_all (length xs - first) (drop first xs) (omega (arith, length-drop first xs))
 
 -- the output for the files up to an index, and for the file there
 pub files_more : {lint : Lint} (files : List StoredFile) (ends : List ℕ) (found slice : List Finding) (start first count index : ℕ)
     (file : StoredFile) {old new : Printed} → index < length files → index < length ends → file ≡ get_or files index file
-    → count ≡ count_in (drop (index + 1) ends) (get_or ends index 0) (drop first found) → slice ≡ take count (drop first found)
+    → count ≡ count_of_file (drop (index + 1) ends) (get_or ends index 0) (drop first found) → slice ≡ take count (drop first found)
     → IsAdded (IsStoredPrinted lint start file slice) old new
     → ((rest : List ℕ) (after : Tally)
     → AreFilesPrinted lint start (drop index files) (drop index ends) (drop first found) old.tally rest after
@@ -58,9 +58,9 @@ files_more {lint} files ends found slice start first count index file {old} {new
     let end = get_or ends index 0 in
     let left = drop first found in
     let later = drop (index + 1) ends in
-    let here : IsStoredPrinted lint start file (take (count_in later end left) left) old.tally added.text new.tally =
+    let here : IsStoredPrinted lint start file (take (count_of_file later end left) left) old.tally added.text new.tally =
     subst (λ l. IsStoredPrinted lint start file l old.tally added.text new.tally) (sliced ∙ ap (λ n. take n left) counted) added.are in
-    let following : AreFilesPrinted lint (end + 2) (drop (index + 1) files) (drop (index + 1) ends) (drop (count_in later end left) left)
+    let following : AreFilesPrinted lint (end + 2) (drop (index + 1) files) (drop (index + 1) ends) (drop (count_of_file later end left) left)
     new.tally rest after =
     subst (λ l. AreFilesPrinted lint (end + 2) (drop (index + 1) files) (drop (index + 1) ends) l new.tally rest after)
     (sym (ap (λ n. drop n left) (sym counted) ∙ drop-drop count first found)) tail in

@@ -58,9 +58,9 @@ count_to end found = prefix_len (λ f. nat_le f.span.start end) found
 
 -- the number of findings about a file that ends at this offset, if files with these ends follow it: those that begin up to its end, or all
 -- if it is the last file
-abbrev pub count_in : List ℕ → ℕ → List Finding → ℕ
-count_in [] end found = length found
-count_in (next ∷ ends) end found = count_to end found
+abbrev pub count_of_file : List ℕ → ℕ → List Finding → ℕ
+count_of_file [] end found = length found
+count_of_file (next ∷ ends) end found = count_to end found
 
 -- `text` is the output for a file that begins at `start`, with these reported findings
 pub record IsStoredPrinted (lint : Lint) (start : ℕ) (file : StoredFile) (found : List Finding) (before : Tally) (text : List ℕ)
@@ -76,8 +76,8 @@ pub data AreFilesPrinted (lint : Lint) : ℕ → List StoredFile → List ℕ �
   none : {start : ℕ} {found : List Finding} {tally : Tally} → AreFilesPrinted lint start [] [] found tally [] tally
   next : {start end : ℕ} {file : StoredFile} {files : List StoredFile} {ends : List ℕ} {found : List Finding}
       {before between after : Tally} (first rest : List ℕ)
-      → IsStoredPrinted lint start file (take (count_in ends end found) found) before first between
-      → AreFilesPrinted lint (end + 2) files ends (drop (count_in ends end found) found) between rest after
+      → IsStoredPrinted lint start file (take (count_of_file ends end found) found) before first between
+      → AreFilesPrinted lint (end + 2) files ends (drop (count_of_file ends end found) found) between rest after
       → AreFilesPrinted lint start (file ∷ files) (end ∷ ends) found before (first ++ rest) after
 
 -- `text` is the output for the citations of the document, if there is one, that are the names of no entry. They are at their positions in

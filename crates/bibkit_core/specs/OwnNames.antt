@@ -1,9 +1,9 @@
 -- Meaning: words of public contracts.
 -- Names of a project's own style: fields, entry types and abbreviations that BibLaTeX doesn't have. A project lists them, so that they
 -- aren't reported as unknown.
-use Rattle.std.specs.Prelude.{◌==◌, ℕ, Bool, false, not, List, [], Option, None, codes, eqb, filter, if◌then◌else◌, string_bytes}
+use Rattle.std.specs.Prelude.{◌==◌, ℕ, Bool, false, not, List, [], Option, None, codes, filter, string_bytes}
 use Rattle.std.specs.List.{before_first, list_any}
-use Rattle.std.specs.Option.{option_and_then, option_map_or}
+use Rattle.std.specs.Option.{option_and_then, option_map_or, option_or}
 use Rattle.bib_text.specs.Characters as char
 use Rattle.bib_findings.specs.declared.codes.Code.{Code}
 use Rattle.bib_findings.specs.declared.codes.Code.TheVariants.{UnknownAbbreviation, UnknownField, UnknownType}
@@ -17,9 +17,9 @@ use Rattle.bibkit_core.specs.declared.own_names.OwnNames.{OwnNames}
 abbrev pub first_word : List ℕ → List ℕ
 first_word text = before_first (λ b. b == char.space) text
 
--- a word without the backtick at its end, or without the backtick and the semicolon there, or `None` without a backtick
+-- a word without a backtick and a semicolon at its end, or without a backtick at its end, or `None` if it ends otherwise
 abbrev pub before_backtick : List ℕ → Option (List ℕ)
-before_backtick word = if ends_with eqb word (codes ";") then before_end (codes "`;") word else before_end (codes "`") word
+before_backtick word = option_or (before_end (codes "`;") word) (before_end (codes "`") word)
 
 -- the name in backticks after the first occurrence of these words, or `None` without one. A name may contain a backtick, but no space. Its
 -- end is that of the message, or a semicolon and a space follow it.

@@ -149,8 +149,8 @@ fn count_to(found: &[Finding], end: usize) -> usize
 
 // Returns the number of findings about a file that ends at the offset `end`: those that begin up to it, or all if no files follow. `later`
 // has the ends of the files that follow.
-fn count_in(found: &[Finding], end: usize, later: &[usize]) -> usize
-    ensures count { result ≡ spec.count_in later.now end found.now }
+fn count_of_file(found: &[Finding], end: usize, later: &[usize]) -> usize
+    ensures count { result ≡ spec.count_of_file later.now end found.now }
     ensures within { result ≤ length found.now }
 {
     match later {
@@ -219,13 +219,14 @@ fn print_files(
         text: String::new(alloc),
         tally: Tally::none(),
     };
+    let text = texts.text();
     let ends = texts.ends();
     let mut start = 0usize;
     let mut first = 0usize;
     'files: for index in 0..files.len() {
         let end = ends[index];
         let left = &found[first..];
-        let count = count_in(left, end, &ends[index + 1..]);
+        let count = count_of_file(left, end, &ends[index + 1..]);
         print_file(
             alloc,
             &mut printed,

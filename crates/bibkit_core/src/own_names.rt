@@ -50,14 +50,13 @@ fn first_word(text: &str) -> &str
     }
 }
 
-// Returns a word without the backtick at its end, or without the backtick and the semicolon there. Returns `None` without a backtick.
+// Returns a word without a backtick and a semicolon at its end, or without a backtick at its end, or `None` if it ends otherwise.
 fn before_backtick(word: &str) -> Option<&str>
     ensures { option_map (λ name. name.now) result ≡ spec.before_backtick word.now }
 {
-    if word.ends_with(";") {
-        before_end(word, "`;")
-    } else {
-        before_end(word, "`")
+    match before_end(word, "`;") {
+        Some(name) => Some(name),
+        None => before_end(word, "`"),
     }
 }
 

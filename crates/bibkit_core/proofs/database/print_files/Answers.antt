@@ -1,5 +1,5 @@
-use Rattle.std.proofs.Common.{◌≡◌, ◌∙◌, ◌+◌, arith, drop, ap, get_or, length, subst, sym, take}
-use Rattle.bibkit_core.specs.Database.{AreFilesPrinted, count_in, no_findings}
+use Rattle.std.proofs.Common.{◌≡◌, ◌∙◌, ◌+◌, ◌-◌, arith, drop, ap, get_or, length, subst, sym, take}
+use Rattle.bibkit_core.specs.Database.{AreFilesPrinted, count_of_file, no_findings}
 use Rattle.std.specs.String.{string_bytes}
 use Rattle.std.proofs.lemmas.List.{length-drop}
 use Rattle.bibkit_core.proofs.DatabaseFacts.{files_all, files_more, left_is}
@@ -9,15 +9,17 @@ pub files-preserved : goal.files-preserved
 files-preserved c =
     let ends = c.ends-ends.result.now in
     let size : length c.args.files.now ≡ length ends = c.requires ∙ sym (ap length c.ends-ends.ensures.ends) in (
-      files_more c.args.files.now ends c.args.found.now _ c.files.start c.files.first c.count_in-count.result c.files.index
+      files_more c.args.files.now ends c.args.found.now _ c.files.start c.files.first c.count_of_file-count.result c.files.index
           c.index-files-index.result c.files-test.true (omega (arith, size, c.files-test.true)) c.index-files-index.is
-          (c.count_in-count.ensures.count
-          ∙ ap (λ later. count_in later (get_or ends c.files.index 0) c.range_from-left.result.now) ?
-          ∙ ap (count_in (drop (c.files.index + 1) ends) (get_or ends c.files.index 0)) (left_is c.args.found.now c.files.first))
-          (ap (take c.count_in-count.result) (left_is c.args.found.now c.files.first)) c.in_ok-print_file.ensures c.files.invariant.0,
+          (c.count_of_file-count.ensures.count
+          ∙ ap (λ later. count_of_file later (get_or ends c.files.index 0)
+          (take (length c.args.found.now - c.files.first) (drop c.files.first c.args.found.now)))
+          (left_is ends (c.files.index + 1))
+          ∙ ap (count_of_file (drop (c.files.index + 1) ends) (get_or ends c.files.index 0)) (left_is c.args.found.now c.files.first))
+          (ap (take c.count_of_file-count.result) (left_is c.args.found.now c.files.first)) c.in_ok-print_file.ensures c.files.invariant.0,
       omega (
         arith,
-        c.count_in-count.ensures.within,
+        c.count_of_file-count.ensures.within,
         ap length (left_is c.args.found.now c.files.first),
         length-drop c.files.first c.args.found.now,
         c.files.invariant.1,

@@ -9,4 +9,5 @@ returns-clause-found c =
     let whole = c.in_ok-push_str-2.ensures.bytes ∙ ap₂ ◌++◌ begun c.deref-2.ensures in
     subst (AreFaults c.args.bytes.now) (sym whole) (faults_found _ c.new-linting.result c.file.new.self
     c.new-linting.ensures refl c.new.ensures.items c.new-2.ensures.items refl
-    c.new-3.ensures.items c.none.ensures.fields c.none.ensures.types c.none.ensures.abbreviations c.begin.ensures c.in_ok-found.ensures c.in_ok-ending.ensures)
+    c.new-3.ensures.items c.none.ensures.fields c.none.ensures.types c.none.ensures.abbreviations
+    c.begin.ensures c.in_ok-found.ensures c.in_ok-ending.ensures)
