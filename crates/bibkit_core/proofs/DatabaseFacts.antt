@@ -60,7 +60,7 @@ files_more {lint} files ends found slice start first count index file {old} {new
     let later = drop (index + 1) ends in
     let here : IsStoredPrinted lint start file (take (count_of_file later end left) left) old.tally added.text new.tally =
     subst (λ l. IsStoredPrinted lint start file l old.tally added.text new.tally) (sliced ∙ ap (λ n. take n left) counted) added.are in
-    let following : AreFilesPrinted lint (end + 2) (drop (index + 1) files) (drop (index + 1) ends) (drop (count_of_file later end left) left)
+    let following : AreFilesPrinted lint (end + 2) (drop (index + 1) files) later (drop (count_of_file later end left) left)
     new.tally rest after =
     subst (λ l. AreFilesPrinted lint (end + 2) (drop (index + 1) files) (drop (index + 1) ends) l new.tally rest after)
     (sym (ap (λ n. drop n left) (sym counted) ∙ drop-drop count first found)) tail in
