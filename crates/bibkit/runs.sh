@@ -1532,8 +1532,16 @@ rm months.bib
 for format in csl json; do
     : >input
     run "$format of nothing" 0 $'[]\n' convert --to $format
-    run "$format of a file with an error" 1 $'[]\n' convert --to $format broken.bib
 done
+item='{"id":"a","title":"A","type":"document"}'
+run 'items of a file with an error' 1 "[
+$item
+]
+" convert --to csl broken.bib
+run 'JSON of a file with an error' 1 '[
+{"fields":{"title":{"chunks":[{"end":17,"kind":"normal","start":16,"text":"A"}]}},"key":"a","type":"misc"}
+]
+' convert --to json broken.bib
 run 'RIS of nothing' 0 '' convert --to ris
 cat >parents.bib <<'BIB'
 @inproceedings{c, title={T}, crossref={p}, year=2020}
@@ -1551,12 +1559,59 @@ run 'JSON of entries that meet a condition' 0 $'[\n{"fields":{"title":{"chunks":
 run 'no entry meets the condition' 1 $'[]\n' convert --to csl --where 'type = book' parents.bib
 run_messages 'a condition for BibTeX' 2 $'bibkit: `--where` requires `--to csl`, `--to json` or `--to ris`\n' convert --to bibtex --where 'type = book' parents.bib
 run_messages 'a condition that is none' 2 $'bibkit: --where `type`: expected `=` or `!=` at byte 4\n' convert --to csl --where type parents.bib
-run 'a file with an error, and another' 1 $'[\n{"id":"a","title":"A","type":"document"}\n]\n' convert --to csl broken.bib a.bib
-run_messages 'the error of a file is said' 1 $'broken.bib:3:1: error: expected comma\n' convert --to csl broken.bib a.bib
+run 'a file with an error, and another' 1 "[
+$item,
+$item
+]
+" convert --to csl broken.bib a.bib
+run_messages 'the error of a file is said' 1 $'broken.bib:3:1: error: c: expected comma [syntax]\n' convert --to csl broken.bib a.bib
+cat >errors.bib <<'BIB'
+@misc{b, title={B} year=2020}
+@misc{a, title={A}, note={$x}}
+@inproceedings{d, title={T}, crossref={p}}
+@misc{c, title=nope}
+@misc{c, title={Again}}
+@proceedings{p, title={P}, year=2019, address={Paris}}
+BIB
+child='{"container-title":"P","id":"d","issued":{"date-parts":[[2019]]},"publisher-place":"Paris","title":"T","type":"paper-conference"}'
+parent='{"id":"p","issued":{"date-parts":[[2019]]},"publisher-place":"Paris","title":"P","type":"book"}'
+undefined='{"id":"c","title":"nope","type":"document"}'
+run 'items of the entries that can be parsed' 1 "[
+$item,
+$child,
+$undefined,
+$parent
+]
+" convert --to csl errors.bib
+run 'items of entries that can be parsed and meet a condition' 1 "[
+$undefined
+]
+" convert --to csl --where 'key = c' --where 'title = nope' errors.bib
+run 'records of the entries that can be parsed' 1 $'TY  - GEN\nTI  - nope\nID  - c\nER  - \n\n' convert --to ris --where 'key = c' errors.bib
+run 'JSON has the byte offsets of the file' 1 '[
+{"fields":{"title":{"chunks":[{"end":47,"kind":"normal","start":46,"text":"A"}]}},"key":"a","type":"misc"}
+]
+' convert --to json --where 'key = a' errors.bib
+errors=syntax,unread-field,unknown-abbreviation,circular-abbreviation,duplicate-key,circular-reference,unread-date
+"$program" lint --only $errors errors.bib | head -n -1 >lines
+"$program" convert --to csl errors.bib >output 2>messages
+holds 'convert reports the errors that lint reports' cmp messages lines
+holds 'convert reports four errors' test "$(wc -l <messages)" = 4
+run 'BibTeX of a file with errors' 1 '' convert --to bibtex errors.bib
+run 'no entry that can be parsed' 1 $'[]\n' convert --to csl --where 'key = b' errors.bib
 run 'a file that is not there, and another' 2 $'[\n{"id":"a","title":"A","type":"document"}\n]\n' convert --to csl nothing.bib a.bib
 run 'BibTeX of a file with an error' 1 '' convert --to bibtex broken.bib
+printf '@string{jan = {Winter}}\n' >winter.bib
+printf '\xef\xbb\xbf@misc{a, date={2020-01}}\n' >dated.bib
+printf '@misc{b, year=2020, month=jan}\n' >parted.bib
+printf '@misc{c, date={2020-01-05}}\n' >day.bib
+run 'a month that another file defines' 0 $'@string{jan = {Winter}}\n@misc{a, year={2020}, month={January}}\n' convert --to bibtex winter.bib dated.bib
+run 'a month that a later file defines' 0 $'\xef\xbb\xbf@misc{a, year={2020}, month={January}}\n@string{jan = {Winter}}\n' convert --to bibtex dated.bib winter.bib
+run 'a month that no file defines' 0 $'@misc{b, date={2020-01}}\n@misc{b, date={2020-01}}\n' convert --to biblatex parted.bib parted.bib
+run 'nothing of several files is converted as one text' 1 '' convert --to bibtex winter.bib broken.bib dated.bib
+run_messages 'the note on a file of several' 0 $'day.bib:1:10: note: `date` becomes several fields, but no standard style of BibTeX reads a day or a second date\n' convert --to bibtex winter.bib day.bib
 printf '@misc{a, title=b}\n@misc{a, title={A}}\n' >abbreviated.bib
-run_messages 'an abbreviation that is not defined' 1 $'abbreviated.bib:1:16: error: unknown abbreviation "b"\n' convert --to csl abbreviated.bib
+run_messages 'an abbreviation that is not defined' 1 $'abbreviated.bib:1:16: warning: unknown abbreviation "b" [unknown-abbreviation]\nabbreviated.bib:2:1: error: duplicate key "a" [duplicate-key]\n' convert --to csl abbreviated.bib
 printf '@misc{a, title={\xe9}}\n' >latin.bib
 run 'items of a file in Windows-1252' 0 $'[\n{"id":"a","title":"é","type":"document"}\n]\n' convert --to csl latin.bib
 run 'BibTeX of a file in Windows-1252' 2 '' convert --to bibtex latin.bib
@@ -1821,7 +1876,7 @@ run 'fields of selected entries are removed after the other edits' 0 $'@misc{a, 
 run 'a field between two comments, of all entries' 0 $'@book{k,\n  author = {A},\n  % about the title % about the year\n  year = 2000,\n}\n' edit --unset title -f comments.bib
 printf '@misc{a, note={x}, title={T}}\n@misc{c, Note={x}}\n' >lone.bib
 refuses 'all fields of an entry' 1 $'bibkit: lone.bib: `c`: `note`: the entry would have no field left\n' edit --unset note -f lone.bib
-refuses 'all fields of an entry, in two steps' 1 $'bibkit: two.bib: `author`: the entry would have no field left\n' edit --unset title,author -f two.bib
+refuses 'all fields of an entry, in two steps' 1 $'bibkit: two.bib: `a`: `author`: the entry would have no field left\n' edit --unset title,author -f two.bib
 run 'selected entries are removed' 0 $'@misc{a, title={A}, author={B}}\n\n' remove --where 'year = 1984' -f two.bib
 run 'no entry is removed' 0 "$(cat two.bib)"$'\n' remove --where 'key = z' -f two.bib
 run 'neither keys nor a condition' 2 '' remove -f two.bib

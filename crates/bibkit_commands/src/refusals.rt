@@ -2,6 +2,7 @@
 
 use crate::edits::after_mark;
 use crate::stops::{Stop, error_line, syntax_line};
+use crate::unsetting::unset_line;
 use bib_queries::names::entry_names;
 use bib_syntax::raw::{Pair, ParseError, RawBibliography, RawChunk, RawEntry};
 use bib_text::spanned::Spanned;
@@ -167,37 +168,6 @@ fn added_line(
     }
 }
 
-// Returns whether an entry has one of `keys` as its key, has fields, and each of these has the name `field`, in any ASCII case.
-fn would_be_empty(entry: &RawEntry<'_>, keys: &[&str], field: &str) -> bool {
-    keys.contains(&entry.key.v)
-        && !entry.fields.is_empty()
-        && entry
-            .fields
-            .iter()
-            .all(|own| own.key.v.eq_ignore_ascii_case(field))
-}
-
-// Returns the message for the error `why` of unsetting a field of the entries with these keys. It has the first key of an entry in `src` to
-// which the error applies, if there is one.
-fn unset_line(
-    alloc: Global,
-    name: &str,
-    src: &str,
-    keys: &[&str],
-    field: &str,
-    why: EditError,
-) -> Result<String, AllocError> {
-    if let Ok(raw) = RawBibliography::parse(alloc, src) {
-        'entries: for entry in &raw.entries {
-            if would_be_empty(&entry.v, keys, field) {
-                let key = entry.v.key.v;
-                return format!(in alloc; "bibkit: {name}: `{key}`: `{field}`: {why}\n");
-            }
-        }
-    }
-    format!(in alloc; "bibkit: {name}: `{field}`: {why}\n")
-}
-
 // Gives a name, in ASCII lowercase, the key of its entry, unless it has one.
 fn keep_name<'s>(
     alloc: Global,
@@ -266,15 +236,15 @@ fn taken_key_line(
     format!(in alloc; "bibkit: {name}: {}\n", EditError::KeyIsThere)
 }
 
-// Returns the message for the error `why` of an edit of a file's bytes.
+// Returns the message for the error `why` of the last of these edits of a file's bytes.
 fn refused_line(
     alloc: Global,
     name: &str,
     bytes: &[u8],
-    edit: Option<&Edit<'_>>,
+    edits: &[Edit<'_>],
     why: EditError,
 ) -> Result<String, AllocError> {
-    match edit {
+    match edits.last() {
         Some(
             Edit::Set {
                 key,
@@ -301,7 +271,7 @@ fn refused_line(
         Some(Edit::Remove { key }) => format!(in alloc; "bibkit: {name}: `{key}`: {why}\n"),
         Some(Edit::UnsetAll { keys, name: field }) => {
             let src = from_utf8(after_mark(bytes)).unwrap_or("");
-            unset_line(alloc, name, src, keys, field, why)
+            unset_line(alloc, name, src, keys, field, edits, why)
         }
         Some(Edit::Add { text }) => {
             let src = from_utf8(after_mark(bytes)).unwrap_or("");
@@ -436,6 +406,14 @@ fn added_error_line(
     syntax_line(alloc, "-", text.as_bytes(), error)
 }
 
+// Returns the edits up to the one with this index.
+fn edits_up_to<'e, 'a>(edits: &'e [Edit<'a>], index: usize) -> &'e [Edit<'a>] {
+    match index.checked_add(1) {
+        Some(count) => edits.get(..count).unwrap_or(edits),
+        None => edits,
+    }
+}
+
 // Returns the message for a refusal.
 fn refusal_message(
     alloc: Global,
@@ -451,7 +429,9 @@ fn refusal_message(
         }
         Refusal::File(error) => syntax_line(alloc, name, after_mark(bytes), error),
         Refusal::Added(error) => added_error_line(alloc, bytes, edits, error),
-        Refusal::Edit { index, why } => refused_line(alloc, name, bytes, edits.get(*index), *why),
+        Refusal::Edit { index, why } => {
+            refused_line(alloc, name, bytes, edits_up_to(edits, *index), *why)
+        }
         Refusal::EarlyUse { definition, .. } => early_use_line(
             alloc,
             name,

@@ -1,13 +1,14 @@
 //! Starts the program: reads the arguments and runs the command.
 
 use crate::arguments::{Asked, Words, read};
-use crate::converting::{run_convert, run_rewrite};
+use crate::converting::run_convert;
 use crate::document::run_cited;
 use crate::edits::{Mode, run_edits};
 use crate::files::SystemFiles;
 use crate::formatting::run_format;
 use crate::importing::run_import;
 use crate::resolving::run_resolve;
+use crate::rewriting::run_rewrite;
 use crate::selecting::{parse_conditions, run_select};
 use crate::stops::say;
 use bib_select::selection::Selection;

@@ -30,7 +30,7 @@ pub mod files;
 pub mod folder;
 mod frames;
 pub mod laws;
-mod lines;
+pub mod lines;
 mod lint;
 mod lint_run;
 pub mod linting;

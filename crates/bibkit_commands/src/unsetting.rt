@@ -1,0 +1,42 @@
+//! The message of an edit that would remove all fields of an entry.
+
+use bib_syntax::raw::{RawBibliography, RawEntry};
+use bibkit_edits::edit::Edit;
+use edit_entries::errors::EditError;
+use std::alloc::{AllocError, Global};
+
+// Returns whether some edit removes the fields with this name from the entries with these keys.
+fn is_unset(edits: &[Edit<'_>], field: &str) -> bool {
+    edits.iter().any(
+        |edit| matches!(edit, Edit::UnsetAll { name, .. } if name.eq_ignore_ascii_case(field)),
+    )
+}
+
+// Returns whether an entry has one of `keys` as its key, has fields, and the edits remove each of these.
+fn would_be_empty(entry: &RawEntry<'_>, keys: &[&str], edits: &[Edit<'_>]) -> bool {
+    keys.contains(&entry.key.v)
+        && !entry.fields.is_empty()
+        && entry.fields.iter().all(|own| is_unset(edits, own.key.v))
+}
+
+/// Returns the message for the error `why` of unsetting a field of the entries with these keys, the last of these edits. It has the first key
+/// of an entry in `src` of which the edits would remove all fields, if there is one.
+pub fn unset_line(
+    alloc: Global,
+    name: &str,
+    src: &str,
+    keys: &[&str],
+    field: &str,
+    edits: &[Edit<'_>],
+    why: EditError,
+) -> Result<String, AllocError> {
+    if let Ok(raw) = RawBibliography::parse(alloc, src) {
+        'entries: for entry in &raw.entries {
+            if would_be_empty(&entry.v, keys, edits) {
+                let key = entry.v.key.v;
+                return format!(in alloc; "bibkit: {name}: `{key}`: `{field}`: {why}\n");
+            }
+        }
+    }
+    format!(in alloc; "bibkit: {name}: `{field}`: {why}\n")
+}
