@@ -44,6 +44,7 @@ pub mod run;
 mod sarif;
 mod selecting;
 pub mod selection;
+pub mod skipped;
 mod tables;
 mod tally;
 pub mod task;
