@@ -5,6 +5,6 @@ use Rattle.bibkit_core.proofs.skipped.block_lines.Given as goal
 
 abbrev pub invariant-found : goal.invariant-found
 invariant-found l = record {
-  same : l.positions ≡ l.text.now;
-  lines : string_bytes l.lines ≡ block_lines l.name.now l.text.now (take l.finding-index l.found);
+  same : l.positions ≡ l.text;
+  lines : string_bytes l.lines ≡ block_lines l.name l.text (take l.finding-index l.found);
 }
