@@ -347,7 +347,7 @@ holds 'a log in SARIF without results' python3 sarif.py "$version" '[]'
 run 'keys' 0 $'a\nb\n' keys two.bib
 run 'keys of two files' 0 $'a\nb\ntest\n' keys two.bib one.bib
 run 'keys of an empty input' 0 '' keys
-run 'keys of a broken file' 0 $'a\n' keys broken.bib
+run 'keys of a broken file' 1 $'a\n' keys broken.bib
 run 'two entries' 0 $'@misc{a, title={A}, author={B}}\n@misc{b, title={x y}, author={Knuth, D.}, year={1984}}\n' get b,a two.bib
 run 'no entry of this key' 1 '' get z two.bib
 run 'an entry by a text' 0 $'@misc{b, title={x y}, author={Knuth, D.}, year={1984}}\n' grep AUTHOR Knuth two.bib
@@ -378,11 +378,11 @@ run 'a set is no key' 0 $'@misc{a, title={A}, author={B}}\n@misc{b, title={x y},
 # the line end after each entry, definition and preamble is that of the first line of the file
 printf '@string{acm = {ACM}}\r\n@preamble{"p"}\r\n@preamble{"q" # "r"}\r\n\r\n@misc{a,\r\n  title = {A},\r\n  publisher = acm\r\n}\r\n@misc{b, title={B}}\r\n' >crlf.bib
 printf '\\citation{a}\n' >crlf.aux
-run 'entries of a file with CR LF' 0 $'@misc{a,\r\n  title = {A},\r\n  publisher = acm\r\n}\r\n@misc{b, title={B}}\r\n' get b,a crlf.bib
-run 'an entry by a text, of a file with CR LF' 0 $'@misc{b, title={B}}\r\n' grep title B crlf.bib
-run 'cited entries of a file with CR LF' 0 $'@string{acm = {ACM}}\r\n@preamble{"p"}\r\n@preamble{"q" # "r"}\r\n@misc{a,\r\n  title = {A},\r\n  publisher = acm\r\n}\r\n' cited crlf.aux crlf.bib
-run 'keys of a file with CR LF' 0 $'a\nb\n' keys crlf.bib
-run 'entries of a file with CR LF and of another one' 0 $'@misc{b, title={B}}\r\n@misc{b, title={x y}, author={Knuth, D.}, year={1984}}\n' get b crlf.bib two.bib
+run 'entries of a file with CR LF' 1 $'@misc{a,\r\n  title = {A},\r\n  publisher = acm\r\n}\r\n@misc{b, title={B}}\r\n' get b,a crlf.bib
+run 'an entry by a text, of a file with CR LF' 1 $'@misc{b, title={B}}\r\n' grep title B crlf.bib
+run 'cited entries of a file with CR LF' 1 $'@string{acm = {ACM}}\r\n@preamble{"p"}\r\n@preamble{"q" # "r"}\r\n@misc{a,\r\n  title = {A},\r\n  publisher = acm\r\n}\r\n' cited crlf.aux crlf.bib
+run 'keys of a file with CR LF' 1 $'a\nb\n' keys crlf.bib
+run 'entries of a file with CR LF and of another one' 1 $'@misc{b, title={B}}\r\n@misc{b, title={x y}, author={Knuth, D.}, year={1984}}\n' get b crlf.bib two.bib
 printf '%% c\n@misc{a, title={A}}\r\n@misc{b,\r\n title={B}}' >mixed.bib
 run 'CR LF, but not in the first line' 0 $'@misc{a, title={A}}\n@misc{b,\r\n title={B}}\n' get a,b mixed.bib
 
@@ -402,6 +402,53 @@ run 'no selected entry of two files' 1 '' select --complete --where 'key = z' pa
 printf '@string{jsl = {Journal}}\r\n' >part4.bib
 run 'three files, the first one with CR LF' 0 $'@string{jsl = {Journal}}\r\n@article{x, title={X}, journal=jsl, crossref={par}}\r\n@book{par, title={P}}\r\n' cited parts.aux part4.bib part2.bib part3.bib
 run 'three files, the last one with CR LF' 0 $'@string{jsl = {Journal}}\n@article{x, title={X}, journal=jsl, crossref={par}}\n@book{par, title={P}}\n' cited parts.aux part2.bib part3.bib part4.bib
+
+# each skipped block of a file is a line on standard error, with the position and the message of lint, and the status is at least 1
+printf '@misc{a, title={A}}\n@misc{b, title={B} year={1}}\n@string{x = {X}\n@misc{c, title={C}}\n' >skip1.bib
+printf '@misc{d, title={D}}\r\n@misc{e,\r\n  title={E}\r\n  year={1}}\r\n@string{y = {Y}\r\n@misc{f, title={F}}\r\n' >skip2.bib
+printf '@misc{g, title={G}' >skip3.bib
+printf ', year={1}}\n@misc{h, title={H}}\n' >skip4.bib
+printf '\\citation{a}\n\\citation{f}\n\\bibdata{skip1,skip2}\n' >skip.aux
+open='a block without an end; is a brace or a quote open? [syntax]'
+skip1=$'bibkit: skip1.bib:2:20: b: expected comma [syntax]\nbibkit: skip1.bib:3:1: '"$open"$'\n'
+skip2=$'bibkit: skip2.bib:4:3: e: expected comma [syntax]\nbibkit: skip2.bib:5:1: '"$open"$'\n'
+skip3=$'bibkit: skip3.bib:1:19: g: expected comma [syntax]\n'
+# a command that skips these blocks: the output for skip1.bib, and that for skip1.bib and skip2.bib, and the words
+skips() {
+    local one=$1 both=$2
+    shift 2
+    run "$*: a file with skipped blocks" 1 "$one" "$@" skip1.bib
+    run_messages "$*: the skipped blocks of a file" 1 "$skip1" "$@" skip1.bib
+    run "$*: two files with skipped blocks" 1 "$both" "$@" skip1.bib skip2.bib
+    run_messages "$*: the skipped blocks of two files" 1 "$skip1$skip2" "$@" skip1.bib skip2.bib
+    run_messages "$*: skipped blocks beside a file that is not there" 2 "$skip1"$'bibkit: no.bib: there is no such file\n'"$skip2" "$@" skip1.bib no.bib skip2.bib
+    run_messages "$*: a skipped block of the first of two files" 1 "$skip3" "$@" skip3.bib one.bib
+    "$program" "$@" skip1.bib skip2.bib >output 2>&-
+    count "$*: skipped blocks, and standard error is closed" $? 1 "$both"
+    cp skip1.bib input
+    run_messages "$*: the skipped blocks of standard input" 1 "${skip1//skip1.bib/-}" "$@" -
+    : >input
+}
+skips $'a\nc\n' $'a\nc\nd\nf\n' keys
+skips $'a\n' $'a\nd\nf\n' keys --where 'title ~ "[ADF]"'
+skips $'@misc{a, title={A}}\n' $'@misc{a, title={A}}\n@misc{f, title={F}}\r\n' get a,b,f,x
+skips $'@misc{a, title={A}}\n' $'@misc{a, title={A}}\n@misc{f, title={F}}\r\n' get a,b,f,x --where 'type = misc'
+skips '' '' get z
+skips $'@misc{a, title={A}}\n' $'@misc{a, title={A}}\n' grep title A
+skips $'@misc{a, title={A}}\n' $'@misc{a, title={A}}\n@misc{f, title={F}}\n' cited skip.aux
+skips $'@misc{a, title={A}}\n@misc{c, title={C}}\n' $'@misc{a, title={A}}\n@misc{c, title={C}}\n@misc{d, title={D}}\r\n@misc{f, title={F}}\r\n' select
+skips '' $'d\nf\n' select --keys --where 'title ~ "[BDF]"'
+skips $'@misc{a, title={A}}\n' $'@misc{a, title={A}}\n@misc{d, title={D}}\n@misc{f, title={F}}\n' select --complete --where 'title ~ "[ADF]"'
+skips $'a\nc\n' $'a\nc\nd\nf\n' select --complete --keys
+run_messages 'the skipped blocks of the files that a document names' 1 "$skip1$skip2" cited skip.aux
+run 'an entry that continues in the next file' 1 $'@misc{g, title={G}\n, year={1}}\n' select --complete --where 'key = g' skip3.bib skip4.bib
+run_messages 'it is a skipped block of its own file' 1 "$skip3" select --complete --where 'key = g' skip3.bib skip4.bib
+run_messages 'a preamble that cited prints is a skipped block, too' 1 "$("$program" lint --only syntax crlf.bib | sed -n 's/^\(.*\): error: \(.*\)$/bibkit: \1: \2/p')"$'\n' cited crlf.aux crlf.bib
+run_messages 'a preamble that can be parsed is no skipped block' 0 '' cited preamble.aux
+run_messages 'counts have no lines for skipped blocks' 0 '' stats skip1.bib skip2.bib
+printf '\xef\xbb\xbf@misc{\xc3\xa9, title={B} year={1}}\n' >skip-mark.bib
+printf '@misc{\xe9, title={B} year={1}}\n' >skip-bytes.bib
+run_messages 'columns of skipped blocks are in characters, without a byte order mark' 1 $'bibkit: skip-mark.bib:1:20: \xc3\xa9: expected comma [syntax]\nbibkit: skip-bytes.bib:1:20: \xc3\xa9: expected comma [syntax]\n' keys skip-mark.bib skip-bytes.bib
 
 # what a document cites
 run 'a key that no file has' 1 $'paper.aux:3:1: error: no file has an entry "z" [missing-entry]\nerrors: 1, warnings: 0\n' lint --ignore missing-field --cited paper.aux two.bib
@@ -1800,14 +1847,14 @@ run 'keys by alternatives' 0 $'knuth1984\nn\n' select --keys --where 'author con
 cp select.bib input
 run 'selected entries of standard input' 0 "$church"$'\n' select --where 'has doi'
 run 'selected keys of two files' 0 $'church1936\nb\n' select --keys --where 'has doi or key = b' select.bib two.bib
-run 'selected keys of a file with an error' 0 $'a\n' select --keys --where 'has title' broken.bib
+run 'selected keys of a file with an error' 1 $'a\n' select --keys --where 'has title' broken.bib
 run_messages 'a condition that ends too early' 2 $'bibkit: --where `year >`: expected a year at byte 6\n' select --where 'year >' select.bib
 run 'a condition that ends too early: nothing is printed' 2 '' select --where 'year >' select.bib
 run 'a file that is not there, and selected keys' 2 $'n\n' select --keys --where 'key = n' nothing.bib select.bib
-run 'a selected entry of a file with CR LF' 0 $'@misc{b, title={B}}\r\n' select --where 'key = b' crlf.bib
-run 'what a selected entry of a file with CR LF uses' 0 $'@string{acm = {ACM}}\r\n@preamble{"p"}\r\n@preamble{"q" # "r"}\r\n@misc{b, title={B}}\r\n' select --complete --where 'key = b' crlf.bib
-run 'keys of selected entries of a file with CR LF' 0 $'a\nb\n' select --keys --where 'has title' crlf.bib
-run 'an entry of a file with CR LF that meets a condition' 0 $'@misc{b, title={B}}\r\n' get a,b --where 'title = B' crlf.bib
+run 'a selected entry of a file with CR LF' 1 $'@misc{b, title={B}}\r\n' select --where 'key = b' crlf.bib
+run 'what a selected entry of a file with CR LF uses' 1 $'@string{acm = {ACM}}\r\n@preamble{"p"}\r\n@preamble{"q" # "r"}\r\n@misc{b, title={B}}\r\n' select --complete --where 'key = b' crlf.bib
+run 'keys of selected entries of a file with CR LF' 1 $'a\nb\n' select --keys --where 'has title' crlf.bib
+run 'an entry of a file with CR LF that meets a condition' 1 $'@misc{b, title={B}}\r\n' get a,b --where 'title = B' crlf.bib
 
 # keys, get and lint with conditions
 cp two.bib input
@@ -1815,7 +1862,7 @@ run 'keys of entries that meet a condition' 0 $'b\n' keys --where 'has year' two
 run 'keys of entries that meet all conditions' 1 '' keys --where 'has year' --where 'key = a' two.bib
 run 'keys of selected entries of two files' 0 $'a\nb\n' keys --where 'type = misc' two.bib one.bib
 run 'keys of selected entries of standard input' 0 $'a\n' keys --where 'not has year'
-run 'keys of selected entries beside a block with an error' 0 $'a\n' keys --where 'has title' broken.bib
+run 'keys of selected entries beside a block with an error' 1 $'a\n' keys --where 'has title' broken.bib
 run 'keys of selected entries beside a file that is not there' 2 $'b\n' keys --where 'has year' no.bib two.bib
 run 'keys of entries that inherit a field' 0 $'d\nc\n' keys --where 'year = 2000' parent.bib
 run 'entries with these keys that meet a condition' 0 $'@misc{b, title={x y}, author={Knuth, D.}, year={1984}}\n' get a,b --where 'has year' two.bib

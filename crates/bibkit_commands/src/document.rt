@@ -208,7 +208,7 @@ fn texts(alloc: Global, names: &[String]) -> Result<Vec<&str>, AllocError> {
 }
 
 // Prints the entries that the document with this whole text cites, and returns the status. The entries are those of the file `name`, or of
-// the text `joined` if there is one.
+// the text `joined` if there is one. Skipped blocks of `joined` aren't reported, because `join` reports those of its files.
 fn run_name<'a>(
     rt: &HostRuntime,
     document: &'a str,
@@ -219,6 +219,7 @@ fn run_name<'a>(
     let call = Call {
         request: Request::Cited(document),
         has_progress: false,
+        has_skipped_lines: joined.is_none(),
         names: vec![in rt.alloc(); name]?,
     };
     let mut files = DocumentFiles {

@@ -1,6 +1,6 @@
 //! Several files as one database.
 
-use crate::stops::{Stop, bytes_of, say};
+use crate::stops::{Stop, bytes_of, report_skipped, say};
 use bib_source::decoding::decode;
 use std::alloc::AllocError;
 
@@ -9,15 +9,16 @@ use std::alloc::AllocError;
 pub struct Database {
     /// The decoded texts in order, with a line feed after each. A file that can't be read has no text.
     pub text: String,
-    /// 2 if a file can't be read, otherwise 0.
+    /// 2 if a file can't be read, otherwise 1 if a block of a file is skipped, otherwise 0.
     pub status: u8,
 }
 
 impl Database {
-    // Appends the decoded text of a file, and a line feed.
+    // Appends the decoded text of a file, and a line feed. Reports the skipped blocks of the file.
     fn add(&mut self, rt: &HostRuntime, name: &str) -> Result<(), Stop> {
         let bytes = bytes_of(rt, name)?;
         let decoded = decode(rt.alloc(), &bytes)?;
+        self.status = report_skipped(rt, name, &decoded.text)?.max(self.status);
         self.text.push_str(&decoded.text)?;
         self.text.push('\n')?;
         Ok(())
@@ -25,7 +26,7 @@ impl Database {
 }
 
 /// Returns the texts of files as one text, in which an entry of one file can use the definitions and the entries of the others, as in
-/// BibTeX and Biber. Reports each file that can't be read.
+/// BibTeX and Biber. Reports each file that can't be read, and the skipped blocks of the others.
 pub fn join(rt: &HostRuntime, names: &[&str]) -> Result<Database, AllocError> {
     let mut database = Database {
         text: String::new(rt.alloc()),
@@ -34,7 +35,7 @@ pub fn join(rt: &HostRuntime, names: &[&str]) -> Result<Database, AllocError> {
     'names: for name in names {
         if let Err(stop) = database.add(rt, name) {
             let stop = stop.unless_out_of_memory()?;
-            database.status = say(rt, &stop);
+            database.status = say(rt, &stop).max(database.status);
         }
     }
     Ok(database)

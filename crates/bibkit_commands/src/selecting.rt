@@ -3,7 +3,7 @@
 
 use crate::edits::{Editing, after_mark, apply};
 use crate::joining::join;
-use crate::stops::{Stop, bytes_of, output_stop, say};
+use crate::stops::{Stop, bytes_of, output_stop, report_skipped, say};
 use bib_queries::excerpts::answer;
 use bib_queries::request::{CitedKeys, Request as Excerpts};
 use bib_select::errors::SelectionError;
@@ -114,17 +114,20 @@ fn select_text<K: Sink>(
     }
 }
 
-// Prints the selected entries of a file, as `printed` requests. Returns whether there is one.
+// Prints the selected entries of a file, as `printed` requests, and reports its skipped blocks. Returns whether there is such an entry, and
+// the status: 1 if a block is skipped, otherwise 0.
 fn select_file<K: Sink>(
     rt: &HostRuntime,
     selections: &[Selection],
     printed: Printed,
     name: &str,
     output: &mut K,
-) -> Result<bool, Stop> {
+) -> Result<(bool, u8), Stop> {
     let bytes = bytes_of(rt, name)?;
     let decoded = decode(rt.alloc(), &bytes)?;
-    select_text(rt.alloc(), selections, printed, &decoded.text, output)
+    let status = report_skipped(rt, name, &decoded.text)?;
+    let is_found = select_text(rt.alloc(), selections, printed, &decoded.text, output)?;
+    Ok((is_found, status))
 }
 
 // Prints the selected entries of files as one database. Returns whether there is one, and the status of reading the files.
@@ -152,7 +155,10 @@ fn select_each<K: Sink>(
     let mut status = 0;
     'names: for name in names {
         match select_file(rt, selections, printed, name, output) {
-            Ok(found) => is_found = is_found || found,
+            Ok((found, skipped)) => {
+                is_found = is_found || found;
+                status = skipped.max(status);
+            }
             Err(stop) => status = say(rt, &stop).max(status),
         }
     }

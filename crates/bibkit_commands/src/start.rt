@@ -103,6 +103,7 @@ fn run_request<'a>(rt: &HostRuntime, request: Request<'a>, names: Vec<&'a str>, 
     let call = Call {
         request,
         has_progress: names.len() > 1 && rt.stderr().is_terminal(),
+        has_skipped_lines: true,
         names,
     };
     let mut files = SystemFiles::new(rt, input);

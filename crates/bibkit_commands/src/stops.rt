@@ -4,6 +4,7 @@ use crate::files::SystemFiles;
 use bib_source::positions::Positions;
 use bib_syntax::raw::ParseError;
 use bibkit_core::files::Files;
+use bibkit_core::skipped::skipped_lines;
 use std::alloc::{AllocError, AllocFailed, Global};
 
 /// The reason why a command on a file ends early.
@@ -96,4 +97,15 @@ pub fn say(rt: &HostRuntime, stop: &Stop) -> u8 {
             3
         }
     }
+}
+
+/// Reports the skipped blocks of the file `name` with this decoded text to standard error. Returns the status: 1 if there is one, otherwise
+/// 0.
+pub fn report_skipped(rt: &HostRuntime, name: &str, text: &str) -> Result<u8, AllocError> {
+    let lines = skipped_lines(rt.alloc(), name, text)?;
+    if lines.is_empty() {
+        return Ok(0);
+    }
+    let _ = eprint!(rt; "{lines}");
+    Ok(1)
 }

@@ -12,5 +12,6 @@ mod Outcomes
 mod RegionFacts
 mod Results
 mod SarifFacts
+mod SkippedFacts
 mod Touching
 mod UriFacts

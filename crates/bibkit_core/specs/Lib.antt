@@ -18,6 +18,7 @@ pub mod Regions
 pub mod Running
 pub mod Sarif
 pub mod Selecting
+pub mod Skipped
 pub mod Stats
 pub mod Steps
 pub mod Tables

@@ -1,6 +1,6 @@
 -- Meaning: words of public contracts.
 -- The entries of files that meet conditions, as they are printed, and their keys.
-use Rattle.std.specs.Prelude.{◌≡◌, ◌==◌, ◌||◌, ℕ, Bool, false, not, if◌then◌else◌, List, [], Option, Some, None, filter, length, map, string_bytes}
+use Rattle.std.specs.Prelude.{◌≡◌, ◌==◌, ◌||◌, ◌&&◌, ℕ, Bool, false, not, if◌then◌else◌, List, [], Option, Some, None, filter, length, map, string_bytes}
 use Rattle.std.specs.Borrow.{Bor}
 use Rattle.std.specs.Global.{Vec}
 use Rattle.bib_source.specs.declared.decoding.Decoded.{Decoded}
@@ -10,7 +10,7 @@ use Rattle.bib_syntax.specs.Reading.{FileReading}
 use Rattle.bib_syntax.specs.Recovery.{IsRecovery}
 use Rattle.bib_syntax.specs.declared.raw.recovery.SkippedBlock.{SkippedBlock}
 use Rattle.bibkit_core.specs.Conditions.{AreSelectedKeys, entries_with}
-use Rattle.bibkit_core.specs.Tasks.{AreDecoded}
+use Rattle.bibkit_core.specs.Tasks.{AddsSkippedOf, AreDecoded}
 use Rattle.bibkit_core.specs.declared.request.Selected.{Selected}
 use Rattle.bibkit_core.specs.declared.selecting.Selecting.{Selecting}
 
@@ -53,25 +53,32 @@ pub record PrintsSelected (selected : Selected) (bytes text : List ℕ) (has_ent
   pub of_bytes : AreDecoded bytes decoded
   pub answer : IsSelectedAnswer selected (string_bytes decoded.text) text has_entry
 
--- the status: 1 if nothing was found, otherwise 0
-abbrev pub selecting_status : Bool → ℕ
-selecting_status is_found = if is_found then 0 else 1
+-- the status: 1 if nothing was found or a block was skipped, otherwise 0
+abbrev pub selecting_status : Bool → Bool → ℕ
+selecting_status is_found has_skipped = if is_found && not has_skipped then 0 else 1
 
 -- the task before the first file
 pub record BeginsSelecting (selected : Selected) (task : Selecting) : Type 0 where
   pub selected_is : task.selected.now ≡ selected
   pub none_found : task.is_found ≡ false
+  pub none_skipped : task.skipped.has_any ≡ false
 
 -- the text of the task before the files: none
 abbrev pub selecting_begins : Selecting → List ℕ
 selecting_begins task = []
 
--- the output of the task for a file, and the task afterwards; `is_found`: the output so far has an entry or a key
+-- the output of the task for a file, and the task afterwards; `is_found`: the output so far has an entry or a key; `skipped` has the lines
+-- for the skipped blocks of the file
 abbrev pub selecting_prints : Selecting → List ℕ → List ℕ → List ℕ → Selecting → Type 0
 selecting_prints old name bytes text new =
     (new.selected.now ≡ old.selected.now)
     × ((has_entry : Bool) × PrintsSelected old.selected.now bytes text has_entry × (new.is_found ≡ (old.is_found || has_entry)))
+    × AddsSkippedOf name bytes old.skipped new.skipped
+
+-- the messages of the task about the last file: a line for each skipped block
+abbrev pub selecting_messages : Selecting → List ℕ
+selecting_messages task = string_bytes task.skipped.lines
 
 -- the text of the task after the files (none), and its status
 abbrev pub selecting_ends : Selecting → List ℕ → ℕ → Type 0
-selecting_ends task text status = (text ≡ []) × (status ≡ selecting_status task.is_found)
+selecting_ends task text status = (text ≡ []) × (status ≡ selecting_status task.is_found task.skipped.has_any)

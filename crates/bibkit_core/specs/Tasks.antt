@@ -11,12 +11,14 @@ use Rattle.bibkit_core.specs.Linted.{IsPrintedFile}
 use Rattle.bibkit_core.specs.Checkstyle.{checkstyle_head, checkstyle_tail, file_element}
 use Rattle.bibkit_core.specs.Printed.{counts_line, has_failing}
 use Rattle.bibkit_core.specs.Sarif.{IsSarifTail, sarif_head}
+use Rattle.bibkit_core.specs.Skipped.{AddsSkipped}
 use Rattle.bibkit_core.specs.declared.entries.Entries.{Entries}
 use Rattle.bibkit_core.specs.declared.linting.Linting.{Linting}
 use Rattle.bibkit_core.specs.declared.request.FailOn.{FailOn}
 use Rattle.bibkit_core.specs.declared.request.Lint.{Lint}
 use Rattle.bibkit_core.specs.declared.request.Style.{Style}
 use Rattle.bibkit_core.specs.declared.request.Style.TheVariants.{Plain, Colored, Json, JsonLines, Github, Checkstyle, Sarif}
+use Rattle.bibkit_core.specs.declared.skipped.Skipped.{Skipped}
 use Rattle.bibkit_core.specs.declared.tally.Tally.{Tally}
 
 -- `decoded` is the text of the bytes: without a byte order mark if they are UTF-8, otherwise decoded as Windows-1252. `invalid` is the
@@ -71,9 +73,13 @@ abbrev pub is_search : Request → Bool
 is_search Keys = false
 is_search _ = true
 
--- the status of a request for entries: 1 for a search that found nothing, otherwise 0
-abbrev pub entries_status : Request → Bool → ℕ
-entries_status request is_found = if is_search request && not is_found then 1 else 0
+-- the status of a request for entries: 1 for a search that found nothing, and for a skipped block, otherwise 0
+abbrev pub entries_status : Request → Bool → Bool → ℕ
+entries_status request is_found has_skipped = if has_skipped || (is_search request && not is_found) then 1 else 0
+
+-- `new` has the lines for the next file, with this name and these bytes
+abbrev pub AddsSkippedOf : List ℕ → List ℕ → Skipped → Skipped → Type 0
+AddsSkippedOf name bytes old new = (decoded : Decoded) × AreDecoded bytes decoded × AddsSkipped old name (string_bytes decoded.text) new
 
 -- the lint task before the first file
 pub record BeginsLinting (lint : Lint) (task : Linting) : Type 0 where
@@ -101,17 +107,24 @@ linting_ends task text status =
 pub record BeginsEntries (request : Request) (task : Entries) : Type 0 where
   pub request_is : task.request.now ≡ request
   pub none_found : task.is_found ≡ false
+  pub none_skipped : task.skipped.has_any ≡ false
 
 -- the text of the entries task before the files: none
 abbrev pub entries_begins : Entries → List ℕ
 entries_begins task = []
 
--- the output of the entries task for a file, and the task afterwards; `is_found` says whether the output so far has an entry or a key
+-- the output of the entries task for a file, and the task afterwards; `is_found` says whether the output so far has an entry or a key, and
+-- `skipped` has the lines for the skipped blocks of the file
 abbrev pub entries_prints : Entries → List ℕ → List ℕ → List ℕ → Entries → Type 0
 entries_prints old name bytes text new =
     (new.request.now ≡ old.request.now)
     × ((has_entry : Bool) × PrintsEntries old.request.now bytes text has_entry × (new.is_found ≡ (old.is_found || has_entry)))
+    × AddsSkippedOf name bytes old.skipped new.skipped
+
+-- the messages of the entries task about the last file: a line for each skipped block
+abbrev pub entries_messages : Entries → List ℕ
+entries_messages task = string_bytes task.skipped.lines
 
 -- the text of the entries task after the files (none), and its status
 abbrev pub entries_ends : Entries → List ℕ → ℕ → Type 0
-entries_ends task text status = (text ≡ []) × (status ≡ entries_status task.request.now task.is_found)
+entries_ends task text status = (text ≡ []) × (status ≡ entries_status task.request.now task.is_found task.skipped.has_any)

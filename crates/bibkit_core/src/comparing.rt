@@ -1,6 +1,6 @@
 //! The task that prints the findings of files, and compares their entries with the citations of a document.
 
-ghost use Rattle.std.specs.Prelude.{◌≡◌};
+ghost use Rattle.std.specs.Prelude.{◌≡◌, []};
 ghost use Rattle.bibkit_core.specs.Marks.{EndsComparing, PrintsComparing, comparing_begins};
 ghost use Rattle.bibkit_core.specs.Tasks.{BeginsLinting};
 
@@ -38,6 +38,8 @@ impl<'r, 'a> Task for Comparing<'r, 'a> {
 
     ghost prints = { PrintsComparing };
 
+    ghost messages = { λ task. [] };
+
     ghost ends = { EndsComparing };
 
     fn begin(&self) -> &'static str {
@@ -58,6 +60,10 @@ impl<'r, 'a> Task for Comparing<'r, 'a> {
         text.push_str(&more)?;
         let output = in_file(alloc, lint.style, name, text)?;
         Ok(output)
+    }
+
+    fn messages(&self) -> &str {
+        ""
     }
 
     fn end(&mut self, alloc: Global) -> Result<End, AllocError> {

@@ -239,6 +239,8 @@ impl Task for Counting {
 
     ghost prints = { PrintsCounting };
 
+    ghost messages = { λ task. [] };
+
     ghost ends = { EndsCounting };
 
     fn begin(&self) -> &'static str {
@@ -250,6 +252,10 @@ impl Task for Counting {
         self.add_text(alloc, decoded.text.as_str())?;
         self.add_findings(alloc, decoded.text.as_str())?;
         Ok(String::new(alloc))
+    }
+
+    fn messages(&self) -> &str {
+        ""
     }
 
     fn end(&mut self, alloc: Global) -> Result<End, AllocError> {

@@ -1,6 +1,6 @@
 //! The task that prints the findings of several files as one database.
 
-ghost use Rattle.std.specs.Prelude.{◌≡◌, ◌≤◌, List, length, map, nat_le, IfOk, OnOk};
+ghost use Rattle.std.specs.Prelude.{◌≡◌, ◌≤◌, [], List, length, map, nat_le, IfOk, OnOk};
 ghost use Rattle.std.specs.String.{string_bytes};
 ghost use Rattle.bib_syntax.specs.Reading.{EntryReading, FileReading};
 ghost use Rattle.bib_syntax.specs.Views.{entry_reading_of};
@@ -272,6 +272,8 @@ impl<'r, 'a> Task for Database<'r, 'a> {
 
     ghost prints = { StoresFile };
 
+    ghost messages = { λ task. [] };
+
     ghost ends = { EndsDatabase };
 
     fn begin(&self) -> &'static str {
@@ -286,6 +288,10 @@ impl<'r, 'a> Task for Database<'r, 'a> {
             decoded,
         })?;
         Ok(String::new(alloc))
+    }
+
+    fn messages(&self) -> &str {
+        ""
     }
 
     fn end(&mut self, alloc: Global) -> Result<End, AllocError> {

@@ -1,10 +1,11 @@
 //! The task that prints entries of files, or their keys.
 
 ghost use Rattle.std.specs.Prelude.{◌≡◌, ◌||◌};
-ghost use Rattle.bibkit_core.specs.Tasks.{BeginsEntries, entries_begins, entries_ends, entries_prints};
+ghost use Rattle.bibkit_core.specs.Tasks.{BeginsEntries, entries_begins, entries_ends, entries_messages, entries_prints};
 ghost use Rattle.bibkit_core.specs.Tasks as spec;
 
 use crate::decoding::decode_bytes;
+use crate::skipped::Skipped;
 use crate::task::{End, Task};
 use bib_queries::excerpts::answer;
 use bib_queries::request::Request as Excerpts;
@@ -15,16 +16,18 @@ use std::alloc::{AllocError, Global};
 pub struct Entries<'r, 'a> {
     request: &'r Excerpts<'a>,
     is_found: bool,
+    skipped: Skipped,
 }
 
 impl<'r, 'a> Entries<'r, 'a> {
     /// Returns the task before the first file.
-    pub fn new(request: &'r Excerpts<'a>) -> Self
+    pub fn new(alloc: Global, request: &'r Excerpts<'a>) -> Self
         ensures { BeginsEntries request.now result }
     {
         Entries {
             request,
             is_found: false,
+            skipped: Skipped::none(alloc),
         }
     }
 }
@@ -46,11 +49,11 @@ pub(crate) fn is_found_with(is_found: bool, has_entry: bool) -> bool
     is_found || has_entry
 }
 
-// Returns the status of a request: 1 for a search that found nothing, otherwise 0.
-fn entries_status(request: &Excerpts<'_>, is_found: bool) -> u8
-    ensures { result ≡ spec.entries_status request.now is_found }
+// Returns the status of a request: 1 for a search that found nothing, and for a skipped block, otherwise 0.
+fn entries_status(request: &Excerpts<'_>, is_found: bool, has_skipped: bool) -> u8
+    ensures { result ≡ spec.entries_status request.now is_found has_skipped }
 {
-    if is_search(request) && !is_found {
+    if has_skipped || is_search(request) && !is_found {
         1
     } else {
         0
@@ -62,23 +65,30 @@ impl<'r, 'a> Task for Entries<'r, 'a> {
 
     ghost prints = { entries_prints };
 
+    ghost messages = { entries_messages };
+
     ghost ends = { entries_ends };
 
     fn begin(&self) -> &'static str {
         ""
     }
 
-    fn file(&mut self, alloc: Global, _name: &str, bytes: &[u8]) -> Result<String, AllocError> {
+    fn file(&mut self, alloc: Global, name: &str, bytes: &[u8]) -> Result<String, AllocError> {
         let decoded = decode_bytes(alloc, bytes)?;
         let answer = answer(alloc, self.request, decoded.text.as_str())?;
         self.is_found = is_found_with(self.is_found, answer.has_entry);
+        self.skipped.next(alloc, name, decoded.text.as_str())?;
         Ok(answer.text)
+    }
+
+    fn messages(&self) -> &str {
+        &self.skipped.lines
     }
 
     fn end(&mut self, alloc: Global) -> Result<End, AllocError> {
         Ok(End {
             text: String::new(alloc),
-            status: entries_status(self.request, self.is_found),
+            status: entries_status(self.request, self.is_found, self.skipped.has_any),
         })
     }
 }

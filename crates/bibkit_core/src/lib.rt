@@ -9,7 +9,8 @@
 //! report names of a project as unknown. `decoding` decodes a file. `lint` prints the selected findings, and counts them (`tally`). It
 //! prints each as a line (`lines`), as a line in colours (`frames`), as a JSON object (`objects`), as a workflow command of GitHub Actions
 //! (`commands`), as an element for Checkstyle (`checkstyle`) or as a result of SARIF (`sarif`). `regions` finds the lines and columns of
-//! findings, and `escapes` and `uris` escape texts. `tables` prints counts. `messages` prints messages and progress.
+//! findings, and `escapes` and `uris` escape texts. `tables` prints counts. `messages` prints messages and progress, and
+//! `skipped` returns the lines that report the skipped blocks of a file.
 //!
 //! `folder` specifies each call on the files of a folder, and the contents that a crash may leave. `replacing` replaces the text
 //! of a file as a whole: it writes a new file beside the old one, and renames it. `laws` proves that the contracts of `folder`,
@@ -44,6 +45,7 @@ pub mod run;
 mod sarif;
 mod selecting;
 pub mod selection;
+pub mod skipped;
 mod tables;
 mod tally;
 pub mod task;

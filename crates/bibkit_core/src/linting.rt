@@ -153,6 +153,8 @@ impl<'r, 'a> Task for Linting<'r, 'a> {
 
     ghost prints = { linting_prints };
 
+    ghost messages = { λ task. [] };
+
     ghost ends = { linting_ends };
 
     fn begin(&self) -> &'static str {
@@ -163,6 +165,10 @@ impl<'r, 'a> Task for Linting<'r, 'a> {
         let text = self.print_file(alloc, name, bytes)?;
         let output = in_file(alloc, self.lint.style, name, text)?;
         Ok(output)
+    }
+
+    fn messages(&self) -> &str {
+        ""
     }
 
     fn end(&mut self, alloc: Global) -> Result<End, AllocError> {

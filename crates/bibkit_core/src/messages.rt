@@ -15,16 +15,19 @@ const CLEAR: &str = "\r\x1b[K";
 pub struct Messages<M> {
     sink: M,
     has_progress: bool,
+    has_skipped_lines: bool,
     total: usize,
     begun: usize,
 }
 
 impl<M: Sink> Messages<M> {
-    /// Returns the messages of a run over `total` files. Progress is shown if `has_progress`.
-    pub fn new(sink: M, has_progress: bool, total: usize) -> Self {
+    /// Returns the messages of a run over `total` files. Progress is shown if `has_progress`, and skipped blocks are reported if
+    /// `has_skipped_lines`.
+    pub fn new(sink: M, has_progress: bool, has_skipped_lines: bool, total: usize) -> Self {
         Messages {
             sink,
             has_progress,
+            has_skipped_lines,
             total,
             begun: 0,
         }
@@ -70,6 +73,13 @@ impl<M: Sink> Messages<M> {
         let text = format!(in alloc; "bibkit: {name}: {}\n", error.text())?;
         let _ = self.sink.write_str(&text);
         Ok(())
+    }
+
+    /// Prints the lines for the skipped blocks of a file, if skipped blocks are reported.
+    pub fn report_skipped(&mut self, lines: &str) {
+        if self.has_skipped_lines {
+            let _ = self.sink.write_str(lines);
+        }
     }
 
     /// Clears the line of progress, if progress is shown, and prints the message that ends the run.

@@ -103,4 +103,6 @@ pub struct Call<'a> {
     pub names: Vec<&'a str>,
     /// Whether progress is shown: the number and the name of each file while it is processed.
     pub has_progress: bool,
+    /// Whether the skipped blocks of each file are reported. They count for the status in both cases.
+    pub has_skipped_lines: bool,
 }

@@ -75,7 +75,7 @@ fn bytes_of<F: Files, M: Sink>(
     }
 }
 
-// Reads a file, runs the task on it and prints the text of the task. If the file can't be read, prints the error and returns false.
+// Reads a file, runs the task on it and prints its messages and its text. If the file can't be read, prints the error and returns false.
 fn run_file<T: Task, F: Files, K: Sink, M: Sink>(
     alloc: Global,
     name: &str,
@@ -95,6 +95,7 @@ fn run_file<T: Task, F: Files, K: Sink, M: Sink>(
     };
     let text = task.file(alloc, name, &bytes)?;
     messages.clear();
+    messages.report_skipped(task.messages());
     print(output, &text)?;
     Ok(true)
 }
@@ -192,7 +193,7 @@ fn run_entries<F: Files, K: Sink, M: Sink>(
         (AreEntriesPrinted F.reads request.now files.old (names_given names.now))
         ⊥ output.old output.new) }
 {
-    let mut task = Entries::new(request);
+    let mut task = Entries::new(alloc, request);
     let status = run_task(alloc, names, &mut task, files, output, messages)?;
     Ok(status)
 }
@@ -213,7 +214,7 @@ fn run_selected<F: Files, K: Sink, M: Sink>(
         (AreSelectedPrinted F.reads selected.now files.old (names_given names.now))
         ⊥ output.old output.new) }
 {
-    let mut task = Selecting::new(selected);
+    let mut task = Selecting::new(alloc, selected);
     let status = run_task(alloc, names, &mut task, files, output, messages)?;
     Ok(status)
 }
@@ -329,7 +330,7 @@ fn answer<F: Files, K: Sink, M: Sink>(
 
 /// Runs a request, and returns the greatest status that applies:
 /// - 0: done.
-/// - 1: `lint` printed findings of the severities that `fail_on` names, or a search found nothing.
+/// - 1: `lint` printed findings of the severities that `fail_on` names, a search found nothing, or a request for entries skipped a block.
 /// - 2: a file can't be read, or the output refused a text.
 /// - 3: out of memory.
 pub fn run<F: Files, K: Sink, M: Sink + Drop>(
@@ -346,7 +347,12 @@ pub fn run<F: Files, K: Sink, M: Sink + Drop>(
         (names_given call.now.names.items) call.now.request output.old output.new }
     ensures refused { K.refusals output.new ≢ K.refusals output.old → result ≡ 2 }
 {
-    let mut messages = Messages::new(messages, call.has_progress, call.names.len());
+    let mut messages = Messages::new(
+        messages,
+        call.has_progress,
+        call.has_skipped_lines,
+        call.names.len(),
+    );
     match answer(
         alloc,
         &call.request,

@@ -5,12 +5,13 @@ ghost use Rattle.std.specs.String.{string_bytes};
 ghost use Rattle.bib_queries.specs.Answers.{lines_of_keys};
 ghost use Rattle.bib_syntax.specs.Views.{entry_reading_of};
 ghost use Rattle.bibkit_core.specs.Selecting as spec;
-ghost use Rattle.bibkit_core.specs.Selecting.{AreCommonPrinted, AreKeysPrinted, BeginsSelecting, IsSelectedAnswer, selecting_begins, selecting_ends, selecting_prints};
+ghost use Rattle.bibkit_core.specs.Selecting.{AreCommonPrinted, AreKeysPrinted, BeginsSelecting, IsSelectedAnswer, selecting_begins, selecting_ends, selecting_messages, selecting_prints};
 
 use crate::conditions::{common_keys, entries_with, keys_of_selected, resolved_entries};
 use crate::decoding::decode_bytes;
 use crate::entries::is_found_with;
 use crate::request::Selected;
+use crate::skipped::Skipped;
 use crate::task::{End, Task};
 use bib_queries::excerpts::{TextAnswer, answer};
 use bib_queries::request::Request as Excerpts;
@@ -22,16 +23,18 @@ use std::alloc::{AllocError, Global};
 pub struct Selecting<'r, 'a> {
     selected: &'r Selected<'a>,
     is_found: bool,
+    skipped: Skipped,
 }
 
 impl<'r, 'a> Selecting<'r, 'a> {
     /// Returns the task before the first file.
-    pub fn new(selected: &'r Selected<'a>) -> Self
+    pub fn new(alloc: Global, selected: &'r Selected<'a>) -> Self
         ensures { BeginsSelecting selected.now result }
     {
         Selecting {
             selected,
             is_found: false,
+            skipped: Skipped::none(alloc),
         }
     }
 }
@@ -93,11 +96,11 @@ fn selected_answer(
     }
 }
 
-// Returns the status: 1 if nothing was found, otherwise 0.
-fn selecting_status(is_found: bool) -> u8
-    ensures { result ≡ spec.selecting_status is_found }
+// Returns the status: 1 if nothing was found or a block was skipped, otherwise 0.
+fn selecting_status(is_found: bool, has_skipped: bool) -> u8
+    ensures { result ≡ spec.selecting_status is_found has_skipped }
 {
-    if is_found { 0 } else { 1 }
+    if is_found && !has_skipped { 0 } else { 1 }
 }
 
 impl<'r, 'a> Task for Selecting<'r, 'a> {
@@ -105,23 +108,30 @@ impl<'r, 'a> Task for Selecting<'r, 'a> {
 
     ghost prints = { selecting_prints };
 
+    ghost messages = { selecting_messages };
+
     ghost ends = { selecting_ends };
 
     fn begin(&self) -> &'static str {
         ""
     }
 
-    fn file(&mut self, alloc: Global, _name: &str, bytes: &[u8]) -> Result<String, AllocError> {
+    fn file(&mut self, alloc: Global, name: &str, bytes: &[u8]) -> Result<String, AllocError> {
         let decoded = decode_bytes(alloc, bytes)?;
         let answer = selected_answer(alloc, self.selected, decoded.text.as_str())?;
         self.is_found = is_found_with(self.is_found, answer.has_entry);
+        self.skipped.next(alloc, name, decoded.text.as_str())?;
         Ok(answer.text)
+    }
+
+    fn messages(&self) -> &str {
+        &self.skipped.lines
     }
 
     fn end(&mut self, alloc: Global) -> Result<End, AllocError> {
         Ok(End {
             text: String::new(alloc),
-            status: selecting_status(self.is_found),
+            status: selecting_status(self.is_found, self.skipped.has_any),
         })
     }
 }

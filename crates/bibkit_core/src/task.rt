@@ -22,6 +22,9 @@ pub trait Task {
     // Whether processing a file with this name and these bytes may lead from the first state to the second and print this text.
     ghost prints: { Self → List ℕ → List ℕ → List ℕ → Self → Type 0 };
 
+    // The messages about the file that was processed last.
+    ghost messages: { Self → List ℕ };
+
     // Whether this text may be printed after that of the last file, with this status.
     ghost ends: { Self → List ℕ → ℕ → Type 0 };
 
@@ -32,6 +35,10 @@ pub trait Task {
     /// Processes the file `name` with these bytes, and returns the text to print for it.
     fn file(&mut self, alloc: Global, name: &str, bytes: &[u8]) -> Result<String, AllocError>
         ensures { IfOk result (λ text. prints self.old name.now bytes.now (string_bytes text) self.new) };
+
+    /// Returns the messages about the file that was processed last.
+    fn messages(&self) -> &str
+        ensures { result.now ≡ messages self.now };
 
     /// Returns the text after that of the last file, and the status.
     fn end(&mut self, alloc: Global) -> Result<End, AllocError>

@@ -1,6 +1,7 @@
 use Rattle.std.proofs.Common.{refl, subst}
 use Rattle.std.specs.String.{string_bytes}
 use Rattle.bib_queries.specs.Answers.{IsTextAnswer}
+use Rattle.bibkit_core.specs.Skipped.{AddsSkipped}
 use Rattle.bibkit_core.proofs.entries.EntriesTask.file.Goals as goal
 
 pub returns : goal.returns
@@ -17,5 +18,10 @@ returns c = (
           c.as_str.ensures.value c.in_ok-answer.ensures;
     },
     c.is_found_with-self.ensures,
+  ),
+  (
+    c.in_ok-decoded.decoded,
+    c.in_ok-decoded.ensures,
+    subst (λ t. AddsSkipped c.args.self.now.skipped c.args.name.now t c.next.new.self) c.as_str-2.ensures.value c.in_ok-next.ensures,
   ),
 )
