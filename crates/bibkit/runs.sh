@@ -1911,6 +1911,27 @@ run 'fixes and a document' 2 '' lint --fix --cited thesis.aux two-fixes.bib
 run '--write without --fix' 2 '' lint --write two-fixes.bib
 run '--diff without --fix' 2 '' lint --diff two-fixes.bib
 
+# what --fix makes of a file has no new finding, and a second run changes nothing: all files of these tests, and those of the documents
+cat >fixed.py <<'PY'
+import collections, json, subprocess, sys
+program, *names = sys.argv[1:]
+def run(text, *options):
+    return subprocess.run([program, "lint", "--fail-on", "never", *options], input=text, stdout=subprocess.PIPE, stderr=subprocess.DEVNULL)
+def found(text):
+    return collections.Counter((it["code"], it["message"]) for it in json.loads(run(text, "--format", "json").stdout))
+wrong = changed = 0
+for name in names:
+    text = open(name, "rb").read()
+    made = run(text, "--fix")
+    if made.returncode == 0:
+        changed += made.stdout != text
+        if run(made.stdout, "--fix").stdout != made.stdout or found(made.stdout) - found(text):
+            wrong += 1
+            print("failed: --fix of " + name)
+sys.exit(wrong > 0 or changed == 0)
+PY
+holds 'fixes of all files' python3 fixed.py "$program" *.bib
+
 # texts in quotes whose braces don't balance
 printf '@misc{a, title = "The {"}Big{"} one"}\n@misc{b, note={x}, doi={10/y}}\n' >quotes.bib
 unbalanced=$'quotes.bib:1:19: error: the braces of this text in quotes don\'t balance, so BibTeX and Biber end it elsewhere; write it in braces first\n'
@@ -2209,6 +2230,10 @@ for kind, block in re.findall(r"^```(\S*)\n(.*?)^```$", open(document, encoding=
         if made.stdout != want:
             failed += 1
             print("failed: $ " + command + "\n" + made.stdout)
+if os.path.exists(os.path.join(folder, "typos.bib")):
+    open(os.path.join(folder, "typo.bib"), "w").write("@misc{a, autor={A}, title={T}, year=2001}\n")
+    files = [os.path.join(folder, it) for it in os.listdir(folder) if it.endswith(".bib")]
+    failed += subprocess.run([sys.executable, "fixed.py", program, *files]).returncode
 shutil.rmtree(folder)
 print(f"sessions: {ran} commands, {failed} failed")
 sys.exit(failed > 0 or ran == 0)
