@@ -16,6 +16,7 @@ With --crates it prints the table of crates for docs/CONTRIBUTING.md.
 - No line of a definition or a proof is over 140 characters, except imports and literal texts.
 - Each public call of `biblatex` that may be refused memory is named in a test, which calls it where memory is there.
 - No function builds an error that says that memory was refused unless it was given one (out_of_memory.py).
+- The list of misspellings.rt has the known names of fields that others resemble (similar_names.py).
 - The rows of each layer, tests/rows/NAME, stand in NAME.stdout in the same order, each with an answer.
 - README.md has at most 80 lines, and the first example of docs/LIBRARY.md is the code of
   tests/src/bibliography_calls/first_example.rs.
@@ -30,6 +31,7 @@ import re
 import sys
 
 import out_of_memory
+import similar_names
 
 TOP = pathlib.Path(__file__).resolve().parent.parent
 sys.path.insert(0, str(TOP / "tests"))
@@ -321,6 +323,14 @@ def check_memory():
             error(file, f"line {line} builds {what}, and wasn't given an error that says that memory was refused")
 
 
+def check_similar():
+    """misspellings.rt lists the known names of fields that others resemble."""
+    file = CRATES / "bibkit_commands" / "src" / "misspellings.rt"
+    known = similar_names.listed((CRATES / "bib_findings" / "src" / "names.rt").read_text(), "KNOWN_FIELDS")
+    if similar_names.listed(file.read_text(), "SIMILAR") != similar_names.similar(known):
+        error(file, "its list doesn't have exactly the known names that others resemble, in order")
+
+
 def check_rows():
     """A row is a line with a bar; the other lines are headings, and stand as they are."""
     for stdout in sorted(TOP.glob("tests/rows/*.stdout")):
@@ -468,6 +478,7 @@ def main():
     check_widths()
     check_calls()
     check_memory()
+    check_similar()
     check_rows()
     check_readme()
     check_documents()

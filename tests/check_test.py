@@ -250,6 +250,10 @@ CALLED = {
     "pub fn made(alloc: Global) -> Result<Kept, AllocError> {\n    Kept::new(alloc)\n}\n\nimpl Hidden {\n    pub fn untold(&self) -> Result<Hidden, AllocError> {\n        g()\n    }\n}\n",
     "tests/src/calls.rs": "fn f() {\n    let kept = made(alloc)?;\n    kept.copied()?;\n}\n",
 }
+SIMILAR = {
+    "crates/bib_findings/src/names.rt": 'static KNOWN_FIELDS: [&str; 5] = [\n    "date", "day", "year", "yaers", "note",\n];\n',
+    "crates/bibkit_commands/src/misspellings.rt": 'static SIMILAR: [&str; 4] = [\n    "date", "day", "yaers", "year",\n];\n',
+}
 ROWS = {"tests/rows/a": "# keys\nkeys|x\nkeys|y", "tests/rows/a.stdout": "# keys\nkeys|x => a\nkeys|y => "}
 EXAMPLE = "use biblatex::Bibliography;\n\nlet it = f(alloc)?;\nprintln!(rt; \"{}\", it)?;\n"
 README = {
@@ -441,6 +445,11 @@ RULES = {
     "out of memory is only passed on": (check.check_memory, {"crates/a/src/lib.rt": "fn f() -> Result<(), AllocError> {\n    g()?;\n    Ok(())\n}\n"}, [
         ({"crates/a/src/lib.rt": WRONG["a plain function"]}, "line 2 builds AllocError"),
         ({"crates/a/src/deep/one.rt": WRONG["an imported variant"]}, "line 2 builds OutOfMemory"),
+    ]),
+    "names that others resemble are listed": (check.check_similar, SIMILAR, [
+        ({it: SIMILAR[it].replace('"yaers", ', "") for it in SIMILAR if "commands" in it}, "its list doesn't have exactly"),
+        ({it: SIMILAR[it].replace('"note"', '"note", "nte"') for it in SIMILAR if "findings" in it}, "its list doesn't have exactly"),
+        ({it: SIMILAR[it].replace('"day"', '"doubt"') for it in SIMILAR if "findings" in it}, "its list doesn't have exactly"),
     ]),
     "rows have answers": (check.check_rows, ROWS, [
         ({"tests/rows/a": "# keys\nkeys|x"}, "it has 3 lines, and a 2"),

@@ -100,7 +100,7 @@ for word in help --help -h; do
     done
 done
 run_start 'help of lint' 0 $'Report errors and likely mistakes in files\n\nUsage: bibkit lint [OPTIONS] [FILE]...\n' lint --help
-for option in '--only <CODES>' '--ignore <CODES>' '--explain <CODE>' '--format <FORMAT>' '--fail-on <SEVERITY>' '--cited <DOCUMENT>' '--unused' '--each' '--color <WHEN>' '--where <CONDITION>' '--stdin-filename <NAME>'; do
+for option in '--only <CODES>' '--ignore <CODES>' '--explain <CODE>' '--format <FORMAT>' '--fail-on <SEVERITY>' '--cited <DOCUMENT>' '--unused' '--each' '--color <WHEN>' '--where <CONDITION>' '--stdin-filename <NAME>' --fix --write --diff; do
     holds "help of lint names $option" grep -qE "^      $option +[A-Z]" results
 done
 run_start 'help of keys' 0 $'Print the key of each entry\n\nUsage: bibkit keys [OPTIONS] [FILE]...\n' keys --help
@@ -1929,6 +1929,111 @@ run 'no entry is removed' 0 "$(cat two.bib)"$'\n' remove --where 'key = z' -f tw
 run 'neither keys nor a condition' 2 '' remove -f two.bib
 run 'keys and a condition' 2 '' remove a --where 'key = b' -f two.bib
 
+# lint --fix: a name that can only mean the suggested one, and a DOI after the address of a resolver
+# fixes NAME OLD NEW: the field after the key of an entry, and the field that it becomes; without NEW, it stays
+fixes() {
+    printf '@misc{k,\n  %s,\n  title = {T}\n}\n' "$2" >fix.bib
+    printf '@misc{k,\n  %s,\n  title = {T}\n}\n' "${3-$2}" >fixed.bib
+    "$program" lint --fix --fail-on never fix.bib >output 2>messages
+    count "$1" $? 0 "$(cat fixed.bib)"$'\n'
+    "$program" lint --fix --fail-on never fixed.bib >output 2>messages
+    count "$1, a second time" $? 0 "$(cat fixed.bib)"$'\n'
+}
+fixes 'a letter is missing' 'autor = {A}' 'author = {A}'
+fixes 'a letter too many' 'edittion = {2}' 'edition = {2}'
+fixes 'a wrong letter' 'organisation = {A}' 'organization = {A}'
+fixes 'letters are swapped' 'yaer = 1984' 'year = 1984'
+fixes 'letters are swapped, in capitals' 'YAER = 1984' 'year = 1984'
+fixes 'a plural' 'editors = {A}' 'editor = {A}'
+fixes 'the name of an abbreviation stays' 'mnoth = jan' 'month = jan'
+fixes 'two typing errors' 'publshr = {A}'
+fixes 'no known name' 'nofield = {A}'
+fixes 'a letter of editor or of edition' 'editon = {2}'
+fixes 'a letter of urldate or of urlday' 'urldat = {2020}'
+fixes 'a letter of each number with is' 'isxn = {0}'
+fixes 'one of three fields for users' 'userg = {A}'
+fixes 'the new name is there, in capitals' $'autor = {A},\n  AUTHOR = {B}'
+fixes 'two fields with the name' $'autor = {A},\n  Autor = {B}'
+fixes 'two names that mean the same' $'autor = {A},\n  auhtor = {B}'
+fixes 'two fields' $'autor = {A},\n  yaer = 1984' $'author = {A},\n  year = 1984'
+fixes 'a malformed date would be new' 'daet = {x}'
+fixes 'a special character would be new' 'pulisher = {A & B}'
+fixes 'an unknown reference would be new' 'crosref = {z}'
+fixes 'a DOI after an address' 'doi = {https://doi.org/10.1/x}' 'doi = {10.1/x}'
+fixes 'a DOI after an older address' 'doi = {http://dx.doi.org/10.1/X_y}' 'doi = {10.1/X_y}'
+fixes 'a DOI after its scheme' 'DOI = "DOI: 10.1/x "' 'DOI = {10.1/x}'
+fixes 'a DOI after the address of a publisher' 'doi = {https://dl.acm.org/doi/10.1/x}'
+fixes 'an address that is no DOI' 'doi = {https://doi.org/x/10.1}'
+fixes 'a DOI without a suffix' 'doi = {https://doi.org/10.1}'
+fixes 'a DOI with a character of an address' 'doi = {https://doi.org/10.1/x%3Cy}'
+fixes 'two DOIs' 'doi = {https://doi.org/10.1/x 10.1/y}'
+fixes 'a DOI in braces' 'doi = {https://doi.org/10.1/{x}}'
+fixes 'a DOI in two parts' 'doi = {https://doi.org/} # {10.1/x}'
+fixes 'two fields with a DOI' $'doi = {10.1/x},\n  doi = {https://doi.org/10.1/x}'
+fixes 'fields and comments around them stay' $'% one\n  autor = {A} , % two\n  doi={https://doi.org/10.1/x}' $'% one\n  author = {A} , % two\n  doi={10.1/x}'
+printf '@misc{a, autor={A}, title={T}, year=2001}\ntext\n@misc{a, autor={A}}\n@misc{b, ids={c}, autor={B}, title={U}, year=2002}\n@misc{c, autor={C}, title={V}, year=2003}\n@misc{, autor={D}}\n' >names.bib
+run 'entries with a name of another one, and without a key' 1 "$(sed 's/{b, ids={c}, autor/{b, ids={c}, author/' names.bib)"$'\n' lint --fix names.bib
+printf '@misc{a, autor={A}, title={T}, year=2001, doi={https://doi.org/10.1/x}}\n@misc{b, autor={B}, title={U}, year=2002}\n' >two-fixes.bib
+run 'all fixes' 0 $'@misc{a, author={A}, title={T}, year=2001, doi={10.1/x}}\n@misc{b, author={B}, title={U}, year=2002}\n' lint --fix two-fixes.bib
+holds 'no finding stays' eval 'printf "errors: 0, warnings: 0\n" | cmp -s - messages'
+run 'fixes of one code' 0 $'@misc{a, autor={A}, title={T}, year=2001, doi={10.1/x}}\n@misc{b, autor={B}, title={U}, year=2002}\n' lint --fix --only doi-address two-fixes.bib
+run 'fixes without one code' 0 $'@misc{a, author={A}, title={T}, year=2001, doi={https://doi.org/10.1/x}}\n@misc{b, author={B}, title={U}, year=2002}\n' lint --fix --ignore doi-address two-fixes.bib
+run 'fixes of selected entries' 0 $'@misc{a, autor={A}, title={T}, year=2001, doi={https://doi.org/10.1/x}}\n@misc{b, author={B}, title={U}, year=2002}\n' lint --fix --where 'key = b' two-fixes.bib
+mkdir own-fixes
+cp two-fixes.bib own-fixes/a.bib
+printf 'format = "json"\n[own]\nfields = ["autor"]\n' >own-fixes/bibkit.toml
+run 'no fix of an own name, and no format of a project' 0 $'@misc{a, autor={A}, title={T}, year=2001, doi={10.1/x}}\n@misc{b, autor={B}, title={U}, year=2002}\n' lint --fix own-fixes/a.bib
+holds 'the counts as a line' eval 'printf "errors: 0, warnings: 0\n" | cmp -s - messages'
+printf '@misc{a, autor={A}, title={T}, year=2001}\n@misc{b, author={A}, title={T}, year=2001, nofield={x}}\n' >alike.bib
+run 'a likely duplicate would be new' 1 "$(cat alike.bib)"$'\n' lint --fix alike.bib
+printf '@misc{a, autor={A}, title={T}, year=2001}\n@misc{b, author={B}, title={U}, year=2001, nofield={x}}\n' >input
+run_messages 'findings that stay, with their positions in the new text' 1 $'two.txt:2:44: warning: b: unknown field `nofield` [unknown-field]\nerrors: 0, warnings: 1\n' lint --fix --stdin-filename two.txt
+run 'standard input with fixes' 1 $'@misc{a, author={A}, title={T}, year=2001}\n@misc{b, author={B}, title={U}, year=2001, nofield={x}}\n' lint --fix
+run 'findings that stay and do not count' 0 $'@misc{a, author={A}, title={T}, year=2001}\n@misc{b, author={B}, title={U}, year=2001, nofield={x}}\n' lint --fix --fail-on error
+: >input
+printf '\xef\xbb\xbf@misc{a, autor={A},\r\n  title={T}, year=2001}\r\n' >marked-fix.bib
+run 'a byte order mark and line ends stay' 0 $'\xef\xbb\xbf@misc{a, author={A},\r\n  title={T}, year=2001}\r\n' lint --fix marked-fix.bib
+cp two-fixes.bib fix1.bib
+cp alike.bib fix2.bib
+run 'several files, written' 1 '' lint --fix --write fix1.bib fix2.bib
+holds 'the first file is mended' eval '"$program" lint fix1.bib >output'
+holds 'the second file stays' cmp -s alike.bib fix2.bib
+run 'several files, printed' 1 "$(cat fix1.bib alike.bib)"$'\n' lint --fix fix1.bib fix2.bib
+run 'the same with each file by itself' 1 "$(cat fix1.bib alike.bib)"$'\n' lint --fix --each fix1.bib fix2.bib
+run 'no difference' 0 '' lint --fix --diff fix1.bib
+run 'a difference after --write' 0 $'--- two-fixes.bib\n+++ two-fixes.bib\n@@ -1,2 +1,2 @@\n-@misc{a, autor={A}, title={T}, year=2001, doi={https://doi.org/10.1/x}}\n-@misc{b, autor={B}, title={U}, year=2002}\n+@misc{a, author={A}, title={T}, year=2001, doi={10.1/x}}\n+@misc{b, author={B}, title={U}, year=2002}\n' lint --fix --write --diff two-fixes.bib
+run_messages 'a syntax error, as edit reports it' 1 $'broken.bib:3:1: error: expected comma [syntax]\n' lint --fix broken.bib
+run 'a syntax error, and nothing is printed' 1 '' lint --fix broken.bib
+run 'a file that is not UTF-8' 2 '' lint --fix latin.bib
+run 'a file that is missing' 2 '' lint --fix no.bib
+run_messages 'standard input can not be written' 2 $'bibkit: `--write` needs the name of a file\n' lint --fix --write
+run_messages 'another format' 2 $'bibkit: `--fix` requires `--format text`\n' lint --fix --format json two-fixes.bib
+run 'the format text' 0 "$(cat fix1.bib)"$'\n' lint --fix --format text two-fixes.bib
+run 'fixes and a document' 2 '' lint --fix --cited thesis.aux two-fixes.bib
+run '--write without --fix' 2 '' lint --write two-fixes.bib
+run '--diff without --fix' 2 '' lint --diff two-fixes.bib
+
+# what --fix makes of a file has no new finding, and a second run changes nothing: all files of these tests, and those of the documents
+cat >fixed.py <<'PY'
+import collections, json, subprocess, sys
+program, *names = sys.argv[1:]
+def run(text, *options):
+    return subprocess.run([program, "lint", "--fail-on", "never", *options], input=text, stdout=subprocess.PIPE, stderr=subprocess.DEVNULL)
+def found(text):
+    return collections.Counter((it["code"], it["message"]) for it in json.loads(run(text, "--format", "json").stdout))
+wrong = changed = 0
+for name in names:
+    text = open(name, "rb").read()
+    made = run(text, "--fix")
+    if made.returncode == 0:
+        changed += made.stdout != text
+        if run(made.stdout, "--fix").stdout != made.stdout or found(made.stdout) - found(text):
+            wrong += 1
+            print("failed: --fix of " + name)
+sys.exit(wrong > 0 or changed == 0)
+PY
+holds 'fixes of all files' python3 fixed.py "$program" *.bib
+
 # texts in quotes whose braces don't balance
 printf '@misc{a, title = "The {"}Big{"} one"}\n@misc{b, note={x}, doi={10/y}}\n' >quotes.bib
 unbalanced=$'quotes.bib:1:19: error: the braces of this text in quotes don\'t balance, so BibTeX and Biber end it elsewhere; write it in braces first\n'
@@ -2136,6 +2241,7 @@ in_bash 'bibkit keys --' $'--where\n--help\n'
 in_bash 'bibkit get --' $'--where\n--help\n'
 in_bash 'bibkit lint --wh' $'--where\n'
 in_bash 'bibkit lint --ea' $'--each\n'
+in_bash 'bibkit lint --fi' $'--fix\n'
 in_bash 'bibkit rekey --m' $'--map\n'
 in_bash 'bibkit convert --to ' $'csl\njson\nris\nbiblatex\nbibtex\n'
 in_bash 'bibkit set --wr' $'--write\n'
@@ -2226,6 +2332,10 @@ for kind, block in re.findall(r"^```(\S*)\n(.*?)^```$", open(document, encoding=
         if made.stdout != want:
             failed += 1
             print("failed: $ " + command + "\n" + made.stdout)
+if os.path.exists(os.path.join(folder, "typos.bib")):
+    open(os.path.join(folder, "typo.bib"), "w").write("@misc{a, autor={A}, title={T}, year=2001}\n")
+    files = [os.path.join(folder, it) for it in os.listdir(folder) if it.endswith(".bib")]
+    failed += subprocess.run([sys.executable, "fixed.py", program, *files]).returncode
 shutil.rmtree(folder)
 print(f"sessions: {ran} commands, {failed} failed")
 sys.exit(failed > 0 or ran == 0)

@@ -32,6 +32,8 @@ pub enum Asked<'a> {
         conditions: Vec<&'a str>,
         /// The name of standard input in findings, if it isn't `-`.
         input_name: Option<&'a str>,
+        /// The use of the new text of each file in which findings are mended, or `None` if they are only printed.
+        fix: Option<Mode>,
     },
     /// Edits a file.
     Edits(Editing<'a>),
@@ -104,16 +106,38 @@ fn given_codes(
     }
 }
 
+// Returns the use of the new texts of `lint --fix`, or `None` without `--fix`.
+fn fix_mode(matches: &ArgMatches<'_>) -> Option<Mode> {
+    if matches.get_flag("fix") {
+        Some(mode_of(matches, false))
+    } else {
+        None
+    }
+}
+
+// Returns the format of findings. With `--fix`, it is `text` without `--format`.
+fn output_format(matches: &ArgMatches<'_>) -> Option<OutputFormat> {
+    match matches.get_str("format") {
+        None if matches.get_flag("fix") => Some(OutputFormat::Text),
+        None => None,
+        Some(name) => OutputFormat::from_name(name),
+    }
+}
+
 // Returns the request of `lint`: the explanation of a code for `--explain`, otherwise the findings of files.
 fn lint_asked<'a>(alloc: Global, matches: &ArgMatches<'a>) -> Result<Asked<'a>, AllocError> {
     if let Some(code) = matches.get_str("explain").and_then(Code::from_name) {
         return Ok(Asked::Other(Request::Explain(code)));
     }
+    let format = output_format(matches);
+    if matches.get_flag("fix") && format != Some(OutputFormat::Text) {
+        return Ok(Asked::Wrong("`--fix` requires `--format text`"));
+    }
     let settings = Settings {
         only: given_codes(alloc, matches, "only")?,
         ignored: given_codes(alloc, matches, "ignore")?,
         color: matches.get_str("color").and_then(Color::from_name),
-        format: matches.get_str("format").and_then(OutputFormat::from_name),
+        format,
         fail_on: matches.get_str("fail-on").and_then(fail_on_named),
     };
     let cited = matches.get_str("cited").map(|name| Cited {
@@ -126,6 +150,7 @@ fn lint_asked<'a>(alloc: Global, matches: &ArgMatches<'a>) -> Result<Asked<'a>, 
         is_each: matches.get_flag("each"),
         conditions: texts(alloc, matches, "where")?,
         input_name: matches.get_str("stdin-filename"),
+        fix: fix_mode(matches),
     })
 }
 

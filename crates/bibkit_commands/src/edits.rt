@@ -88,20 +88,20 @@ pub enum Mode {
     },
 }
 
-// Returns the error of a wrong command line, with status 2.
-fn wrong_usage(alloc: Global, text: &str) -> Result<(), Stop> {
-    Err(Stop::Said(format!(in alloc; "bibkit: {text}\n")?, 2))
+/// Returns the message of a wrong command line, with status 2.
+pub fn wrong_usage(alloc: Global, text: &str) -> Result<Stop, AllocError> {
+    Ok(Stop::Said(format!(in alloc; "bibkit: {text}\n")?, 2))
 }
 
 // Refuses to write into standard input, and to add entries of standard input to a text of standard input.
 fn check(alloc: Global, editing: &Editing<'_>) -> Result<(), Stop> {
     match editing.edits {
         _ if editing.name != "-" => Ok(()),
-        _ if editing.mode == Mode::Write => wrong_usage(
+        _ if editing.mode == Mode::Write => Err(wrong_usage(
             alloc,
             "`--write` needs the name of a file",
-        ),
-        Edits::AddInput => wrong_usage(alloc, "`add` needs the name of a file"),
+        )?),
+        Edits::AddInput => Err(wrong_usage(alloc, "`add` needs the name of a file")?),
         _ => Ok(()),
     }
 }
@@ -246,9 +246,9 @@ fn check_edited(
     }
 }
 
-// Returns the name of a file in a diff. If it contains a space, a tab follows it, as in the output of diff. Otherwise `patch` ends the name
-// at the space.
-fn name_in_diff(alloc: Global, name: &str) -> Result<String, AllocError> {
+/// Returns the name of a file in a diff. If it contains a space, a tab follows it, as in the output of diff. Otherwise `patch` ends the
+/// name at the space.
+pub fn name_in_diff(alloc: Global, name: &str) -> Result<String, AllocError> {
     let mut text = String::from_str(alloc, name)?;
     if name.contains(' ') {
         text.push('\t')?;
@@ -378,10 +378,10 @@ fn answer(rt: &HostRuntime, editing: &Editing<'_>) -> Result<(), Stop> {
         }
         Edits::Selected { conditions, edits } => {
             if edits.is_empty() {
-                return wrong_usage(
+                return Err(wrong_usage(
                     rt.alloc(),
                     "`edit` needs `--rename`, `--set`, `--add` or `--unset`",
-                );
+                )?);
             }
             edit_selected(rt, editing, conditions, edits)
         }
@@ -392,7 +392,7 @@ fn answer(rt: &HostRuntime, editing: &Editing<'_>) -> Result<(), Stop> {
             let text = format!(in rt.alloc();
                 "`{word}` isn't {pair}; use `--file` for the name of the file"
             )?;
-            wrong_usage(rt.alloc(), &text)
+            Err(wrong_usage(rt.alloc(), &text)?)
         }
     }
 }

@@ -5,6 +5,7 @@ use crate::converting::run_convert;
 use crate::document::run_cited;
 use crate::edits::{Mode, run_edits};
 use crate::files::SystemFiles;
+use crate::fixing::run_fix;
 use crate::formatting::run_format;
 use crate::importing::run_import;
 use crate::resolving::run_resolve;
@@ -12,7 +13,7 @@ use crate::rewriting::run_rewrite;
 use crate::selecting::{parse_conditions, run_select};
 use crate::stops::say;
 use bib_select::selection::Selection;
-use bibkit_core::request::{Call, Cited, Request, Selected};
+use bibkit_core::request::{Call, Cited, Lint, Request, Selected};
 use bibkit_core::run::run;
 use bibkit_settings::configuration::{ConfigurationError, Project, Reader, project_settings};
 use bibkit_settings::settings::Settings;
@@ -77,15 +78,17 @@ struct LintWords<'a> {
     is_each: bool,
     // The conditions on the entries that findings are about.
     conditions: Vec<&'a str>,
+    // The use of the new texts with `--fix`.
+    fix: Option<Mode>,
 }
 
-// Returns the request for `lint`, with the settings of the command line and of the project of the first file, and these conditions.
-fn lint_request<'a>(
+// Returns the findings to print, with the settings of the command line and of the project of the first file, and these conditions.
+fn lint_of<'a>(
     rt: &HostRuntime,
     words: LintWords<'a>,
     conditions: Vec<Selection>,
     names: &[&str],
-) -> Result<Request<'a>, ConfigurationError> {
+) -> Result<Lint<'a>, ConfigurationError> {
     let project = project_settings(rt, Reader::Lint, first(names))?;
     let mut lint = words.settings.over(project.lint).lint(
         rt.alloc(),
@@ -95,7 +98,7 @@ fn lint_request<'a>(
     );
     lint.conditions = conditions;
     lint.own = project.own;
-    Ok(Request::Lint(lint))
+    Ok(lint)
 }
 
 // Runs a request on files, and returns the status. The file `input` is standard input.
@@ -123,14 +126,18 @@ fn refuse_settings(rt: &HostRuntime, error: ConfigurationError) -> u8 {
     }
 }
 
-// Runs `lint`, and returns the status. The file `input` is standard input.
+// Runs `lint`, with or without `--fix`, and returns the status. The file `input` is standard input.
 fn run_lint<'a>(rt: &HostRuntime, words: LintWords<'a>, names: Vec<&'a str>, input: &str) -> u8 {
     let conditions = match parse_conditions(rt.alloc(), &words.conditions) {
         Ok(conditions) => conditions,
         Err(stop) => return say(rt, &stop),
     };
-    match lint_request(rt, words, conditions, &names) {
-        Ok(request) => run_request(rt, request, names, input),
+    let fix = words.fix;
+    match lint_of(rt, words, conditions, &names) {
+        Ok(lint) => match fix {
+            Some(mode) => run_fix(rt, &lint, mode, &names, input),
+            None => run_request(rt, Request::Lint(lint), names, input),
+        },
         Err(error) => refuse_settings(rt, error),
     }
 }
@@ -255,12 +262,14 @@ fn answer(rt: &HostRuntime, words: Words<'_>) -> u8 {
             is_each,
             conditions,
             input_name,
+            fix,
         } => {
             let words = LintWords {
                 settings,
                 cited,
                 is_each,
                 conditions,
+                fix,
             };
             match input_name {
                 Some(name) => run_named_lint(rt, words, names, name),

@@ -41,7 +41,12 @@ impl Stop {
 /// Returns the bytes of a file. `-` is standard input. If the file can't be read, fails with a message and status 2, or with
 /// `OutOfMemory`.
 pub fn bytes_of(rt: &HostRuntime, name: &str) -> Result<Vec<u8>, Stop> {
-    let mut files = SystemFiles::new(rt, "-");
+    bytes_from(rt, name, "-")
+}
+
+/// Returns the bytes of a file, as `bytes_of` does. The file `input` is standard input.
+pub fn bytes_from(rt: &HostRuntime, name: &str, input: &str) -> Result<Vec<u8>, Stop> {
+    let mut files = SystemFiles::new(rt, input);
     match files.read(rt.alloc(), name) {
         Ok(bytes) => Ok(bytes),
         Err(error) => {

@@ -88,6 +88,8 @@ pub enum Flag {
     Beside(&'static str),
     /// It overrides an earlier flag with this name.
     After(&'static str),
+    /// It requires the option with the first name, and overrides an earlier flag with the second one.
+    BesideAfter(&'static str, &'static str),
     /// It is required if the flag with this name is missing, and conflicts with it.
     Or(&'static str),
     /// It conflicts with the options with these names.
@@ -244,6 +246,7 @@ fn flag_argument<'a>(
         Flag::Plain => Ok(argument),
         Flag::Beside(other) => argument.requires_arg(other),
         Flag::After(other) => argument.overrides_with(other),
+        Flag::BesideAfter(other, earlier) => argument.requires_arg(other)?.overrides_with(earlier),
         Flag::Or(other) => argument
             .conflicts_with(other)?
             .required_unless_present(other),

@@ -14,15 +14,19 @@ earlier file has its key. With --each, each file is a database of its own.
 --where leaves out findings that are about no entry, such as bytes that aren't UTF-8. It keeps a finding about two entries, such as a
 duplicate, if one of them meets the conditions. `bibkit help select` has the conditions.
 
+--fix mends misspelled field names (unknown-field) and DOIs with an address (doi-address), each file by itself. It prints the findings that
+stay on standard error. It makes no edit that leads to a new finding.
+
 Examples:
   bibkit lint --ignore unknown-field refs.bib
+  bibkit lint --fix --write refs.bib
   bibkit lint --where 'year >= 2020' refs.bib
 
 Status: 0 no finding of at least the severity of --fail-on, 1 such a finding, 2 wrong usage, or a file or the output failed, 3 out of
 memory";
 
 // The arguments of `lint`.
-const LINT: [Argument; 11] = [
+const LINT: [Argument; 14] = [
     Argument {
         name: "only",
         takes: Takes::Codes,
@@ -77,6 +81,21 @@ const LINT: [Argument; 11] = [
         name: "stdin-filename",
         takes: Takes::InputName,
         help: "Name of standard input in findings; the settings are those of a file with this name",
+    },
+    Argument {
+        name: "fix",
+        takes: Takes::Flag(Flag::Against(&["cited"])),
+        help: "Mend findings with one right remedy, print the new texts, and report what stays",
+    },
+    Argument {
+        name: "write",
+        takes: Takes::Flag(Flag::Beside("fix")),
+        help: "Write the new texts to the files instead of printing them",
+    },
+    Argument {
+        name: "diff",
+        takes: Takes::Flag(Flag::BesideAfter("fix", "write")),
+        help: "Print diffs instead of the new texts",
     },
 ];
 
