@@ -410,9 +410,9 @@ printf '@misc{g, title={G}' >skip3.bib
 printf ', year={1}}\n@misc{h, title={H}}\n' >skip4.bib
 printf '\\citation{a}\n\\citation{f}\n\\bibdata{skip1,skip2}\n' >skip.aux
 open='a block without an end; is a brace or a quote open? [syntax]'
-skip1=$'bibkit: skip1.bib:2:20: b: expected comma [syntax]\nbibkit: skip1.bib:3:1: '"$open"$'\n'
-skip2=$'bibkit: skip2.bib:4:3: e: expected comma [syntax]\nbibkit: skip2.bib:5:1: '"$open"$'\n'
-skip3=$'bibkit: skip3.bib:1:19: g: expected comma [syntax]\n'
+skip1=$'skip1.bib:2:20: error: b: expected comma [syntax]\nskip1.bib:3:1: error: '"$open"$'\n'
+skip2=$'skip2.bib:4:3: error: e: expected comma [syntax]\nskip2.bib:5:1: error: '"$open"$'\n'
+skip3=$'skip3.bib:1:19: error: g: expected comma [syntax]\n'
 # a command that skips these blocks: the output for skip1.bib, and that for skip1.bib and skip2.bib, and the words
 skips() {
     local one=$1 both=$2
@@ -443,12 +443,12 @@ skips $'a\nc\n' $'a\nc\nd\nf\n' select --complete --keys
 run_messages 'the skipped blocks of the files that a document names' 1 "$skip1$skip2" cited skip.aux
 run 'an entry that continues in the next file' 1 $'@misc{g, title={G}\n, year={1}}\n' select --complete --where 'key = g' skip3.bib skip4.bib
 run_messages 'it is a skipped block of its own file' 1 "$skip3" select --complete --where 'key = g' skip3.bib skip4.bib
-run_messages 'a preamble that cited prints is a skipped block, too' 1 "$("$program" lint --only syntax crlf.bib | sed -n 's/^\(.*\): error: \(.*\)$/bibkit: \1: \2/p')"$'\n' cited crlf.aux crlf.bib
+run_messages 'a preamble that cited prints is a skipped block, too' 1 "$("$program" lint --only syntax crlf.bib | head -n -1)"$'\n' cited crlf.aux crlf.bib
 run_messages 'a preamble that can be parsed is no skipped block' 0 '' cited preamble.aux
 run_messages 'counts have no lines for skipped blocks' 0 '' stats skip1.bib skip2.bib
 printf '\xef\xbb\xbf@misc{\xc3\xa9, title={B} year={1}}\n' >skip-mark.bib
 printf '@misc{\xe9, title={B} year={1}}\n' >skip-bytes.bib
-run_messages 'columns of skipped blocks are in characters, without a byte order mark' 1 $'bibkit: skip-mark.bib:1:20: \xc3\xa9: expected comma [syntax]\nbibkit: skip-bytes.bib:1:20: \xc3\xa9: expected comma [syntax]\n' keys skip-mark.bib skip-bytes.bib
+run_messages 'columns of skipped blocks are in characters, without a byte order mark' 1 $'skip-mark.bib:1:20: error: \xc3\xa9: expected comma [syntax]\nskip-bytes.bib:1:20: error: \xc3\xa9: expected comma [syntax]\n' keys skip-mark.bib skip-bytes.bib
 
 # what a document cites
 run 'a key that no file has' 1 $'paper.aux:3:1: error: no file has an entry "z" [missing-entry]\nerrors: 1, warnings: 0\n' lint --ignore missing-field --cited paper.aux two.bib

@@ -1,29 +1,20 @@
 -- Meaning: words of public contracts.
 -- The lines that report the skipped blocks of files.
-use Rattle.std.specs.Prelude.{◌≡◌, ◌||◌, ◌==◌, ℕ, not, List, ◌++◌, codes, length, map, string_bytes}
+use Rattle.std.specs.Prelude.{◌≡◌, ◌||◌, ◌==◌, ℕ, not, List, length, map, string_bytes}
 use Rattle.std.specs.List.{flat_map}
-use Rattle.std.specs.Fmt.{decimal}
 use Rattle.bib_source.specs.Positions.{position_at}
-use Rattle.bib_source.specs.declared.decoding.Decoded.{Decoded}
-use Rattle.bib_source.specs.declared.positions.Position.{Position}
-use Rattle.bib_findings.specs.Codes.{code_name}
 use Rattle.bib_findings.specs.Errors.{block_finding}
 use Rattle.bib_findings.specs.Findings.{AreSortedByPlace}
 use Rattle.bib_findings.specs.declared.finding.Finding.{Finding}
 use Rattle.bib_syntax.specs.Reading.{FileReading}
 use Rattle.bib_syntax.specs.Recovery.{IsFullRecovery}
 use Rattle.bib_syntax.specs.declared.raw.recovery.SkippedBlock.{SkippedBlock}
+use Rattle.bibkit_core.specs.Printed.{finding_line}
 use Rattle.bibkit_core.specs.declared.skipped.Skipped.{Skipped}
 
--- the line of a skipped block with this finding, at this position of the file with this name: bibkit: FILE:LINE:COLUMN: TEXT [CODE]
-abbrev pub block_line : List ℕ → Position → Finding → List ℕ
-block_line name place f =
-    codes "bibkit: " ++ (name ++ (codes ":" ++ (decimal place.line ++ (codes ":" ++ (decimal place.column
-    ++ (codes ": " ++ (f.message ++ (codes " [" ++ (code_name f.code ++ codes "]\n")))))))))
-
--- the lines of skipped blocks with these findings in the file with this name and this text, in turn
+-- the lines of `lint` for skipped blocks with these findings in the file with this name and this text, in turn
 abbrev pub block_lines : List ℕ → List ℕ → List Finding → List ℕ
-block_lines name text found = flat_map (λ f. block_line name (position_at text f.span.start) f) found
+block_lines name text found = flat_map (λ f. finding_line name (position_at text f.span.start) f) found
 
 -- `found` are the findings of `lint` for the skipped blocks of a text, one for each, in order of their places
 pub record AreBlockFindings (text : List ℕ) (found : List Finding) : Type 0 where

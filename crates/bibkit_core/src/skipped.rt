@@ -5,9 +5,10 @@ ghost use Rattle.std.specs.String.{string_bytes};
 ghost use Rattle.bibkit_core.specs.Skipped as spec;
 ghost use Rattle.bibkit_core.specs.Skipped.{AddsSkipped, AreBlockFindings, AreSkippedLines};
 
+use crate::lines::finding_line;
 use bib_findings::finding::Finding;
 use bib_findings::findings::findings_in;
-use bib_source::positions::{Position, Positions};
+use bib_source::positions::Positions;
 use biblatex::RawBibliography;
 use std::alloc::{AllocError, Global};
 
@@ -29,25 +30,6 @@ fn block_findings(alloc: Global, text: &str) -> Result<Vec<Finding>, AllocError>
     Ok(found)
 }
 
-// Returns the line of a skipped block with this finding, at the position `place` of the file `name`, with a line feed. It has the form
-// `bibkit: FILE:LINE:COLUMN: TEXT [CODE]`.
-fn block_line(
-    alloc: Global,
-    name: &str,
-    place: Position,
-    finding: &Finding,
-) -> Result<String, AllocError>
-    ensures { IfOk result (λ text. string_bytes text ≡ spec.block_line name.now place finding.now) }
-{
-    format!(in alloc;
-        "bibkit: {name}:{}:{}: {} [{}]\n",
-        place.line,
-        place.column,
-        finding.message.as_str(),
-        finding.code.name()
-    )
-}
-
 // Returns the lines of skipped blocks with these findings, in turn.
 fn block_lines(
     alloc: Global,
@@ -61,13 +43,13 @@ fn block_lines(
     let mut lines = String::new(alloc);
     'found: for finding in found {
         let place = positions.position(finding.span.start);
-        lines.push_str(&block_line(alloc, name, place, finding)?)?;
+        lines.push_str(&finding_line(alloc, name, place, finding)?)?;
     }
     Ok(lines)
 }
 
-/// Returns a line for each skipped block of the file `name` with this decoded text, in order of their places, each with a line feed. A
-/// line has the position and the message of the finding of `lint` for this block. Fails only if out of memory.
+/// Returns the line that `lint` prints for each skipped block of the file `name` with this decoded text, in order of their places. Fails only
+/// if out of memory.
 pub fn skipped_lines(alloc: Global, name: &str, text: &str) -> Result<String, AllocError>
     ensures { IfOk result (λ lines. AreSkippedLines name.now text.now (string_bytes lines)) }
 {
