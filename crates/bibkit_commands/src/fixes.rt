@@ -21,26 +21,26 @@ use std::collections::BTreeMap;
 use std::str::from_utf8;
 
 /// A fix of an entry.
-#[derive(Clone, Copy)]
-pub struct Fix<'a> {
+#[derive(Drop)]
+pub struct Fix {
     /// The index of the entry.
     pub entry: usize,
     /// The change of the entry.
-    pub change: Change<'a>,
+    pub change: Change,
 }
 
 /// The change of an entry by a fix.
-#[derive(Clone, Copy)]
-pub enum Change<'a> {
+#[derive(Drop)]
+pub enum Change {
     /// Gives the field `old` the name `new`.
     Rename {
         /// The name of the field.
-        old: &'a str,
+        old: String,
         /// The known name.
-        new: &'a str,
+        new: String,
     },
     /// Sets the field `doi` to this DOI.
-    Doi(&'a str),
+    Doi(String),
 }
 
 // The ways in which a DOI with its address begins, in lowercase: those that likely duplicates are compared without.
@@ -167,32 +167,53 @@ fn literal_text<'s>(field: &Pair<'s>) -> &'s str {
     }
 }
 
-// Returns the change that mends a finding of an entry, or `None` if it doesn't have one right remedy.
-fn change_of<'a>(
+// Returns the change of the name `old` to a suggested name, or `None` without one, or if `old` may mean another name.
+fn rename_of(
     alloc: Global,
-    entry: &RawEntry<'a>,
-    finding: &'a Finding,
-) -> Result<Option<Change<'a>>, AllocError> {
+    old: &str,
+    suggested: Option<&str>,
+) -> Result<Option<Change>, AllocError> {
+    let Some(new) = suggested else {
+        return Ok(None);
+    };
+    if !is_meant(old.to_ascii_lowercase(alloc)?.as_str(), new) {
+        return Ok(None);
+    }
+    Ok(Some(Change::Rename {
+        old: String::from_str(alloc, old)?,
+        new: String::from_str(alloc, new)?,
+    }))
+}
+
+// Returns the change of the field `doi` to a DOI, or `None` without one.
+fn doi_change(alloc: Global, doi: Option<&str>) -> Result<Option<Change>, AllocError> {
+    match doi {
+        Some(doi) => Ok(Some(Change::Doi(String::from_str(alloc, doi)?))),
+        None => Ok(None),
+    }
+}
+
+// Returns the change that mends a finding of an entry, or `None` if it doesn't have one right remedy.
+fn change_of(
+    alloc: Global,
+    entry: &RawEntry<'_>,
+    finding: &Finding,
+) -> Result<Option<Change>, AllocError> {
     let Some(field) = field_at(&entry.fields, finding.span.start) else {
         return Ok(None);
     };
     let old = field.key.v;
     match finding.code {
-        Code::UnknownField => match suggestion(alloc, entry.key.v, old, finding)? {
-            Some(new) if is_meant(old.to_ascii_lowercase(alloc)?.as_str(), new) => {
-                Ok(Some(Change::Rename { old, new }))
-            }
-            _ => Ok(None),
-        },
-        Code::DoiAddress => Ok(doi_in(literal_text(field)).map(|doi| Change::Doi(doi))),
+        Code::UnknownField => rename_of(alloc, old, suggestion(alloc, entry.key.v, old, finding)?),
+        Code::DoiAddress => doi_change(alloc, doi_in(literal_text(field))),
         _ => Ok(None),
     }
 }
 
 // Returns the names of the field that a change reads and of the field that it writes.
-fn names_of<'a>(change: &Change<'a>) -> (&'a str, &'a str) {
-    match *change {
-        Change::Rename { old, new } => (old, new),
+fn names_of(change: &Change) -> (&str, &str) {
+    match change {
+        Change::Rename { old, new } => (old.as_str(), new.as_str()),
         Change::Doi(_) => ("doi", "doi"),
     }
 }
@@ -201,7 +222,7 @@ fn names_of<'a>(change: &Change<'a>) -> (&'a str, &'a str) {
 fn field_counts(
     alloc: Global,
     entry: &RawEntry<'_>,
-    changes: &[Change<'_>],
+    changes: &[Change],
 ) -> Result<BTreeMap<String, usize>, AllocError> {
     let mut counts = BTreeMap::new(alloc);
     'fields: for field in &entry.fields {
@@ -220,12 +241,12 @@ fn field_counts(
 }
 
 // Returns the changes that mend these findings of an entry, if each finding is mended by itself.
-fn changes_of<'a>(
+fn changes_of(
     alloc: Global,
     selection: &Selection,
-    entry: &RawEntry<'a>,
-    found: &'a [Finding],
-) -> Result<Vec<Change<'a>>, AllocError> {
+    entry: &RawEntry<'_>,
+    found: &[Finding],
+) -> Result<Vec<Change>, AllocError> {
     let mut changes = Vec::new(alloc);
     'found: for finding in found {
         if selection.asks_for(finding.code) {
@@ -237,28 +258,37 @@ fn changes_of<'a>(
     Ok(changes)
 }
 
+// Returns whether only one field of an entry has the old name of a change, and only one would have its new name, by these counts.
+fn is_alone(
+    alloc: Global,
+    counts: &BTreeMap<String, usize>,
+    change: &Change,
+) -> Result<bool, AllocError> {
+    let (old, new) = names_of(change);
+    let old = old.to_ascii_lowercase(alloc)?;
+    Ok(count_of(counts, &old) == 1 && count_of(counts, new) == 1)
+}
+
 // Appends the fixes of the entry at an index, by the findings at places in it. A change is left out if two fields of the entry have its old
 // name, or if two fields would have its new name.
-fn push_fixes<'a>(
+fn push_fixes(
     alloc: Global,
-    fixes: &mut Vec<Fix<'a>>,
+    fixes: &mut Vec<Fix>,
     selection: &Selection,
     index: usize,
-    entry: &RawEntry<'a>,
-    found: &'a [Finding],
+    entry: &RawEntry<'_>,
+    found: &[Finding],
 ) -> Result<(), AllocError> {
     let changes = changes_of(alloc, selection, entry, found)?;
     if changes.is_empty() {
         return Ok(());
     }
     let counts = field_counts(alloc, entry, &changes)?;
-    'changes: for change in &changes {
-        let (old, new) = names_of(change);
-        let old = old.to_ascii_lowercase(alloc)?;
-        if count_of(&counts, &old) == 1 && count_of(&counts, new) == 1 {
+    'changes: for change in changes {
+        if is_alone(alloc, &counts, &change)? {
             fixes.push(Fix {
                 entry: index,
-                change: *change,
+                change,
             })?;
         }
     }
@@ -274,12 +304,12 @@ fn findings_in<'f>(found: &'f [Finding], entry: &Spanned<RawEntry<'_>>) -> &'f [
 
 /// Returns the fixes of the entries of a text, in the order of the entries. `found` are the reported findings of the text in order of their
 /// starts, and only those that `selection` asks for are mended. An entry is left alone if its key isn't the name of this entry only.
-pub fn fixes<'a>(
+pub fn fixes(
     alloc: Global,
     selection: &Selection,
-    entries: &[Spanned<RawEntry<'a>>],
-    found: &'a [Finding],
-) -> Result<Vec<Fix<'a>>, AllocError> {
+    entries: &[Spanned<RawEntry<'_>>],
+    found: &[Finding],
+) -> Result<Vec<Fix>, AllocError> {
     let counts = name_counts(alloc, entries)?;
     let mut fixes = Vec::new(alloc);
     'entries: for (index, entry) in entries.iter().enumerate() {
@@ -292,24 +322,27 @@ pub fn fixes<'a>(
 }
 
 // Returns the edit that makes a change of the entry with one of these keys.
-fn edit_of<'e>(change: &Change<'e>, keys: &'e [&'e str]) -> Edit<'e> {
-    let edit = match *change {
-        Change::Rename { old, new } => FieldEdit::Rename { old, new },
+fn edit_of<'e>(change: &'e Change, keys: &'e [&'e str]) -> Edit<'e> {
+    let edit = match change {
+        Change::Rename { old, new } => FieldEdit::Rename {
+            old: old.as_str(),
+            new: new.as_str(),
+        },
         Change::Doi(doi) => FieldEdit::Set {
             name: "doi",
-            value: FieldValue::Text(doi),
+            value: FieldValue::Text(doi.as_str()),
         },
     };
     Edit::Fields { keys, edit }
 }
 
 // Returns the text of an entry of the file `name` with these fixes. `keys` has the key of the entry.
-fn fixed_entry(
+fn fixed_entry<'e>(
     alloc: Global,
     name: &str,
     text: &str,
-    keys: &[&str],
-    fixes: &[Fix<'_>],
+    keys: &'e [&'e str],
+    fixes: &'e [Fix],
 ) -> Result<String, Stop> {
     let mut edits = Vec::new(alloc);
     'fixes: for fix in fixes {
@@ -319,7 +352,7 @@ fn fixed_entry(
 }
 
 // Returns those of the fixes, which are in order of their entries, that are for the entry at an index.
-fn fixes_of<'f, 'a>(fixes: &'f [Fix<'a>], index: usize) -> &'f [Fix<'a>] {
+fn fixes_of(fixes: &[Fix], index: usize) -> &[Fix] {
     let start = fixes.partition_point(|fix| fix.entry < index);
     let end = fixes.partition_point(|fix| fix.entry <= index);
     fixes.get(start..end).unwrap_or(&[])
@@ -331,7 +364,7 @@ pub fn fixed_text(
     name: &str,
     text: &str,
     entries: &[Spanned<RawEntry<'_>>],
-    fixes: &[Fix<'_>],
+    fixes: &[Fix],
 ) -> Result<String, Stop> {
     let mut new = String::with_capacity(alloc, text.len())?;
     let mut end = 0;

@@ -2,7 +2,7 @@
 //!
 //! Each file is a database of its own. Fixes that lead to a new finding aren't made.
 
-use crate::edits::{Mode, after_mark, name_in_diff, new_text, write_new, wrong_usage};
+use crate::edits::{Mode, name_in_diff, new_text, write_new, wrong_usage};
 use crate::fixes::{Change, Fix, count_of, counts_of, fixed_text, fixes};
 use crate::stops::{Stop, bytes_from, output_stop, say};
 use bib_findings::finding::Finding;
@@ -98,17 +98,17 @@ fn blamed_keys(
 }
 
 // Returns the fixes of entries whose keys aren't in a set.
-fn without_blamed<'a>(
+fn without_blamed(
     alloc: Global,
     entries: &[Spanned<RawEntry<'_>>],
-    fixes: &[Fix<'a>],
+    fixes: Vec<Fix>,
     blamed: &BTreeSet<String>,
-) -> Result<Vec<Fix<'a>>, AllocError> {
+) -> Result<Vec<Fix>, AllocError> {
     let mut kept = Vec::new(alloc);
     'fixes: for fix in fixes {
         if let Some(entry) = entries.get(fix.entry) {
             if !blamed.contains(entry.v.key.v) {
-                kept.push(*fix)?;
+                kept.push(fix)?;
             }
         }
     }
@@ -116,11 +116,11 @@ fn without_blamed<'a>(
 }
 
 // Returns the fixes that rename no field. They lead to no new finding, because only `doi-address` tests the address of a DOI.
-fn without_renames<'a>(alloc: Global, fixes: &[Fix<'a>]) -> Result<Vec<Fix<'a>>, AllocError> {
+fn without_renames(alloc: Global, fixes: Vec<Fix>) -> Result<Vec<Fix>, AllocError> {
     let mut kept = Vec::new(alloc);
     'fixes: for fix in fixes {
         if matches!(fix.change, Change::Doi(_)) {
-            kept.push(*fix)?;
+            kept.push(fix)?;
         }
     }
     Ok(kept)
@@ -132,18 +132,18 @@ fn safely_fixed(
     name: &str,
     text: &str,
     entries: &[Spanned<RawEntry<'_>>],
-    fixes: Vec<Fix<'_>>,
+    fixes: Vec<Fix>,
     known: &BTreeMap<String, usize>,
 ) -> Result<String, Stop> {
     let mut fixes = fixes;
     'rounds: for _ in 0..ROUNDS {
         let new = fixed_text(alloc, name, text, entries, &fixes)?;
         match blamed_keys(alloc, known, &new)? {
-            Some(blamed) => fixes = without_blamed(alloc, entries, &fixes, &blamed)?,
+            Some(blamed) => fixes = without_blamed(alloc, entries, fixes, &blamed)?,
             None => return Ok(new),
         }
     }
-    let fixes = without_renames(alloc, &fixes)?;
+    let fixes = without_renames(alloc, fixes)?;
     fixed_text(alloc, name, text, entries, &fixes)
 }
 
