@@ -1,5 +1,5 @@
 -- The output of a task is an output of its request, and the stop of a run is a failure of its request.
-use Rattle.std.proofs.Common.{◌≡◌, ◌≤◌, ◌&&◌, ℕ, List, Bor, Bool, true, false, not, refl, sym, subst, ◌∙◌, arith}
+use Rattle.std.proofs.Common.{◌≡◌, ◌≤◌, ◌&&◌, ◌||◌, ℕ, List, Bor, Bool, true, false, not, refl, sym, subst, ◌∙◌, arith}
 use Rattle.std.specs.Prelude.{Option, Some, None, IfSome, if◌then◌else◌}
 use Rattle.bib_queries.specs.declared.citations.Citations.{Citations}
 use Rattle.bib_queries.specs.declared.request.CitedKeys.{CitedKeys}
@@ -145,14 +145,15 @@ lint_bounded fail_on tally =
     elim (has_failing fail_on tally) as (λ b. (if b then 1 else 0) ≤ 2)
     [ true ↦ omega arith | false ↦ omega arith ]
 
-entries_bounded : (asked : Excerpts) (is_found : Bool) → entries_status asked is_found ≤ 2
-entries_bounded asked is_found =
-    elim (is_search asked && not is_found) as (λ b. (if b then 1 else 0) ≤ 2)
+entries_bounded : (asked : Excerpts) (is_found has_skipped : Bool) → entries_status asked is_found has_skipped ≤ 2
+entries_bounded asked is_found has_skipped =
+    elim (has_skipped || (is_search asked && not is_found)) as (λ b. (if b then 1 else 0) ≤ 2)
     [ true ↦ omega arith | false ↦ omega arith ]
 
-selecting_bounded : (is_found : Bool) → selecting_status is_found ≤ 2
-selecting_bounded true = omega arith
-selecting_bounded false = omega arith
+selecting_bounded : (is_found has_skipped : Bool) → selecting_status is_found has_skipped ≤ 2
+selecting_bounded is_found has_skipped =
+    elim (is_found && not has_skipped) as (λ b. (if b then 0 else 1) ≤ 2)
+    [ true ↦ omega arith | false ↦ omega arith ]
 
 -- if each end of a task has a status of at most 2, so has its whole output
 task_bounded : {F T : Type 0} {reads : F → List ℕ → Option (List ℕ) → F → Type 0} {begins : T → List ℕ}
@@ -180,11 +181,11 @@ call_bounded (IsCallAnswer.compared_database cited document files' task one some
 call_bounded (IsCallAnswer.meaning text) = omega arith
 call_bounded IsCallAnswer.no_meaning = tt
 call_bounded (IsCallAnswer.entries task begins printed) =
-    task_bounded (λ t last s e. subst (λ n. n ≤ 2) (sym e.1) (entries_bounded t.request.now t.is_found)) printed
+    task_bounded (λ t last s e. subst (λ n. n ≤ 2) (sym e.1) (entries_bounded t.request.now t.is_found t.skipped.has_any)) printed
 call_bounded (IsCallAnswer.selected task begins printed) =
-    task_bounded (λ t last s e. subst (λ n. n ≤ 2) (sym e.1) (selecting_bounded t.is_found)) printed
+    task_bounded (λ t last s e. subst (λ n. n ≤ 2) (sym e.1) (selecting_bounded t.is_found t.skipped.has_any)) printed
 call_bounded (IsCallAnswer.cited found document files' asked task read asks begins printed) =
-    task_bounded (λ t last s e. subst (λ n. n ≤ 2) (sym e.1) (entries_bounded t.request.now t.is_found)) printed
+    task_bounded (λ t last s e. subst (λ n. n ≤ 2) (sym e.1) (entries_bounded t.request.now t.is_found t.skipped.has_any)) printed
 call_bounded (IsCallAnswer.counts printed) = task_bounded (λ t last s e. subst (λ n. n ≤ 2) (sym e.done) (omega arith)) printed
 
 -- the status of a whole output is at most 2
