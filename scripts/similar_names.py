@@ -1,5 +1,5 @@
-"""The known names of fields that another known name resembles: both begin with the same letter, and at most two typing errors tell them
-apart. `lint --fix` renames no field that may mean either.
+"""The known names of fields that another known name resembles: at most two typing errors tell them apart. `lint --fix` renames no field
+that may mean either.
 
 The rule is that of `strsim::osa_distance`: a typing error is a character that is added, missing, wrong or swapped with the next one.
 """
@@ -30,6 +30,6 @@ def similar(names):
     """The names in order that another one of them resembles."""
     found = set()
     for name, other in itertools.combinations(sorted(names), 2):
-        if name[0] == other[0] and abs(len(name) - len(other)) <= 2 and distance(name, other) <= 2:
+        if abs(len(name) - len(other)) <= 2 and distance(name, other) <= 2:
             found |= {name, other}
     return sorted(found)

@@ -1655,6 +1655,8 @@ printf '@misc{c, date={2020-01-05}}\n' >day.bib
 run 'a month that another file defines' 0 $'@string{jan = {Winter}}\n@misc{a, year={2020}, month={January}}\n' convert --to bibtex winter.bib dated.bib
 run 'a month that a later file defines' 0 $'\xef\xbb\xbf@misc{a, year={2020}, month={January}}\n@string{jan = {Winter}}\n' convert --to bibtex dated.bib winter.bib
 run 'a month that no file defines' 0 $'@misc{b, date={2020-01}}\n@misc{b, date={2020-01}}\n' convert --to biblatex parted.bib parted.bib
+printf '%%' >comment-end.bib
+run 'a line comment ends with its file' 0 $'@string{jan = {Winter}}\n%\n@misc{a, year={2020}, month={January}}\n' convert --to bibtex winter.bib comment-end.bib dated.bib
 run 'nothing of several files is converted as one text' 1 '' convert --to bibtex winter.bib broken.bib dated.bib
 run_messages 'the note on a file of several' 0 $'day.bib:1:10: note: `date` becomes several fields, but no standard style of BibTeX reads a day or a second date\n' convert --to bibtex winter.bib day.bib
 printf '@misc{a, title=b}\n@misc{a, title={A}}\n' >abbreviated.bib
@@ -1998,8 +2000,8 @@ cp alike.bib fix2.bib
 run 'several files, written' 1 '' lint --fix --write fix1.bib fix2.bib
 holds 'the first file is mended' eval '"$program" lint fix1.bib >output'
 holds 'the second file stays' cmp -s alike.bib fix2.bib
-run 'several files, printed' 1 "$(cat fix1.bib alike.bib)"$'\n' lint --fix fix1.bib fix2.bib
-run 'the same with each file by itself' 1 "$(cat fix1.bib alike.bib)"$'\n' lint --fix --each fix1.bib fix2.bib
+run_messages 'several files, printed' 2 $'bibkit: `--fix` with several files requires `--write` or `--diff`\n' lint --fix fix1.bib fix2.bib
+run 'the same with each file by itself' 2 '' lint --fix --each fix1.bib fix2.bib
 run 'no difference' 0 '' lint --fix --diff fix1.bib
 run 'a difference after --write' 0 $'--- two-fixes.bib\n+++ two-fixes.bib\n@@ -1,2 +1,2 @@\n-@misc{a, autor={A}, title={T}, year=2001, doi={https://doi.org/10.1/x}}\n-@misc{b, autor={B}, title={U}, year=2002}\n+@misc{a, author={A}, title={T}, year=2001, doi={10.1/x}}\n+@misc{b, author={B}, title={U}, year=2002}\n' lint --fix --write --diff two-fixes.bib
 run_messages 'a syntax error, as edit reports it' 1 $'broken.bib:3:1: error: expected comma [syntax]\n' lint --fix broken.bib

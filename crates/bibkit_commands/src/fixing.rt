@@ -22,8 +22,8 @@ use std::collections::{BTreeMap, BTreeSet};
 use std::io;
 use std::str::from_utf8;
 
-// The number of times that fixes are left out by the entries of new findings. After that, no field is renamed.
-const ROUNDS: usize = 3;
+// The number of texts that are tested for new findings. If the last of them has one, no field is renamed.
+const ROUNDS: usize = 4;
 
 // Returns the findings of a text that are reported, except that their codes may be left out.
 fn reported(
@@ -97,7 +97,7 @@ fn blamed_keys(
     Ok(if is_found { Some(blamed) } else { None })
 }
 
-// Returns the fixes of entries whose keys aren't in a set.
+// Returns the fixes that rename no field of an entry whose key is in a set.
 fn without_blamed(
     alloc: Global,
     entries: &[Spanned<RawEntry<'_>>],
@@ -107,7 +107,7 @@ fn without_blamed(
     let mut kept = Vec::new(alloc);
     'fixes: for fix in fixes {
         if let Some(entry) = entries.get(fix.entry) {
-            if !blamed.contains(entry.v.key.v) {
+            if matches!(fix.change, Change::Doi(_)) || !blamed.contains(entry.v.key.v) {
                 kept.push(fix)?;
             }
         }
@@ -126,7 +126,8 @@ fn without_renames(alloc: Global, fixes: Vec<Fix>) -> Result<Vec<Fix>, AllocErro
     Ok(kept)
 }
 
-// Returns the text of the file `name` with these fixes of its entries, except those that lead to a finding that isn't in `known`.
+// Returns the text of the file `name` with those of these fixes that lead to no finding that isn't in `known`. If too many texts would have
+// to be tested, no field is renamed.
 fn safely_fixed(
     alloc: Global,
     name: &str,
@@ -254,8 +255,8 @@ fn fix_files(
     Ok(end.status.max(status))
 }
 
-// Mends the findings of each file, unless it is standard input and the new text is to be written.
-fn checked_files(
+// Mends the findings of files. Fails if the new text of standard input is to be written, or if the texts of several files are to be printed.
+fn check_and_fix(
     rt: &HostRuntime,
     lint: &Lint<'_>,
     mode: Mode,
@@ -265,13 +266,19 @@ fn checked_files(
     if mode == Mode::Write && names.iter().any(|name| *name == input) {
         return Err(wrong_usage(rt.alloc(), "`--write` needs the name of a file")?);
     }
+    if mode == Mode::Print && names.len() > 1 {
+        return Err(wrong_usage(
+            rt.alloc(),
+            "`--fix` with several files requires `--write` or `--diff`",
+        )?);
+    }
     fix_files(rt, lint, mode, names, input)
 }
 
 /// Mends the findings of files, uses the new text of each file as `mode` requests, and prints the findings that stay on standard error.
 /// Returns the greatest status. The file `input` is standard input.
 pub fn run_fix(rt: &HostRuntime, lint: &Lint<'_>, mode: Mode, names: &[&str], input: &str) -> u8 {
-    match checked_files(rt, lint, mode, names, input) {
+    match check_and_fix(rt, lint, mode, names, input) {
         Ok(status) => status,
         Err(stop) => say(rt, &stop),
     }

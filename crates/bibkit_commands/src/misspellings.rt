@@ -1,10 +1,11 @@
 //! Names of fields that are misspellings of exactly one known name.
 
-// The names that BibLaTeX knows, and from which another such name with the same first letter differs by at most two typing errors. Only
-// these can be meant by a name that differs from another known name by one typing error.
-static SIMILAR: [&str; 53] = [
+// The names that BibLaTeX knows, and from which another such name differs by at most two typing errors. Only these can be meant by a name
+// that differs from another known name by one typing error.
+static SIMILAR: [&str; 61] = [
     "annotation",
     "annotator",
+    "annote",
     "date",
     "day",
     "doi",
@@ -17,8 +18,10 @@ static SIMILAR: [&str; 53] = [
     "editorc",
     "editorctype",
     "editortype",
+    "eid",
     "eventdate",
     "eventday",
+    "file",
     "ids",
     "isan",
     "isbn",
@@ -27,6 +30,7 @@ static SIMILAR: [&str; 53] = [
     "issn",
     "issue",
     "iswc",
+    "key",
     "lista",
     "listb",
     "listc",
@@ -39,10 +43,13 @@ static SIMILAR: [&str; 53] = [
     "namebtype",
     "namec",
     "namectype",
+    "note",
     "origdate",
     "origday",
+    "pdf",
     "shorttitle",
     "sorttitle",
+    "title",
     "urldate",
     "urlday",
     "usera",
@@ -56,6 +63,7 @@ static SIMILAR: [&str; 53] = [
     "verbc",
     "volume",
     "volumes",
+    "xdata",
 ];
 
 // Returns two texts without their common first bytes.

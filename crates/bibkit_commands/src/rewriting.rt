@@ -163,7 +163,8 @@ fn share_months(alloc: Global, inputs: &[Input<'_>]) -> Result<bool, AllocError>
     Ok(false)
 }
 
-// Returns the bytes of files, one after another, without the byte order marks of all files but the first.
+// Returns the bytes of files, one after another. A line feed separates a file without one at its end from the next file, so that a line
+// comment ends with its file. The byte order marks of all files but the first are left out.
 fn joined_bytes(alloc: Global, inputs: &[Input<'_>]) -> Result<Vec<u8>, AllocError> {
     let mut joined = Vec::new(alloc);
     'inputs: for (index, input) in inputs.iter().enumerate() {
@@ -172,6 +173,9 @@ fn joined_bytes(alloc: Global, inputs: &[Input<'_>]) -> Result<Vec<u8>, AllocErr
         } else {
             after_mark(&input.bytes)
         };
+        if !joined.is_empty() && !joined.ends_with(b"\n") {
+            joined.push(b'\n')?;
+        }
         joined.extend_from_slice(bytes)?;
     }
     Ok(joined)
@@ -232,7 +236,8 @@ fn rewrite_files(rt: &HostRuntime, dialect: Dialect, names: &[&str]) -> Result<u
 }
 
 /// Prints files in turn with the types and fields of a dialect, and returns the greatest status. For BibTeX, if one of several files defines
-/// the abbreviation of a month, all files are converted as one text. If one of them can't be converted then, nothing is printed.
+/// the abbreviation of a month, all files that can be read are converted as one text. If one of these can't be converted then, nothing is
+/// printed.
 pub fn run_rewrite(rt: &HostRuntime, dialect: Dialect, names: &[&str]) -> u8 {
     match rewrite_files(rt, dialect, names) {
         Ok(status) => status,

@@ -14,9 +14,9 @@ fn is_unset(edits: &[Edit<'_>], field: &str) -> bool {
 
 // Returns whether an entry has one of `keys` as its key, has fields, and the edits remove each of these.
 fn would_be_empty(entry: &RawEntry<'_>, keys: &[&str], edits: &[Edit<'_>]) -> bool {
-    keys.contains(&entry.key.v)
-        && !entry.fields.is_empty()
+    !entry.fields.is_empty()
         && entry.fields.iter().all(|own| is_unset(edits, own.key.v))
+        && keys.contains(&entry.key.v)
 }
 
 /// Returns the message for the error `why` of unsetting a field of the entries with these keys, the last of these edits. It has the first key
