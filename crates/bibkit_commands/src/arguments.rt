@@ -10,6 +10,7 @@ use bib_queries::request::{Request as Excerpts, Search};
 use bib_tables::dialects::Dialect;
 use bibkit_convert::target::Target;
 use bibkit_core::request::{Cited, Request};
+use bibkit_core::rules::Rule;
 use bibkit_settings::commands::{command, is_editing};
 use bibkit_settings::settings::{Color, OutputFormat, Settings, fail_on_named};
 use bibkit_settings::style_settings::{StyleSettings, delimiters_named, width_of};
@@ -34,6 +35,8 @@ pub enum Asked<'a> {
         input_name: Option<&'a str>,
         /// The use of the new text of each file in which findings are mended, or `None` if they are only printed.
         fix: Option<Mode>,
+        /// The name of the file with the findings that aren't reported, if there is one.
+        baseline: Option<&'a str>,
     },
     /// Edits a file.
     Edits(Editing<'a>),
@@ -74,6 +77,8 @@ pub enum Asked<'a> {
     Other(Request<'a>),
     /// Reports that the command line is wrong, for this reason.
     Wrong(&'static str),
+    /// Reports that a word isn't a code, alone or with the name of a field.
+    WrongRule(&'a str),
     /// Reports that the order of entries is wrong, for this reason.
     WrongOrder(OrderError<'a>),
 }
@@ -88,20 +93,45 @@ pub struct Words<'a> {
     pub names: Vec<&'a str>,
 }
 
-// Returns the codes that are the values of an option, or `None` if the option is missing.
-fn given_codes(
+// Returns the first of these words that is no rule, or `None` if all are.
+fn wrong_rule_among<'a>(alloc: Global, words: &[&'a str]) -> Result<Option<&'a str>, AllocError> {
+    'words: for word in words {
+        if Rule::parse(alloc, word)?.is_none() {
+            return Ok(Some(*word));
+        }
+    }
+    Ok(None)
+}
+
+// Returns the first value of the options `--only` and `--ignore` that is no rule, or `None` if all are.
+fn wrong_rule<'a>(alloc: Global, matches: &ArgMatches<'a>) -> Result<Option<&'a str>, AllocError> {
+    let only = texts(alloc, matches, "only")?;
+    if let Some(word) = wrong_rule_among(alloc, &only)? {
+        return Ok(Some(word));
+    }
+    let ignored = texts(alloc, matches, "ignore")?;
+    wrong_rule_among(alloc, &ignored)
+}
+
+// Returns the rules among these words.
+fn rules_among(alloc: Global, words: &[&str]) -> Result<Vec<Rule>, AllocError> {
+    let mut rules = Vec::new(alloc);
+    'words: for word in words {
+        if let Some(rule) = Rule::parse(alloc, word)? {
+            rules.push(rule)?;
+        }
+    }
+    Ok(rules)
+}
+
+// Returns the rules that are the values of an option, or `None` if the option is missing.
+fn given_rules(
     alloc: Global,
     matches: &ArgMatches<'_>,
     id: &str,
-) -> Result<Option<Vec<Code>>, AllocError> {
-    match matches.get_strs(id) {
-        Some(names) => {
-            let codes = names
-                .iter()
-                .filter_map(|name| Code::from_name(name))
-                .collect(alloc)?;
-            Ok(Some(codes))
-        }
+) -> Result<Option<Vec<Rule>>, AllocError> {
+    match given_texts(alloc, matches, id)? {
+        Some(words) => Ok(Some(rules_among(alloc, &words)?)),
         None => Ok(None),
     }
 }
@@ -133,9 +163,12 @@ fn lint_asked<'a>(alloc: Global, matches: &ArgMatches<'a>) -> Result<Asked<'a>, 
     if matches.get_flag("fix") && format != Some(OutputFormat::Text) {
         return Ok(Asked::Wrong("`--fix` requires `--format text`"));
     }
+    if let Some(word) = wrong_rule(alloc, matches)? {
+        return Ok(Asked::WrongRule(word));
+    }
     let settings = Settings {
-        only: given_codes(alloc, matches, "only")?,
-        ignored: given_codes(alloc, matches, "ignore")?,
+        only: given_rules(alloc, matches, "only")?,
+        ignored: given_rules(alloc, matches, "ignore")?,
         color: matches.get_str("color").and_then(Color::from_name),
         format,
         fail_on: matches.get_str("fail-on").and_then(fail_on_named),
@@ -151,6 +184,7 @@ fn lint_asked<'a>(alloc: Global, matches: &ArgMatches<'a>) -> Result<Asked<'a>, 
         conditions: texts(alloc, matches, "where")?,
         input_name: matches.get_str("stdin-filename"),
         fix: fix_mode(matches),
+        baseline: matches.get_str("baseline"),
     })
 }
 

@@ -12,7 +12,6 @@ use bib_findings::finding::Finding;
 use bib_queries::names::entry_names;
 use bib_syntax::raw::{Pair, RawChunk, RawEntry};
 use bib_text::spanned::Spanned;
-use bibkit_core::selection::Selection;
 use bibkit_edits::edit::Edit;
 use edit_entries::field_edits::FieldEdit;
 use edit_entries::field_value::FieldValue;
@@ -243,16 +242,13 @@ fn field_counts(
 // Returns the changes that mend these findings of an entry, if each finding is mended by itself.
 fn changes_of(
     alloc: Global,
-    selection: &Selection,
     entry: &RawEntry<'_>,
     found: &[Finding],
 ) -> Result<Vec<Change>, AllocError> {
     let mut changes = Vec::new(alloc);
     'found: for finding in found {
-        if selection.asks_for(finding.code) {
-            if let Some(change) = change_of(alloc, entry, finding)? {
-                changes.push(change)?;
-            }
+        if let Some(change) = change_of(alloc, entry, finding)? {
+            changes.push(change)?;
         }
     }
     Ok(changes)
@@ -274,12 +270,11 @@ fn is_alone(
 fn push_fixes(
     alloc: Global,
     fixes: &mut Vec<Fix>,
-    selection: &Selection,
     index: usize,
     entry: &RawEntry<'_>,
     found: &[Finding],
 ) -> Result<(), AllocError> {
-    let changes = changes_of(alloc, selection, entry, found)?;
+    let changes = changes_of(alloc, entry, found)?;
     if changes.is_empty() {
         return Ok(());
     }
@@ -302,11 +297,10 @@ fn findings_in<'f>(found: &'f [Finding], entry: &Spanned<RawEntry<'_>>) -> &'f [
     found.get(start..end).unwrap_or(&[])
 }
 
-/// Returns the fixes of the entries of a text, in the order of the entries. `found` are the reported findings of the text in order of their
-/// starts, and only those that `selection` asks for are mended. An entry is left alone if its key isn't the name of this entry only.
+/// Returns the fixes of the entries of a text, in the order of the entries. `found` are the findings to mend, in order of their starts. An
+/// entry is left alone if its key isn't the name of this entry only.
 pub fn fixes(
     alloc: Global,
-    selection: &Selection,
     entries: &[Spanned<RawEntry<'_>>],
     found: &[Finding],
 ) -> Result<Vec<Fix>, AllocError> {
@@ -315,7 +309,7 @@ pub fn fixes(
     'entries: for (index, entry) in entries.iter().enumerate() {
         if count_of(&counts, entry.v.key.v) == 1 {
             let own = findings_in(found, entry);
-            push_fixes(alloc, &mut fixes, selection, index, &entry.v, own)?;
+            push_fixes(alloc, &mut fixes, index, &entry.v, own)?;
         }
     }
     Ok(fixes)

@@ -11,9 +11,11 @@ use bib_source::unified::unified_diff;
 use bib_syntax::raw::RawEntry;
 use bib_text::spanned::Spanned;
 use bibkit_core::conditions::reported_findings;
+use bibkit_core::lint::off_in;
 use bibkit_core::linting::Linting;
 use bibkit_core::own_names::without_own;
 use bibkit_core::request::Lint;
+use bibkit_core::rules::Rule;
 use bibkit_core::task::Task;
 use bibkit_edits::edit::Edit;
 use biblatex::{Output, RawBibliography, Sink};
@@ -25,7 +27,21 @@ use std::str::from_utf8;
 // The number of texts that are tested for new findings. If the last of them has one, no field is renamed.
 const ROUNDS: usize = 4;
 
-// Returns the findings of a text that are reported, except that their codes may be left out.
+// Appends a finding if `lint` selects it. Rules in `off` are switched off.
+fn push_selected(
+    alloc: Global,
+    lint: &Lint<'_>,
+    off: &[Rule],
+    kept: &mut Vec<Finding>,
+    finding: Finding,
+) -> Result<(), AllocError> {
+    if lint.selection.asks_for(alloc, off, &finding)? {
+        kept.push(finding)?;
+    }
+    Ok(())
+}
+
+// Returns the findings of a text that are reported.
 fn reported(
     alloc: Global,
     lint: &Lint<'_>,
@@ -33,7 +49,13 @@ fn reported(
     found: Vec<Finding>,
 ) -> Result<Vec<Finding>, AllocError> {
     let reported = reported_findings(alloc, &lint.conditions, text, found)?;
-    without_own(alloc, &lint.own, reported)
+    let reported = without_own(alloc, &lint.own, reported)?;
+    let off = off_in(alloc, lint, text)?;
+    let mut kept = Vec::new(alloc);
+    'reported: for finding in reported {
+        push_selected(alloc, lint, &off, &mut kept, finding)?;
+    }
+    Ok(kept)
 }
 
 // Returns the code and the message of each finding as one text.
@@ -154,7 +176,7 @@ fn fix(alloc: Global, lint: &Lint<'_>, name: &str, text: &str) -> Result<String,
     let found = findings(alloc, text)?;
     let known = counts_of(alloc, &finding_texts(alloc, &found)?)?;
     let found = reported(alloc, lint, text, found)?;
-    let fixes = fixes(alloc, &lint.selection, &entries, &found)?;
+    let fixes = fixes(alloc, &entries, &found)?;
     if fixes.is_empty() {
         return Ok(String::from_str(alloc, text)?);
     }

@@ -11,17 +11,20 @@ use crate::importing::run_import;
 use crate::resolving::run_resolve;
 use crate::rewriting::run_rewrite;
 use crate::selecting::{parse_conditions, run_select};
-use crate::stops::say;
+use crate::stops::{Stop, bytes_of, say};
 use bib_select::selection::Selection;
+use bib_source::decoding::decode;
+use bibkit_core::baseline::accepted_texts;
 use bibkit_core::request::{Call, Cited, Lint, Request, Selected};
 use bibkit_core::run::run;
 use bibkit_settings::configuration::{ConfigurationError, Project, Reader, project_settings};
-use bibkit_settings::settings::Settings;
+use bibkit_settings::settings::{Settings, code_names};
 use bibkit_settings::style_settings::StyleSettings;
 use biblatex::Output;
 use clap::error::ErrorKind;
 use edit_orders::order::OrderError;
 use std::alloc::{AllocError, Global};
+use std::collections::BTreeSet;
 use std::io::IsTerminal;
 use std::{env, io};
 
@@ -80,6 +83,8 @@ struct LintWords<'a> {
     conditions: Vec<&'a str>,
     // The use of the new texts with `--fix`.
     fix: Option<Mode>,
+    // The file with the findings that aren't reported.
+    baseline: Option<&'a str>,
 }
 
 // Returns the findings to print, with the settings of the command line and of the project of the first file, and these conditions.
@@ -99,6 +104,16 @@ fn lint_of<'a>(
     lint.conditions = conditions;
     lint.own = project.own;
     Ok(lint)
+}
+
+// Returns the texts of the findings in the file with this name, if there is a name.
+fn accepted_by(rt: &HostRuntime, name: Option<&str>) -> Result<Option<BTreeSet<String>>, Stop> {
+    let Some(name) = name else {
+        return Ok(None);
+    };
+    let bytes = bytes_of(rt, name)?;
+    let output = decode(rt.alloc(), &bytes)?;
+    Ok(Some(accepted_texts(rt.alloc(), &output.text)?))
 }
 
 // Runs a request on files, and returns the status. The file `input` is standard input.
@@ -132,12 +147,20 @@ fn run_lint<'a>(rt: &HostRuntime, words: LintWords<'a>, names: Vec<&'a str>, inp
         Ok(conditions) => conditions,
         Err(stop) => return say(rt, &stop),
     };
+    let accepted = match accepted_by(rt, words.baseline) {
+        Ok(accepted) => accepted,
+        Err(stop) => return say(rt, &stop),
+    };
     let fix = words.fix;
     match lint_of(rt, words, conditions, &names) {
-        Ok(lint) => match fix {
-            Some(mode) => run_fix(rt, &lint, mode, &names, input),
-            None => run_request(rt, Request::Lint(lint), names, input),
-        },
+        Ok(lint) => {
+            let mut lint = lint;
+            lint.selection.accepted = accepted;
+            match fix {
+                Some(mode) => run_fix(rt, &lint, mode, &names, input),
+                None => run_request(rt, Request::Lint(lint), names, input),
+            }
+        }
         Err(error) => refuse_settings(rt, error),
     }
 }
@@ -237,6 +260,35 @@ fn refuse_words(rt: &HostRuntime, reason: &str) -> u8 {
     2
 }
 
+// Returns the names of all codes, with a space before each.
+fn code_list(alloc: Global) -> Result<String, AllocError> {
+    let mut list = String::new(alloc);
+    'names: for name in code_names() {
+        list.push(' ')?;
+        list.push_str(name)?;
+    }
+    Ok(list)
+}
+
+// Returns the message for a word that is no rule. It lists the codes.
+fn wrong_rule_line(alloc: Global, word: &str) -> Result<String, AllocError> {
+    let codes = code_list(alloc)?;
+    format!(in alloc;
+        "bibkit: `{word}` isn't a code, alone or with a field as in `missing-field:publisher`. The codes are:{codes}\n"
+    )
+}
+
+// Reports that a word is no rule, and returns the status.
+fn refuse_rule(rt: &HostRuntime, word: &str) -> u8 {
+    match wrong_rule_line(rt.alloc(), word) {
+        Ok(line) => {
+            let _ = eprint!(rt; "{line}");
+            2
+        }
+        Err(_) => out_of_memory(rt),
+    }
+}
+
 // Reports that the order of entries is wrong, and returns the status.
 fn refuse_order(rt: &HostRuntime, error: OrderError<'_>) -> u8 {
     match error {
@@ -263,6 +315,7 @@ fn answer(rt: &HostRuntime, words: Words<'_>) -> u8 {
             conditions,
             input_name,
             fix,
+            baseline,
         } => {
             let words = LintWords {
                 settings,
@@ -270,6 +323,7 @@ fn answer(rt: &HostRuntime, words: Words<'_>) -> u8 {
                 is_each,
                 conditions,
                 fix,
+                baseline,
             };
             match input_name {
                 Some(name) => run_named_lint(rt, words, names, name),
@@ -291,6 +345,7 @@ fn answer(rt: &HostRuntime, words: Words<'_>) -> u8 {
         Asked::Entries { conditions, keys } => run_selected(rt, &conditions, keys, names),
         Asked::Other(request) => run_request(rt, request, names, "-"),
         Asked::Wrong(reason) => refuse_words(rt, reason),
+        Asked::WrongRule(word) => refuse_rule(rt, word),
         Asked::WrongOrder(error) => refuse_order(rt, error),
     }
 }

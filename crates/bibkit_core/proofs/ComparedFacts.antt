@@ -15,7 +15,7 @@ use Rattle.bib_select.specs.declared.selection.Selection.{Selection}
 use Rattle.bibkit_core.specs.Asked.{selected_findings}
 use Rattle.bibkit_core.specs.Conditions.{AreReportedFindings, findings_of_no_entry}
 use Rattle.bibkit_core.specs.Compared.{ComparisonState, EndsCompared, PrintsCompared, cited_keys, compared_begins, is_in_files, missing_finding, missing_findings, none_compared, unused_finding, unused_findings}
-use Rattle.bibkit_core.specs.Linted.{ArePrinted}
+use Rattle.bibkit_core.specs.Linted.{ArePrinted, off_in}
 use Rattle.bibkit_core.specs.Marks.{AreUnused, BeginsDocument, EndsComparing, PrintsComparing, comparing_begins, either_mark, unmarked_findings}
 use Rattle.bibkit_core.specs.Running.{IsTaskPrinted}
 use Rattle.bibkit_core.specs.Tasks.{BeginsLinting, IsEndOfFindings, PrintsFindings, in_file, lint_status, opening}
@@ -217,7 +217,7 @@ step_compared lint has_unused name document found old new before file bytes text
             ∙ ap₂ (λ b f. unused_findings b f says.entries) same.unused_is same.citations) p.reported);
         unused =
             subst
-            (λ l. ArePrinted l.style file decoded (selected_findings l.selection p.kept) p.between p.second new.linting.tally)
+            (λ l. ArePrinted l.style file decoded (selected_findings l.selection (off_in l decoded) p.kept) p.between p.second new.linting.tally)
             same.lint_is p.more;
         is = p.is ∙ ap (λ l. in_file l.style file (p.first ++ p.second)) same.lint_is;
         readings = refl;
@@ -253,25 +253,25 @@ ends_compared lint has_unused name document found task s text status same e =
     subst
     (λ l.
     ArePrinted task.linting.lint.now.style task.document.name.now task.document.text.now
-    (selected_findings task.linting.lint.now.selection (findings_of_no_entry conditions l)) task.linting.tally e.first e.after)
+    (selected_findings task.linting.lint.now.selection [] (findings_of_no_entry conditions l)) task.linting.tally e.first e.after)
     lists e.more in
     let named =
     subst
     (λ n.
     ArePrinted task.linting.lint.now.style n task.document.text.now
-    (selected_findings task.linting.lint.now.selection (findings_of_no_entry conditions missing)) task.linting.tally e.first e.after)
+    (selected_findings task.linting.lint.now.selection [] (findings_of_no_entry conditions missing)) task.linting.tally e.first e.after)
     same.name_is listed in
     let placed =
     subst
     (λ d.
     ArePrinted task.linting.lint.now.style name d
-    (selected_findings task.linting.lint.now.selection (findings_of_no_entry conditions missing)) task.linting.tally e.first e.after)
+    (selected_findings task.linting.lint.now.selection [] (findings_of_no_entry conditions missing)) task.linting.tally e.first e.after)
     same.text_is named in
     let counted =
     subst
     (λ t.
     ArePrinted task.linting.lint.now.style name document
-    (selected_findings task.linting.lint.now.selection (findings_of_no_entry conditions missing)) t e.first e.after) same.tally
+    (selected_findings task.linting.lint.now.selection [] (findings_of_no_entry conditions missing)) t e.first e.after) same.tally
     placed in
     record {
       first = e.first;
@@ -279,7 +279,7 @@ ends_compared lint has_unused name document found task s text status same e =
       missing =
           subst
           (λ l.
-          ArePrinted l.style name document (selected_findings l.selection (findings_of_no_entry l.conditions.items missing))
+          ArePrinted l.style name document (selected_findings l.selection [] (findings_of_no_entry l.conditions.items missing))
           s.tally e.first e.after) same.lint_is counted;
       last = e.last;
       closes = subst (λ l. IsEndOfFindings l.style e.after e.last) same.lint_is e.closes;

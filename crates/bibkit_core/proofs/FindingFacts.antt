@@ -20,7 +20,8 @@ use Rattle.bib_source.specs.declared.decoding.Decoded.{Decoded}
 use Rattle.bib_findings.specs.Findings.{AreFindings}
 use Rattle.bibkit_core.specs.declared.request.Lint.{Lint}
 use Rattle.bibkit_core.specs.OwnNames.{without_own}
-use Rattle.bibkit_core.specs.Linted.{IsPrintedKept, AreShown, ArePrinted, IsPrintedFile, tally_after, unread_findings}
+use Rattle.bibkit_core.specs.declared.rules.Rule.{Rule}
+use Rattle.bibkit_core.specs.Linted.{IsPrintedKept, AreShown, ArePrinted, IsPrintedFile, off_in, tally_after, unread_findings}
 use Rattle.bibkit_core.specs.Linted.AreShown.{none, next}
 use Rattle.bibkit_core.specs.Regions.{region_at}
 use Rattle.bibkit_core.specs.Printed.{IsShown, has_no_finding, one_more}
@@ -99,43 +100,47 @@ one_added {style} {name} {bytes} {xs} {a} {b} {c} f before one = record {
 pub none_added : {style : Style} {name bytes : List ℕ} (a : Printed) → IsAdded (ArePrinted style name bytes []) a a
 none_added a = record { text = []; are = record { shown = none; tally = refl }; printed = sym (append-nil (string_bytes a.text)) }
 
--- a finding whose code is selected is appended to the selected findings
-pub asked_more : (s : Selection) (xs : List Finding) (f : Finding) → is_asked s f.code ≡ true
-    → selected_findings s (xs ++ f ∷ []) ≡ selected_findings s xs ++ f ∷ []
-asked_more s xs f is = filter-append (λ g. is_asked s g.code) xs (f ∷ []) ∙ ap (λ b. selected_findings s xs ++ cond b (f ∷ []) []) is
+-- a finding that is selected is appended to the selected findings
+pub asked_more : (s : Selection) (off : List Rule) (xs : List Finding) (f : Finding) → is_asked s off f ≡ true
+    → selected_findings s off (xs ++ f ∷ []) ≡ selected_findings s off xs ++ f ∷ []
+asked_more s off xs f is = filter-append (is_asked s off) xs (f ∷ []) ∙ ap (λ b. selected_findings s off xs ++ cond b (f ∷ []) []) is
 
--- a finding whose code isn't selected leaves the selected findings unchanged
-pub asked_same : (s : Selection) (xs : List Finding) (f : Finding) → is_asked s f.code ≡ false
-    → selected_findings s (xs ++ f ∷ []) ≡ selected_findings s xs
-asked_same s xs f isnt =
-    filter-append (λ g. is_asked s g.code) xs (f ∷ []) ∙ ap (λ b. selected_findings s xs ++ cond b (f ∷ []) []) isnt
-    ∙ append-nil (selected_findings s xs)
+-- a finding that isn't selected leaves the selected findings unchanged
+pub asked_same : (s : Selection) (off : List Rule) (xs : List Finding) (f : Finding) → is_asked s off f ≡ false
+    → selected_findings s off (xs ++ f ∷ []) ≡ selected_findings s off xs
+asked_same s off xs f isnt =
+    filter-append (is_asked s off) xs (f ∷ []) ∙ ap (λ b. selected_findings s off xs ++ cond b (f ∷ []) []) isnt
+    ∙ append-nil (selected_findings s off xs)
 
--- after a turn of the loop with a selected code, the output is that for the selected findings including this one
-pub step_printed : {style : Style} {name bytes : List ℕ} (s : Selection) (xs more : List Finding) (f : Finding)
-    (region : Region) {a b c d : Printed} → more ≡ xs ++ f ∷ [] → is_asked s f.code ≡ true
-    → region ≡ region_at bytes f.span → IsAdded (ArePrinted style name bytes (selected_findings s xs)) a b
-    → IsAdded (IsPrintedOne style name region f) b c → d ≡ c → IsAdded (ArePrinted style name bytes (selected_findings s more)) a d
-step_printed {style} {name} {bytes} s xs more f region {a} {b} {c} {d} grows is at before one same =
-    subst (λ p. IsAdded (ArePrinted style name bytes (selected_findings s more)) a p) (sym same)
-    (subst (λ ys. IsAdded (ArePrinted style name bytes ys) a c) (sym (ap (selected_findings s) grows ∙ asked_more s xs f is))
+-- after a turn of the loop with a selected finding, the output is that for the selected findings including this one
+pub step_printed : {style : Style} {name bytes : List ℕ} (s : Selection) (off : List Rule) (xs more : List Finding) (f : Finding)
+    (region : Region) {a b c d : Printed} → more ≡ xs ++ f ∷ [] → is_asked s off f ≡ true
+    → region ≡ region_at bytes f.span → IsAdded (ArePrinted style name bytes (selected_findings s off xs)) a b
+    → IsAdded (IsPrintedOne style name region f) b c → d ≡ c → IsAdded (ArePrinted style name bytes (selected_findings s off more)) a d
+step_printed {style} {name} {bytes} s off xs more f region {a} {b} {c} {d} grows is at before one same =
+    subst (λ p. IsAdded (ArePrinted style name bytes (selected_findings s off more)) a p) (sym same)
+    (subst (λ ys. IsAdded (ArePrinted style name bytes ys) a c) (sym (ap (selected_findings s off) grows ∙ asked_more s off xs f is))
     (one_added f before (subst (λ p. IsAdded (IsPrintedOne style name p f) b c) at one)))
 
--- after a turn of the loop with a code that isn't selected, the output is that for the selected findings
-pub step_passed : {style : Style} {name bytes : List ℕ} (s : Selection) (xs more : List Finding) (f : Finding)
-    {a b d : Printed} → more ≡ xs ++ f ∷ [] → is_asked s f.code ≡ false
-    → IsAdded (ArePrinted style name bytes (selected_findings s xs)) a b → d ≡ b
-    → IsAdded (ArePrinted style name bytes (selected_findings s more)) a d
-step_passed {style} {name} {bytes} s xs more f {a} {b} {d} grows isnt before same =
-    subst (λ p. IsAdded (ArePrinted style name bytes (selected_findings s more)) a p) (sym same)
-    (subst (λ ys. IsAdded (ArePrinted style name bytes ys) a b) (sym (ap (selected_findings s) grows ∙ asked_same s xs f isnt)) before)
+-- after a turn of the loop with a finding that isn't selected, the output is that for the selected findings
+pub step_passed : {style : Style} {name bytes : List ℕ} (s : Selection) (off : List Rule) (xs more : List Finding) (f : Finding)
+    {a b d : Printed} → more ≡ xs ++ f ∷ [] → is_asked s off f ≡ false
+    → IsAdded (ArePrinted style name bytes (selected_findings s off xs)) a b → d ≡ b
+    → IsAdded (ArePrinted style name bytes (selected_findings s off more)) a d
+step_passed {style} {name} {bytes} s off xs more f {a} {b} {d} grows isnt before same =
+    subst (λ p. IsAdded (ArePrinted style name bytes (selected_findings s off more)) a p) (sym same)
+    (subst (λ ys. IsAdded (ArePrinted style name bytes ys) a b) (sym (ap (selected_findings s off) grows ∙ asked_same s off xs f isnt))
+    before)
 
 -- the output for the finding that a file isn't UTF-8, followed by the output for the findings of its text, is that for the file
 pub kept_added : {lint : Lint} {name bytes : List ℕ} {decoded : Decoded} (kept : List Finding) {a b c : Printed}
     → IsAdded
     (ArePrinted lint.style name bytes
-    (selected_findings lint.selection (findings_of_no_entry lint.conditions.items (unread_findings decoded.invalid)))) a b
-    → IsAdded (ArePrinted lint.style name (string_bytes decoded.text) (selected_findings lint.selection kept)) b c
+    (selected_findings lint.selection (off_in lint (string_bytes decoded.text))
+    (findings_of_no_entry lint.conditions.items (unread_findings decoded.invalid)))) a b
+    → IsAdded
+    (ArePrinted lint.style name (string_bytes decoded.text)
+    (selected_findings lint.selection (off_in lint (string_bytes decoded.text)) kept)) b c
     → IsAdded (IsPrintedKept lint name bytes decoded kept) a c
 kept_added kept {a} {b} {c} first second = record {
   text = first.text ++ second.text;

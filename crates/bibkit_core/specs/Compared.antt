@@ -15,7 +15,7 @@ use Rattle.bib_syntax.specs.Recovery.{IsFullRecovery}
 use Rattle.bib_syntax.specs.declared.raw.recovery.SkippedBlock.{SkippedBlock}
 use Rattle.bibkit_core.specs.Asked.{selected_findings}
 use Rattle.bibkit_core.specs.Conditions.{AreReportedFindings, findings_of_no_entry}
-use Rattle.bibkit_core.specs.Linted.{ArePrinted}
+use Rattle.bibkit_core.specs.Linted.{ArePrinted, off_in}
 use Rattle.bibkit_core.specs.Tasks.{AreDecoded, IsEndOfFindings, PrintsFindings, in_file, lint_status, opening}
 use Rattle.bibkit_core.specs.declared.request.Lint.{Lint}
 use Rattle.bibkit_core.specs.declared.tally.Tally.{Tally}
@@ -104,7 +104,8 @@ pub record PrintsCompared (lint : Lint) (has_unused : Bool) (found : Citations) 
   pub recovery : IsFullRecovery (string_bytes decoded.text) says skipped
   pub kept : List Finding
   pub reported : AreReportedFindings lint.conditions.items (string_bytes decoded.text) (unused_findings has_unused found says.entries) kept
-  pub unused : ArePrinted lint.style name (string_bytes decoded.text) (selected_findings lint.selection kept) between second after.tally
+  pub unused : ArePrinted lint.style name (string_bytes decoded.text)
+      (selected_findings lint.selection (off_in lint (string_bytes decoded.text)) kept) between second after.tally
   pub is : text ≡ in_file lint.style name (first ++ second)
   pub readings : after.readings ≡ before.readings ++ says ∷ []
 
@@ -115,7 +116,7 @@ pub record EndsCompared (lint : Lint) (name document : List ℕ) (found : Citati
   pub first : List ℕ
   pub after : Tally
   pub missing : ArePrinted lint.style name document
-      (selected_findings lint.selection (findings_of_no_entry lint.conditions.items (missing_findings before.readings found.keys.items)))
+      (selected_findings lint.selection [] (findings_of_no_entry lint.conditions.items (missing_findings before.readings found.keys.items)))
       before.tally first after
   pub last : List ℕ
   pub closes : IsEndOfFindings lint.style after last

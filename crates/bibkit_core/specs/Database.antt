@@ -87,7 +87,7 @@ AreMissingPrinted lint None entries before text after = (text ≡ []) × (after 
 AreMissingPrinted lint (Some document) entries before text after =
     (first : List ℕ)
     × ArePrinted lint.style document.name.now document.text.now
-    (selected_findings lint.selection (findings_of_no_entry lint.conditions.items (missing_by (Some document) entries)))
+    (selected_findings lint.selection [] (findings_of_no_entry lint.conditions.items (missing_by (Some document) entries)))
     before first after
     × (text ≡ in_file lint.style document.name.now first)
 

@@ -1,6 +1,7 @@
 pub mod Adding
 pub mod Answered
 pub mod Asked
+pub mod Baselines
 pub mod Checkstyle
 pub mod Commands
 pub mod Compared
@@ -15,6 +16,7 @@ pub mod Outcomes
 pub mod OwnNames
 pub mod Printed
 pub mod Regions
+pub mod Rules
 pub mod Running
 pub mod Sarif
 pub mod Selecting

@@ -1,6 +1,6 @@
 -- Meaning: words of public contracts.
 -- The output for the findings of a file.
-use Rattle.std.specs.Prelude.{◌≡◌, ℕ, Bool, false, List, [], ◌∷◌, ◌++◌, Option, Some, None, codes, fold, string_bytes}
+use Rattle.std.specs.Prelude.{◌≡◌, ℕ, Bool, false, List, [], ◌∷◌, ◌++◌, Option, Some, None, codes, fold, if◌then◌else◌, string_bytes}
 use Rattle.bib_findings.specs.Codes.{severity_of}
 use Rattle.bib_source.specs.declared.decoding.Decoded.{Decoded}
 use Rattle.bib_findings.specs.Findings.{AreFindings}
@@ -10,8 +10,10 @@ use Rattle.bibkit_core.specs.Asked.{selected_findings}
 use Rattle.bibkit_core.specs.Regions.{region_at}
 use Rattle.bibkit_core.specs.Conditions.{AreReportedFindings, findings_of_no_entry}
 use Rattle.bibkit_core.specs.OwnNames.{without_own}
+use Rattle.bibkit_core.specs.Rules.{switched_off}
 use Rattle.bibkit_core.specs.declared.request.Lint.{Lint}
 use Rattle.bibkit_core.specs.declared.request.Style.{Style}
+use Rattle.bibkit_core.specs.declared.rules.Rule.{Rule}
 use Rattle.bibkit_core.specs.declared.tally.Tally.{Tally}
 use Rattle.bibkit_core.specs.Printed.{IsShown, has_no_finding, one_more}
 
@@ -46,17 +48,23 @@ abbrev pub unread_findings : Option ℕ → List Finding
 unread_findings None = []
 unread_findings (Some at) = unread_finding at ∷ []
 
+-- the rules that the lines of a text switch off, if the request has switches
+abbrev pub off_in : Lint → List ℕ → List Rule
+off_in lint text = if lint.has_switches then switched_off text else []
+
 -- `text` is the output for a file with the reported findings `kept` of its decoded text, with the counts before and after them. If the file
 -- isn't UTF-8 and there are no conditions, the finding that says so comes first, at its position in the bytes. The selected findings among
--- `kept` follow, at their positions in the decoded text.
+-- `kept` follow, at their positions in the decoded text. Findings that the file switches off are left out.
 pub record IsPrintedKept (lint : Lint) (name bytes : List ℕ) (decoded : Decoded) (kept : List Finding) (before : Tally)
     (text : List ℕ) (after : Tally) : Type 0 where
   pub between : Tally
   pub first : List ℕ
   pub second : List ℕ
   pub unread : ArePrinted lint.style name bytes
-      (selected_findings lint.selection (findings_of_no_entry lint.conditions.items (unread_findings decoded.invalid))) before first between
-  pub of_text : ArePrinted lint.style name (string_bytes decoded.text) (selected_findings lint.selection kept) between second after
+      (selected_findings lint.selection (off_in lint (string_bytes decoded.text))
+      (findings_of_no_entry lint.conditions.items (unread_findings decoded.invalid))) before first between
+  pub of_text : ArePrinted lint.style name (string_bytes decoded.text)
+      (selected_findings lint.selection (off_in lint (string_bytes decoded.text)) kept) between second after
   pub is : text ≡ first ++ second
 
 -- `text` is the output for the selected findings of a file, with the counts before and after them. Findings that report a name of the

@@ -11,7 +11,7 @@ use Rattle.bib_syntax.specs.declared.raw.recovery.SkippedBlock.{SkippedBlock}
 use Rattle.bibkit_core.specs.Asked.{selected_findings}
 use Rattle.bibkit_core.specs.Conditions.{AreReportedFindings, findings_of_no_entry}
 use Rattle.bibkit_core.specs.Compared.{AreCitedBy, cited_keys, missing_finding, unused_finding, unused_findings}
-use Rattle.bibkit_core.specs.Linted.{ArePrinted}
+use Rattle.bibkit_core.specs.Linted.{ArePrinted, off_in}
 use Rattle.bibkit_core.specs.Tasks.{AreDecoded, IsEndOfFindings, PrintsFindings, in_file, lint_status, opening}
 use Rattle.bibkit_core.specs.declared.cited.Document.{Document}
 use Rattle.bibkit_core.specs.declared.comparing.Comparing.{Comparing}
@@ -84,7 +84,7 @@ pub record PrintsComparing (old : Comparing) (name bytes text : List ℕ) (new :
   pub are_unused : AreUnused old.document (string_bytes decoded.text) unused
   pub reported : AreReportedFindings old.linting.lint.now.conditions.items (string_bytes decoded.text) unused kept
   pub more : ArePrinted old.linting.lint.now.style name (string_bytes decoded.text)
-      (selected_findings old.linting.lint.now.selection kept) between second new.linting.tally
+      (selected_findings old.linting.lint.now.selection (off_in old.linting.lint.now (string_bytes decoded.text)) kept) between second new.linting.tally
   pub is : text ≡ in_file old.linting.lint.now.style name (first ++ second)
 
 -- the text of the comparing task after the files, and its status
@@ -92,7 +92,7 @@ pub record EndsComparing (task : Comparing) (text : List ℕ) (status : ℕ) : T
   pub first : List ℕ
   pub after : Tally
   pub more : ArePrinted task.linting.lint.now.style task.document.name.now task.document.text.now
-      (selected_findings task.linting.lint.now.selection
+      (selected_findings task.linting.lint.now.selection []
       (findings_of_no_entry task.linting.lint.now.conditions.items
       (unmarked_findings task.document.citations.keys.items task.document.known.items))) task.linting.tally first
       after

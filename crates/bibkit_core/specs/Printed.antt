@@ -19,11 +19,18 @@ use Rattle.bibkit_core.specs.declared.request.Style.{Style}
 use Rattle.bibkit_core.specs.declared.request.Style.TheVariants.{Plain, Colored, Json, JsonLines, Github, Checkstyle, Sarif}
 use Rattle.bibkit_core.specs.declared.tally.Tally.{Tally}
 
+-- the text of a finding, error|warning|info: TEXT [CODE, and an ending
+abbrev pub text_and : Finding → List ℕ → List ℕ
+text_and f ending = severity_name (severity_of f.code) ++ (codes ": " ++ (f.message ++ (codes " [" ++ (code_name f.code ++ ending))))
+
+-- the text of a finding in its line, after the position: error|warning|info: TEXT [CODE]
+abbrev pub line_text : Finding → List ℕ
+line_text f = text_and f (codes "]")
+
 -- the line of a finding at this position of the file with this name: FILE:LINE:COLUMN: error|warning|info: TEXT [CODE]
 abbrev pub finding_line : List ℕ → Position → Finding → List ℕ
 finding_line name place f =
-    name ++ (codes ":" ++ (decimal place.line ++ (codes ":" ++ (decimal place.column ++ (codes ": " ++ (severity_name (severity_of f.code)
-    ++ (codes ": " ++ (f.message ++ (codes " [" ++ (code_name f.code ++ codes "]\n"))))))))))
+    name ++ (codes ":" ++ (decimal place.line ++ (codes ":" ++ (decimal place.column ++ (codes ": " ++ text_and f (codes "]\n"))))))
 
 -- the counts with one more finding of this severity; a count stays at its maximum
 abbrev pub one_more : Tally → Severity → Tally

@@ -7,7 +7,7 @@ ghost use Rattle.bibkit_core.specs.Tasks.{BeginsLinting};
 use crate::cited::Document;
 use crate::conditions::{findings_of_no_entry, reported_findings};
 use crate::decoding::decode_bytes;
-use crate::lint::Origin;
+use crate::lint::{Origin, off_in};
 use crate::linting::{Linting, in_file};
 use crate::request::Lint;
 use crate::task::{End, Task};
@@ -52,11 +52,12 @@ impl<'r, 'a> Task for Comparing<'r, 'a> {
         let decoded = decode_bytes(alloc, bytes)?;
         let unused = self.document.compare(alloc, decoded.text.as_str())?;
         let kept = reported_findings(alloc, &lint.conditions, decoded.text.as_str(), unused)?;
+        let off = off_in(alloc, lint, decoded.text.as_str())?;
         let origin = Origin {
             name,
             bytes: decoded.text.as_bytes(),
         };
-        let more = self.linting.print(alloc, &origin, &kept)?;
+        let more = self.linting.print(alloc, &off, &origin, &kept)?;
         text.push_str(&more)?;
         let output = in_file(alloc, lint.style, name, text)?;
         Ok(output)
@@ -70,7 +71,7 @@ impl<'r, 'a> Task for Comparing<'r, 'a> {
         let missing = self.document.missing_findings(alloc)?;
         let kept = findings_of_no_entry(alloc, &self.linting.lint().conditions, missing);
         let origin = self.document.origin();
-        let found = self.linting.print(alloc, &origin, &kept)?;
+        let found = self.linting.print(alloc, &[], &origin, &kept)?;
         let mut text = in_file(alloc, self.linting.lint().style, origin.name, found)?;
         let end = self.linting.end(alloc)?;
         text.push_str(&end.text)?;

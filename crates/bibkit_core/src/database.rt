@@ -261,7 +261,7 @@ fn print_missing(
         text: String::new(alloc),
         tally: printed.tally,
     };
-    print_findings(alloc, &mut of_document, lint, &origin, &kept)?;
+    print_findings(alloc, &mut of_document, lint, &[], &origin, &kept)?;
     printed.text.push_str(&in_file(alloc, lint.style, origin.name, of_document.text)?)?;
     printed.tally = of_document.tally;
     Ok(())

@@ -17,6 +17,7 @@
 //! except that of `remove`, can be met: it has disks on which each of these calls succeeds.
 #![tactic(auto)]
 
+pub mod baseline;
 mod checkstyle;
 mod cited;
 mod commands;
@@ -32,7 +33,7 @@ pub mod folder;
 mod frames;
 pub mod laws;
 pub mod lines;
-mod lint;
+pub mod lint;
 mod lint_run;
 pub mod linting;
 mod messages;
@@ -41,6 +42,7 @@ pub mod own_names;
 mod regions;
 pub mod replacing;
 pub mod request;
+pub mod rules;
 pub mod run;
 mod sarif;
 mod selecting;

@@ -1,4 +1,4 @@
-//! Returns the line of a finding.
+//! Returns the line of a finding, and its text.
 
 ghost use Rattle.std.specs.Prelude.{◌≡◌, IfOk};
 ghost use Rattle.std.specs.String.{string_bytes};
@@ -22,6 +22,18 @@ pub fn finding_line(
         "{name}:{}:{}: {}: {} [{}]\n",
         place.line,
         place.column,
+        finding.code.severity().name(),
+        finding.message.as_str(),
+        finding.code.name()
+    )
+}
+
+/// Returns the text of a finding in its line, after the position: `error|warning|info: TEXT [CODE]`.
+pub fn line_text(alloc: Global, finding: &Finding) -> Result<String, AllocError>
+    ensures { IfOk result (λ text. string_bytes text ≡ spec.line_text finding.now) }
+{
+    format!(in alloc;
+        "{}: {} [{}]",
         finding.code.severity().name(),
         finding.message.as_str(),
         finding.code.name()

@@ -6,6 +6,7 @@ ghost use Rattle.bibkit_core.specs.Printed.{IsShown};
 ghost use Rattle.bibkit_core.specs.Asked.{selected_findings};
 ghost use Rattle.bibkit_core.specs.Adding.{IsAdded, IsPrintedOne};
 ghost use Rattle.bibkit_core.specs.Conditions.{findings_of_no_entry};
+ghost use Rattle.bibkit_core.specs.Linted as linted;
 ghost use Rattle.bibkit_core.specs.Linted.{IsPrintedKept, ArePrinted, IsPrintedFile, unread_finding, unread_findings};
 ghost use Rattle.bibkit_core.specs.Printed as spec;
 
@@ -18,6 +19,7 @@ use crate::objects::{object_element, object_line};
 use crate::own_names::without_own;
 use crate::regions::{Region, region_at};
 use crate::request::{Lint, Style};
+use crate::rules::{Rule, switched_off};
 use crate::sarif::result_element;
 use crate::tally::Tally;
 use bib_findings::codes::Code;
@@ -86,21 +88,22 @@ fn print_finding(
     Ok(())
 }
 
-/// Appends the selected findings among `found` to `printed`, and counts them.
+/// Appends the selected findings among `found` to `printed`, and counts them. Rules in `off` are switched off.
 pub fn print_findings(
     alloc: Global,
     printed: &mut Printed,
     lint: &Lint<'_>,
+    off: &[Rule],
     origin: &Origin<'_>,
     found: &[Finding],
 ) -> Result<(), AllocError>
     ensures { OnOk result (IsAdded (ArePrinted lint.now.style origin.now.name.now origin.now.bytes.now
-        (selected_findings lint.now.selection found.now)) printed.old printed.new) }
+        (selected_findings lint.now.selection off.now found.now)) printed.old printed.new) }
 {
     let mut positions = Positions::of_bytes(origin.bytes);
     'findings: for finding in found {
         let start = positions.position(finding.span.start);
-        if lint.selection.asks_for(finding.code) {
+        if lint.selection.asks_for(alloc, off, finding)? {
             let region = region_at(origin.bytes, start, &finding.span);
             print_finding(alloc, printed, lint.style, origin, region, finding)?;
         }
@@ -133,26 +136,38 @@ fn unread_findings(alloc: Global, invalid: Option<usize>) -> Result<Vec<Finding>
     Ok(found)
 }
 
-// Appends the finding that a file isn't UTF-8, and counts it, if `invalid` is an offset, the code is selected and there are no
-// conditions.
+// Appends the finding that a file isn't UTF-8, and counts it, if `invalid` is an offset, the finding is selected, no rule in `off` means it,
+// and there are no conditions.
 fn print_unread(
     alloc: Global,
     printed: &mut Printed,
     lint: &Lint<'_>,
+    off: &[Rule],
     origin: &Origin<'_>,
     invalid: Option<usize>,
 ) -> Result<(), AllocError>
     ensures { OnOk result (IsAdded (ArePrinted lint.now.style origin.now.name.now origin.now.bytes.now
-        (selected_findings lint.now.selection
+        (selected_findings lint.now.selection off.now
         (findings_of_no_entry lint.now.conditions.items (unread_findings invalid)))) printed.old printed.new) }
 {
     let found = unread_findings(alloc, invalid)?;
     let kept = findings_of_no_entry(alloc, &lint.conditions, found);
-    print_findings(alloc, printed, lint, origin, &kept)
+    print_findings(alloc, printed, lint, off, origin, &kept)
+}
+
+/// Returns the rules that the lines of a text switch off, if the request has switches. The only error is out of memory.
+pub fn off_in(alloc: Global, lint: &Lint<'_>, text: &str) -> Result<Vec<Rule>, AllocError>
+    ensures { IfOk result (λ off. off.items ≡ linted.off_in lint.now text.now) }
+{
+    if !lint.has_switches {
+        return Ok(Vec::new(alloc));
+    }
+    switched_off(alloc, text)
 }
 
 /// Appends the selected findings among `kept` to `printed`, and counts them. `kept` are the reported findings of the file's decoded text. If
-/// the file isn't UTF-8 and there are no conditions, a finding says so first, with its position in the file's bytes.
+/// the file isn't UTF-8 and there are no conditions, a finding says so first, with its position in the file's bytes. Findings that the file
+/// switches off are left out.
 pub fn print_kept(
     alloc: Global,
     printed: &mut Printed,
@@ -164,12 +179,13 @@ pub fn print_kept(
     ensures { OnOk result (IsAdded (IsPrintedKept lint.now origin.now.name.now origin.now.bytes.now decoded.now kept.now)
         printed.old printed.new) }
 {
-    print_unread(alloc, printed, lint, origin, decoded.invalid)?;
+    let off = off_in(alloc, lint, &decoded.text)?;
+    print_unread(alloc, printed, lint, &off, origin, decoded.invalid)?;
     let text = Origin {
         name: origin.name,
         bytes: decoded.text.as_bytes(),
     };
-    print_findings(alloc, printed, lint, &text, kept)?;
+    print_findings(alloc, printed, lint, &off, &text, kept)?;
     Ok(())
 }
 

@@ -10,6 +10,7 @@ ghost use Rattle.bibkit_core.specs.Tasks as spec;
 use crate::decoding::decode_bytes;
 use crate::lint::{Origin, Printed, print_file, print_findings};
 use crate::request::{FailOn, Lint, Style};
+use crate::rules::Rule;
 use crate::tally::Tally;
 use crate::task::{End, Task};
 use crate::{checkstyle, sarif};
@@ -86,19 +87,20 @@ impl<'r, 'a> Linting<'r, 'a> {
         Ok(self.take_text(printed))
     }
 
-    /// Returns the text of the selected findings among `found`, and counts them.
+    /// Returns the text of the selected findings among `found`, and counts them. Rules in `off` are switched off.
     pub fn print(
         &mut self,
         alloc: Global,
+        off: &[Rule],
         origin: &Origin<'_>,
         found: &[Finding],
     ) -> Result<String, AllocError>
         ensures printed { IfOk result (λ text. ArePrinted self.old.lint.now.style origin.now.name.now origin.now.bytes.now
-            (selected_findings self.old.lint.now.selection found.now) self.old.tally (string_bytes text) self.new.tally) }
+            (selected_findings self.old.lint.now.selection off.now found.now) self.old.tally (string_bytes text) self.new.tally) }
         ensures lint { self.new.lint.now ≡ self.old.lint.now }
     {
         let mut printed = self.nothing(alloc);
-        print_findings(alloc, &mut printed, self.lint, origin, found)?;
+        print_findings(alloc, &mut printed, self.lint, off, origin, found)?;
         Ok(self.take_text(printed))
     }
 }

@@ -65,6 +65,8 @@ pub struct Lint<'a> {
     pub conditions: Vec<Condition>,
     /// The names of the project's own style. They aren't reported as unknown.
     pub own: OwnNames,
+    /// Whether lines of a file switch off rules for the file.
+    pub has_switches: bool,
 }
 
 /// The conditions on entries of files, and the output for the entries that they select: those with the key of an entry that meets all

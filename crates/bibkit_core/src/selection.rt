@@ -1,31 +1,75 @@
-//! Selects findings by their codes.
+//! Selects findings by their codes, by the fields that they are about, and by the findings of an earlier run.
 
-ghost use Rattle.std.specs.Prelude.{◌≡◌};
+ghost use Rattle.std.specs.Prelude.{◌≡◌, [], None, IfOk};
 ghost use Rattle.bibkit_core.specs.Asked as asked;
 
-use bib_findings::codes::Code;
+use crate::lines::line_text;
+use crate::rules::{Rule, mean};
+use bib_findings::finding::Finding;
+use std::alloc::{AllocError, Global};
+use std::collections::BTreeSet;
 
-/// The codes to report. A code that is both in `only` and in `ignored` isn't reported.
+/// The findings to report. A finding that rules in `only` and in `ignored` mean isn't reported.
 #[derive(Debug, Drop)]
 pub struct Selection {
-    /// The codes to report. If it is empty, all codes except the ignored ones are reported.
-    pub only: Vec<Code>,
-    /// The codes not to report.
-    pub ignored: Vec<Code>,
-}
-
-// Returns whether `code` is one of `codes`.
-fn has_code(codes: &[Code], code: Code) -> bool
-    ensures { result ≡ asked.has_code codes.now code }
-{
-    codes.iter().any(|one| one.name() == code.name())
+    /// The findings to report. If there are no rules, all findings except the ignored ones are reported.
+    pub only: Vec<Rule>,
+    /// The findings not to report.
+    pub ignored: Vec<Rule>,
+    /// The texts of the accepted findings, if there is a list (see `baseline`). They aren't reported.
+    pub accepted: Option<BTreeSet<String>>,
 }
 
 impl Selection {
-    /// Returns whether findings with this code are reported.
-    pub fn asks_for(&self, code: Code) -> bool
-        ensures { result ≡ asked.is_asked self.now code }
+    /// Returns the selection of all findings.
+    pub fn all(alloc: Global) -> Self
+        ensures only { result.only.items ≡ [] }
+        ensures ignored { result.ignored.items ≡ [] }
+        ensures accepted { result.accepted ≡ None }
     {
-        (self.only.is_empty() || has_code(&self.only, code)) && !has_code(&self.ignored, code)
+        Selection {
+            only: Vec::new(alloc),
+            ignored: Vec::new(alloc),
+            accepted: None,
+        }
+    }
+
+    // Returns whether the rules choose a finding.
+    fn chooses(&self, finding: &Finding) -> bool
+        ensures { result ≡ asked.is_chosen self.now finding.now }
+    {
+        (self.only.is_empty() || mean(&self.only, finding)) && !mean(&self.ignored, finding)
+    }
+
+    // Returns whether a finding is one of the accepted ones. The only error is out of memory.
+    fn accepts(&self, alloc: Global, finding: &Finding) -> Result<bool, AllocError>
+        ensures { IfOk result (λ accepted. accepted ≡ asked.is_accepted self.now finding.now) }
+    {
+        match &self.accepted {
+            Some(texts) => {
+                let text = line_text(alloc, finding)?;
+                Ok(texts.contains(text.as_str()))
+            }
+            None => Ok(false),
+        }
+    }
+
+    /// Returns whether a finding is reported: the rules choose it, none of the rules in `off` means it, and it isn't accepted. The only
+    /// error is out of memory.
+    pub fn asks_for(
+        &self,
+        alloc: Global,
+        off: &[Rule],
+        finding: &Finding,
+    ) -> Result<bool, AllocError>
+        ensures { IfOk result (λ asks. asks ≡ asked.is_asked self.now off.now finding.now) }
+    {
+        if !self.chooses(finding) {
+            return Ok(false);
+        }
+        if mean(off, finding) {
+            return Ok(false);
+        }
+        Ok(!self.accepts(alloc, finding)?)
     }
 }

@@ -3,11 +3,11 @@
 use Rattle.std.specs.Prelude.{ℕ, Bool, true, false, List, [], ◌∷◌, Option, Some, None, bytes_eq, codes, find}
 use Rattle.std.specs.Global.{Vec}
 use Rattle.std.specs.Option.{option_map_or, option_or}
-use Rattle.bib_findings.specs.declared.codes.Code.{Code}
 use Rattle.bibkit_core.specs.declared.request.FailOn.{FailOn}
 use Rattle.bibkit_core.specs.declared.request.FailOn.TheVariants as fail_on
 use Rattle.bibkit_core.specs.declared.request.Style.{Style}
 use Rattle.bibkit_core.specs.declared.request.Style.TheVariants as style
+use Rattle.bibkit_core.specs.declared.rules.Rule.{Rule}
 use Rattle.bibkit_settings.specs.declared.settings.Color.{Color}
 use Rattle.bibkit_settings.specs.declared.settings.Color.TheVariants.{Auto, Always, Never}
 use Rattle.bibkit_settings.specs.declared.settings.OutputFormat.{OutputFormat}
@@ -64,7 +64,7 @@ fail_on_named name = find (λ setting. bytes_eq (fail_on_name setting) name) all
 abbrev pub no_settings : Settings
 no_settings = record { only = None; ignored = None; color = None; format = None; fail_on = None }
 
--- the settings `given` on the command line, with those of the project for each that isn't set; a list of the command line
+-- the settings `given` on the command line, with those of the project for each that isn't set; a list of rules of the command line
 -- replaces the list of the project, and isn't joined with it
 abbrev pub over : Settings → Settings → Settings
 over given project =
@@ -76,9 +76,9 @@ over given project =
       fail_on = option_or given.fail_on project.fail_on;
     }
 
--- the codes of a list, or no codes if the list isn't set
-abbrev pub listed_codes : Option (Vec Code) → List Code
-listed_codes set = option_map_or (λ codes. codes.items) set []
+-- the rules of a list, or no rules if the list isn't set
+abbrev pub listed_rules : Option (Vec Rule) → List Rule
+listed_rules set = option_map_or (λ rules. rules.items) set []
 
 -- whether colours are printed: true for `Always`, false for `Never`, and otherwise the second argument
 abbrev pub is_colored : Option Color → Bool → Bool

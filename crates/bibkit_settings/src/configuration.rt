@@ -2,8 +2,8 @@
 
 use crate::settings::{Color, OutputFormat, Settings, fail_on_named};
 use crate::style_settings::{StyleSettings, delimiters_named, width_of};
-use bib_findings::codes::Code;
 use bibkit_core::own_names::OwnNames;
+use bibkit_core::rules::Rule;
 use edit_format::style::Delimiters;
 use edit_orders::order::Order;
 use std::alloc::{AllocError, AllocFailed, Global};
@@ -86,24 +86,30 @@ fn wrong<T: Drop>(alloc: Global, key: &str, wanted: &str) -> Result<T, Configura
     Err(ConfigurationError::Wrong(format!(in alloc; "expected {wanted} for `{key}`")?))
 }
 
-// Returns the code that a value names. Fails if the value isn't the name of a code.
-fn code(alloc: Global, key: &str, value: &Value) -> Result<Code, ConfigurationError> {
-    match value.as_str().and_then(Code::from_name) {
-        Some(code) => Ok(code),
-        None => wrong(alloc, key, "a list of codes"),
+// The words for a list of rules in errors.
+const RULES: &str = "a list of codes";
+
+// Returns the rule that a value names. Fails if the value isn't a code, alone or with the name of a field.
+fn rule(alloc: Global, key: &str, value: &Value) -> Result<Rule, ConfigurationError> {
+    let Some(name) = value.as_str() else {
+        return wrong(alloc, key, RULES);
+    };
+    match Rule::parse(alloc, name)? {
+        Some(rule) => Ok(rule),
+        None => wrong(alloc, key, RULES),
     }
 }
 
-// Returns the codes that a value lists, as a setting. Fails if the value isn't an array of names of codes.
-fn codes(alloc: Global, key: &str, value: &Value) -> Result<Option<Vec<Code>>, ConfigurationError> {
+// Returns the rules that a value lists, as a setting. Fails if the value isn't an array of rules.
+fn rules(alloc: Global, key: &str, value: &Value) -> Result<Option<Vec<Rule>>, ConfigurationError> {
     let Some(values) = value.as_array() else {
-        return wrong(alloc, key, "a list of codes");
+        return wrong(alloc, key, RULES);
     };
-    let mut codes = Vec::new(alloc);
+    let mut rules = Vec::new(alloc);
     'values: for value in values {
-        codes.push(code(alloc, key, value)?)?;
+        rules.push(rule(alloc, key, value)?)?;
     }
-    Ok(Some(codes))
+    Ok(Some(rules))
 }
 
 // Returns the error of an unknown setting.
@@ -122,8 +128,8 @@ fn set_lint(
     value: &Value,
 ) -> Result<(), ConfigurationError> {
     match key {
-        "only" => settings.only = codes(alloc, key, value)?,
-        "ignore" => settings.ignored = codes(alloc, key, value)?,
+        "only" => settings.only = rules(alloc, key, value)?,
+        "ignore" => settings.ignored = rules(alloc, key, value)?,
         "color" => match value.as_str().and_then(Color::from_name) {
             Some(color) => settings.color = Some(color),
             None => return wrong(alloc, key, "\"auto\", \"always\" or \"never\""),
@@ -401,17 +407,37 @@ fn settings_in<R: Files + AllocGlobal>(
     }
 }
 
+// The number of folders that are searched if the path of the first one can't be resolved.
+const FOLDERS: usize = 100;
+
+// Returns the settings in the nearest of a folder and those above it that has a file `bibkit.toml`. Searches no more than `FOLDERS` folders,
+// because the path of a folder, and so the last one above it, may not be known: it may not be UTF-8.
+fn settings_above<R: Files + AllocGlobal>(
+    rt: &R,
+    reader: Reader,
+    folder: Path<'_>,
+) -> Result<Project, ConfigurationError> {
+    let mut name = String::from_str(rt.alloc(), folder.to_string_lossy())?;
+    'folders: for _ in 0..FOLDERS {
+        if let Some(settings) = settings_in(rt, reader, Path::new(name.as_str()))? {
+            return Ok(settings);
+        }
+        name.push_str("/..")?;
+    }
+    Ok(Project::none(rt.alloc()))
+}
+
 /// Returns the settings for the command `reader` from the project of the file `name`. They are in `bibkit.toml` in the folder of
-/// the file, or in the nearest folder above that has such a file. Returns settings of which none is set if there is no such file, or if
-/// the folder of `name` can't be resolved. For `-` the search starts at the current folder. Fails if `bibkit.toml` can't be read or has
-/// an error.
+/// the file, or in the nearest folder above that has such a file. Returns settings of which none is set if there is no such file. If the
+/// path of the folder of `name` can't be resolved, searches at most 100 folders. For `-` the search starts at the current folder. Fails if
+/// `bibkit.toml` can't be read or has an error.
 pub fn project_settings<R: Files + AllocGlobal>(
     rt: &R,
     reader: Reader,
     name: &str,
 ) -> Result<Project, ConfigurationError> {
     let Ok(start) = fs::canonicalize(rt, folder(name)) else {
-        return Ok(Project::none(rt.alloc()));
+        return settings_above(rt, reader, folder(name));
     };
     'folders: for folder in start.ancestors() {
         if let Some(settings) = settings_in(rt, reader, folder)? {

@@ -1,16 +1,16 @@
 //! Settings of `lint`, from the command line or from bibkit.toml.
 
-ghost use Rattle.std.specs.Prelude.{◌≡◌, [], bytes_eq, find, map};
+ghost use Rattle.std.specs.Prelude.{◌≡◌, [], None, bytes_eq, find, map, true};
 ghost use Rattle.bib_findings.specs.Codes.{all_codes, code_name};
 ghost use Rattle.std.specs.Option.{unwrap_or};
 ghost use Rattle.bibkit_core.specs.declared.request.FailOn.TheVariants.{Warning};
 ghost use Rattle.bibkit_settings.specs.Settings.{all_colors, all_fail_on, all_formats, color_name, color_named};
 ghost use Rattle.bibkit_settings.specs.Settings.{fail_on_name, fail_on_named, format_name, format_named};
-ghost use Rattle.bibkit_settings.specs.Settings.{is_colored, listed_codes, no_settings, over, style_of};
+ghost use Rattle.bibkit_settings.specs.Settings.{is_colored, listed_rules, no_settings, over, style_of};
 
-use bib_findings::codes::Code;
 use bibkit_core::own_names::OwnNames;
 use bibkit_core::request::{Cited, FailOn, Lint, Style};
+use bibkit_core::rules::Rule;
 use bibkit_core::selection::Selection;
 use std::alloc::Global;
 
@@ -155,10 +155,10 @@ pub fn fail_on_named(name: &str) -> Option<FailOn>
 /// The settings of `lint`. Each is `None` if it isn't set.
 #[derive(Drop)]
 pub struct Settings {
-    /// The codes to report. If the list is empty, all codes except the ignored ones are reported.
-    pub only: Option<Vec<Code>>,
-    /// The codes not to report.
-    pub ignored: Option<Vec<Code>>,
+    /// The findings to report. If the list is empty, all findings except the ignored ones are reported.
+    pub only: Option<Vec<Rule>>,
+    /// The findings not to report.
+    pub ignored: Option<Vec<Rule>>,
     /// When colours are printed.
     pub color: Option<Color>,
     /// How findings are printed.
@@ -181,7 +181,7 @@ impl Settings {
         }
     }
 
-    /// Returns these settings (of the command line). Each that isn't set has the value of `project`. A list of codes replaces the list of
+    /// Returns these settings (of the command line). Each that isn't set has the value of `project`. A list of rules replaces the list of
     /// `project`, and isn't joined with it.
     pub fn over(self, project: Self) -> Self
         ensures { result ≡ over self project }
@@ -202,10 +202,11 @@ impl Settings {
         }
     }
 
-    /// Returns the request for `lint` with these settings. If `only` is empty or isn't set, all codes except the ignored ones are reported.
+    /// Returns the request for `lint` with these settings. If `only` is empty or isn't set, all findings except the ignored ones are
+    /// reported.
     /// If `color` is `Auto` or isn't set, `are_colors_shown` says whether lines are printed in colours. Only lines have colours. If
     /// `fail_on` isn't set, the status is 1 for errors and warnings. `is_each` says whether each of several files is a database of its own.
-    /// The request has no conditions and no own names.
+    /// The request has switches, and neither conditions, own names nor accepted findings.
     pub fn lint<'a>(
         self,
         alloc: Global,
@@ -213,8 +214,9 @@ impl Settings {
         cited: Option<Cited<'a>>,
         is_each: bool,
     ) -> Lint<'a>
-        ensures only { result.selection.only.items ≡ listed_codes self.only }
-        ensures ignored { result.selection.ignored.items ≡ listed_codes self.ignored }
+        ensures only { result.selection.only.items ≡ listed_rules self.only }
+        ensures ignored { result.selection.ignored.items ≡ listed_rules self.ignored }
+        ensures accepted { result.selection.accepted ≡ None }
         ensures fail_on { result.fail_on ≡ unwrap_or self.fail_on Warning }
         ensures style { result.style ≡ style_of self.format (is_colored self.color are_colors_shown) }
         ensures cited { result.cited ≡ cited.entry }
@@ -223,12 +225,14 @@ impl Settings {
         ensures own_fields { result.own.fields.items ≡ [] }
         ensures own_types { result.own.types.items ≡ [] }
         ensures own_abbreviations { result.own.abbreviations.items ≡ [] }
+        ensures switches { result.has_switches ≡ true }
     {
         let style = style(self.format, is_colored(self.color, are_colors_shown));
         Lint {
             selection: Selection {
                 only: self.only.unwrap_or(Vec::new(alloc)),
                 ignored: self.ignored.unwrap_or(Vec::new(alloc)),
+                accepted: None,
             },
             style,
             fail_on: self.fail_on.unwrap_or(FailOn::Warning),
@@ -236,6 +240,7 @@ impl Settings {
             is_each,
             conditions: Vec::new(alloc),
             own: OwnNames::none(alloc),
+            has_switches: true,
         }
     }
 }

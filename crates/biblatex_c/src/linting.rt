@@ -20,16 +20,14 @@ fn faults_of(alloc: Global, bytes: &[u8]) -> Result<String, Status>
     ensures fails { IfErr result (λ why. why ≡ OutOfMemory) }
 {
     let lint = Lint {
-        selection: Selection {
-            only: Vec::new(alloc),
-            ignored: Vec::new(alloc),
-        },
+        selection: Selection::all(alloc),
         style: Style::Json,
         fail_on: FailOn::Warning,
         cited: None,
         is_each: false,
         conditions: Vec::new(alloc),
         own: OwnNames::none(alloc),
+        has_switches: false,
     };
     let mut linting = Linting::new(&lint);
     let mut text = String::from_str(alloc, linting.begin())?;

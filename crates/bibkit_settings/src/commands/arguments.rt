@@ -28,12 +28,14 @@ pub enum Takes {
     EditedFile,
     /// A required option: the name of the file to edit.
     AnEditedFile,
-    /// An option: codes separated by commas.
+    /// An option: codes, alone or with a field, separated by commas.
     Codes,
     /// An option: the name of the .aux or .bcf file of a document.
     Document,
     /// An option: the name of standard input in findings.
     InputName,
+    /// An option: the name of a file with the output of an earlier run.
+    Baseline,
     /// An option: field names separated by commas.
     FieldNames,
     /// An option: the maximum width of a line in characters.
@@ -184,14 +186,12 @@ fn values<'a>(alloc: Global, row: &'static Argument, name: &'a str) -> Arg<'a> {
         .action(ArgAction::Append)
 }
 
-// Returns an option whose values are codes, separated by commas.
+// Returns an option whose values are codes, alone or with a field, separated by commas.
 fn codes<'a>(alloc: Global, row: &'static Argument) -> Arg<'a> {
     option(alloc, row)
         .value_name("CODES")
         .value_delimiter(',')
         .action(ArgAction::Append)
-        .value_parser(code_names())
-        .hide_possible_values(true)
 }
 
 // Returns an option whose values are field names, separated by commas.
@@ -275,6 +275,7 @@ fn argument_of<'a>(alloc: Global, row: &'static Argument) -> Result<Arg<'a>, All
         Takes::Codes => Ok(codes(alloc, row)),
         Takes::Document => Ok(value(alloc, row, "DOCUMENT")),
         Takes::InputName => Ok(value(alloc, row, "NAME")),
+        Takes::Baseline => Ok(value(alloc, row, "FILE")),
         Takes::FieldNames => Ok(field_names(alloc, row)),
         Takes::Width => Ok(value(alloc, row, "CHARACTERS").value_parser(ValueParser::unsigned(
             0, 1_000_000,

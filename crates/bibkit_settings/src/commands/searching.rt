@@ -26,16 +26,21 @@ Status: 0 no finding of at least the severity of --fail-on, 1 such a finding, 2 
 memory";
 
 // The arguments of `lint`.
-const LINT: [Argument; 14] = [
+const LINT: [Argument; 15] = [
     Argument {
         name: "only",
         takes: Takes::Codes,
-        help: "Report only these codes, separated by commas",
+        help: "Report only these codes, such as missing-field or missing-field:publisher, separated by commas",
     },
     Argument {
         name: "ignore",
         takes: Takes::Codes,
-        help: "Don't report these codes, separated by commas",
+        help: "Don't report these codes, such as not-a-number or not-a-number:volume, separated by commas",
+    },
+    Argument {
+        name: "baseline",
+        takes: Takes::Baseline,
+        help: "Don't report the findings in this file: the output of an earlier run",
     },
     Argument {
         name: "format",

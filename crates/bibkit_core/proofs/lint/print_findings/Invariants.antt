@@ -9,5 +9,5 @@ invariant-findings l = record {
   same : l.positions ≡ l.origin.bytes.now;
   added : IsAdded
       (ArePrinted l.lint.style l.origin.name.now l.origin.bytes.now
-      (selected_findings l.lint.selection (take l.finding-index l.found))) l.initial.printed l.printed;
+      (selected_findings l.lint.selection l.off (take l.finding-index l.found))) l.initial.printed l.printed;
 }

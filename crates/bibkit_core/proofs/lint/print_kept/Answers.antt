@@ -13,6 +13,6 @@ returns c =
     let after = c.print_findings.new.printed in
     let placed =
     subst
-    (λ b. IsAdded (ArePrinted lint.style name b (selected_findings lint.selection c.args.kept.now)) before after)
+    (λ b. IsAdded (ArePrinted lint.style name b (selected_findings lint.selection c.in_ok-off.off.items c.args.kept.now)) before after)
     c.as_bytes.ensures.value c.in_ok-print_findings.ensures in
     kept_added c.args.kept.now c.in_ok-print_unread.ensures placed

@@ -8,6 +8,6 @@ returns-clause-found c =
     let begun = c.in_ok-push_str.ensures.bytes ∙ ap₂ ◌++◌ c.in_ok-text.ensures.ok c.deref.ensures in
     let whole = c.in_ok-push_str-2.ensures.bytes ∙ ap₂ ◌++◌ begun c.deref-2.ensures in
     subst (AreFaults c.args.bytes.now) (sym whole) (faults_found _ c.new-linting.result c.file.new.self
-    c.new-linting.ensures refl c.new.ensures.items c.new-2.ensures.items refl
-    c.new-3.ensures.items c.none.ensures.fields c.none.ensures.types c.none.ensures.abbreviations
+    c.new-linting.ensures refl c.all.ensures.only c.all.ensures.ignored c.all.ensures.accepted refl
+    c.new.ensures.items refl c.none.ensures.fields c.none.ensures.types c.none.ensures.abbreviations
     c.begin.ensures c.in_ok-found.ensures c.in_ok-ending.ensures)

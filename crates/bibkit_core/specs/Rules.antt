@@ -1,0 +1,74 @@
+-- Meaning: words of public contracts.
+-- Rules that select findings: a code, alone or with the name of a field. The lines of a file can switch off rules.
+use Rattle.std.specs.Prelude.{◌==◌, ◌||◌, ◌&&◌, ℕ, Bool, true, not, if◌then◌else◌, List, [], codes, length, bytes_eq, Option, Some, None, option_and_then, option_to_list}
+use Rattle.std.specs.Char.{is_ascii_alphanumeric}
+use Rattle.std.specs.List.{before_first, flat_map, list_any, slice_split}
+use Rattle.std.specs.Option.{option_map_or, unwrap_or}
+use Rattle.std.specs.Str.{trim}
+use Rattle.std.specs.Str.Lines.{lines}
+use Rattle.bib_text.specs.Characters as char
+use Rattle.bib_findings.specs.Codes.{code_name, code_named}
+use Rattle.bib_findings.specs.declared.codes.Code.{Code}
+use Rattle.bib_findings.specs.declared.finding.Finding.{Finding}
+use Rattle.bib_queries.specs.Elements.{text_after_part}
+use Rattle.bib_queries.specs.Lines.{text_after_prefix}
+use Rattle.bib_syntax.specs.Grammar.{is_word}
+use Rattle.bibkit_core.specs.declared.rules.Rule.{Rule}
+
+-- the text before the first colon, or all of the text without one
+abbrev pub before_colon : List ℕ → List ℕ
+before_colon text = before_first (λ b. b == char.colon) text
+
+-- the rule with this code and this name of a field, if there is one; no rule if the name is empty
+abbrev pub rule_with : Code → Option (List ℕ) → Option Rule
+rule_with code None = Some (record { code = code; field = None })
+rule_with code (Some field) = if length field == 0 then None else Some (record { code = code; field = Some field })
+
+-- the rule with this name: that of a code, with the field whose name follows the first colon, if there is one. `None` if no code has the
+-- name before the colon, or if nothing follows the colon
+abbrev pub rule_named : List ℕ → Option Rule
+rule_named text = option_and_then (λ code. rule_with code (text_after_part (codes ":") text)) (code_named (before_colon text))
+
+-- whether a byte separates the words of a message: it is no ASCII letter or digit, hyphen, underscore or plus sign
+abbrev pub is_separator : ℕ → Bool
+is_separator b = not (is_ascii_alphanumeric b || (b == char.hyphen || (b == char.underscore || b == char.plus)))
+
+-- the text of a message after the key of its entry, or all of it if it begins with no key. No key contains a space
+abbrev pub after_key : List ℕ → List ℕ
+after_key message = unwrap_or (text_after_part (codes ": ") message) message
+
+-- whether a word is the name of a field, in any ASCII case
+abbrev pub is_field_name : List ℕ → List ℕ → Bool
+is_field_name field word = is_word word field
+
+-- whether a message contains the name of a field as a word, in any ASCII case, after the key of its entry
+abbrev pub names_field : List ℕ → List ℕ → Bool
+names_field field message = list_any (is_field_name field) (slice_split is_separator (after_key message))
+
+-- whether a message is about the field of a rule, or the rule has none
+abbrev pub is_about : Option (List ℕ) → List ℕ → Bool
+is_about field message = option_map_or (λ name. names_field name message) field true
+
+-- whether a rule means a finding: it has the code of the rule, and is about the field of the rule, if the rule has one
+abbrev pub means : Finding → Rule → Bool
+means f rule = bytes_eq (code_name rule.code) (code_name f.code) && is_about rule.field f.message
+
+-- whether one of these rules means a finding
+abbrev pub mean : List Rule → Finding → Bool
+mean rules f = list_any (means f) rules
+
+-- the rule with this name, if there is one, without the white space around the name
+abbrev pub rules_named : List ℕ → List Rule
+rules_named name = option_to_list (rule_named (trim name))
+
+-- the rules in a comma-separated list; names that are no rules are left out
+abbrev pub rules_listed : List ℕ → List Rule
+rules_listed list = flat_map rules_named (slice_split (λ b. b == char.comma) list)
+
+-- the rules that a line of a file switches off: the list after `% bibkit: off ` at the start of the line
+abbrev pub rules_of_line : List ℕ → List Rule
+rules_of_line line = option_map_or rules_listed (text_after_prefix (codes "% bibkit: off ") line) []
+
+-- the rules that the lines of a text switch off
+abbrev pub switched_off : List ℕ → List Rule
+switched_off text = flat_map rules_of_line (lines text)

@@ -1,0 +1,166 @@
+//! Rules that select findings: a code, alone or with the name of a field.
+
+ghost use Rattle.std.specs.Prelude.{◌≡◌, ◌++◌, codes, IfOk, OnOk};
+ghost use Rattle.std.specs.Option.{option_map};
+ghost use Rattle.bib_queries.specs.Lines.{text_after_prefix};
+ghost use Rattle.bibkit_core.specs.Rules as spec;
+ghost use Rattle.bibkit_core.specs.Rules.{rule_named, rules_of_line};
+
+use crate::conditions::text_after;
+use bib_findings::codes::Code;
+use bib_findings::finding::Finding;
+use bib_text::text::Text;
+use std::alloc::{AllocError, Global};
+
+/// A code of findings, alone or with the name of a field. Such as `missing-field` for all missing fields, and `missing-field:publisher` for
+/// missing publishers.
+#[derive(Debug, Drop)]
+pub struct Rule {
+    /// The code.
+    pub code: Code,
+    /// The name of the field, in any ASCII case. If there is one, the rule means only findings whose message contains this name as a word.
+    pub field: Option<Text>,
+}
+
+// Returns the text before the first colon, or all of the text without one.
+fn before_colon(text: &str) -> &str
+    ensures { result.now ≡ spec.before_colon text.now }
+{
+    match text.split_once(':') {
+        Some((before, _)) => before,
+        None => text,
+    }
+}
+
+// Returns the rule with this code and this name of a field, if there is one. Returns `None` if the name is empty.
+fn rule_with(alloc: Global, code: Code, field: Option<&str>) -> Result<Option<Rule>, AllocError>
+    ensures { IfOk result (λ rule. rule ≡ spec.rule_with code (option_map (λ name. name.now) field.entry)) }
+{
+    match field {
+        Some(name) if name.is_empty() => Ok(None),
+        Some(name) => {
+            let field = Some(Text::from_str(alloc, name)?);
+            Ok(Some(Rule { code, field }))
+        }
+        None => Ok(Some(Rule { code, field: None })),
+    }
+}
+
+// Returns whether a byte separates the words of a message: it occurs in no name of a field.
+fn is_separator(b: u8) -> bool
+    ensures { result ≡ spec.is_separator b }
+{
+    !(b.is_ascii_alphanumeric() || matches!(b, b'-' | b'_' | b'+'))
+}
+
+// Returns the text of a message after the key of its entry, or all of it if it begins with no key.
+fn after_key(message: &str) -> &str
+    ensures { result.now ≡ spec.after_key message.now }
+{
+    match text_after(message, ": ") {
+        Some(rest) => rest,
+        None => message,
+    }
+}
+
+// Returns whether a word is the name of a field, in any ASCII case.
+fn is_field_name(word: &[u8], field: &str) -> bool
+    ensures { result ≡ spec.is_field_name field.now word.now }
+{
+    word.eq_ignore_ascii_case(field.as_bytes())
+}
+
+// Returns whether a message contains the name of a field as a word, in any ASCII case, after the key of its entry.
+fn names_field(message: &str, field: &str) -> bool
+    ensures { result ≡ spec.names_field field.now message.now }
+{
+    let mut words = after_key(message).as_bytes().split(|b| is_separator(*b));
+    words.any(|word| is_field_name(word, field))
+}
+
+impl Rule {
+    /// Parses a rule: the name of a code, alone or with a colon and the name of a field after it. Returns `None` if no code has this name,
+    /// or if nothing follows the colon. The only error is out of memory.
+    pub fn parse(alloc: Global, text: &str) -> Result<Option<Rule>, AllocError>
+        ensures { IfOk result (λ rule. rule ≡ rule_named text.now) }
+    {
+        let Some(code) = Code::from_name(before_colon(text)) else {
+            return Ok(None);
+        };
+        rule_with(alloc, code, text_after(text, ":"))
+    }
+
+    // Returns whether a finding is about the field of this rule, or the rule has none.
+    fn is_about(&self, finding: &Finding) -> bool
+        ensures { result ≡ spec.is_about self.now.field finding.now.message }
+    {
+        match &self.field {
+            Some(field) => names_field(finding.message.as_str(), field.as_str()),
+            None => true,
+        }
+    }
+
+    /// Returns whether this rule means a finding: the finding has the code. If the rule has a field, the finding's message contains its name
+    /// as a word, in any ASCII case, after the key of the entry.
+    pub fn means(&self, finding: &Finding) -> bool
+        ensures { result ≡ spec.means finding.now self.now }
+    {
+        self.code.name() == finding.code.name() && self.is_about(finding)
+    }
+}
+
+/// Returns whether one of these rules means a finding.
+pub fn mean(rules: &[Rule], finding: &Finding) -> bool
+    ensures { result ≡ spec.mean rules.now finding.now }
+{
+    rules.iter().any(|rule| rule.means(finding))
+}
+
+// Appends the rule with this name, without the white space around it. Appends none if no code has the name.
+fn push_named(alloc: Global, rules: &mut Vec<Rule>, name: &str) -> Result<(), AllocError>
+    ensures { OnOk result (rules.new.items ≡ rules.old.items ++ spec.rules_named name.now) }
+{
+    if let Some(rule) = Rule::parse(alloc, name.trim())? {
+        rules.push(rule)?;
+    }
+    Ok(())
+}
+
+// Appends the rules in a comma-separated list.
+fn push_listed(alloc: Global, rules: &mut Vec<Rule>, list: &str) -> Result<(), AllocError>
+    ensures { OnOk result (rules.new.items ≡ rules.old.items ++ spec.rules_listed list.now) }
+{
+    'names: for name in list.split(',') {
+        push_named(alloc, rules, name)?;
+    }
+    Ok(())
+}
+
+// Returns the list of the rules that a line of a file switches off, or `None` if it is another line.
+fn switched_list(line: &str) -> Option<&str>
+    ensures { option_map (λ list. list.now) result ≡ text_after_prefix (codes "% bibkit: off ") line.now }
+{
+    line.strip_prefix("% bibkit: off ")
+}
+
+// Appends the rules that a line of a file switches off.
+fn push_switched(alloc: Global, rules: &mut Vec<Rule>, line: &str) -> Result<(), AllocError>
+    ensures { OnOk result (rules.new.items ≡ rules.old.items ++ rules_of_line line.now) }
+{
+    match switched_list(line) {
+        Some(list) => push_listed(alloc, rules, list),
+        None => Ok(()),
+    }
+}
+
+/// Returns the rules that lines of a file switch off: those that begin with `% bibkit: off ` and list rules, separated by commas. A name
+/// that is no code is passed over. The only error is out of memory.
+pub fn switched_off(alloc: Global, text: &str) -> Result<Vec<Rule>, AllocError>
+    ensures { IfOk result (λ rules. rules.items ≡ spec.switched_off text.now) }
+{
+    let mut rules = Vec::new(alloc);
+    'lines: for line in text.lines() {
+        push_switched(alloc, &mut rules, line)?;
+    }
+    Ok(rules)
+}
