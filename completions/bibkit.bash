@@ -97,7 +97,7 @@ _bibkit() {
         [ "$command" = recode ] && options='--from --line-ends --bom --accents --file --write --help'
         [ "$command" = resolve ] && options='--not-inherited --write --diff --help'
         [ "$command" = lint ] && options='--only --ignore --explain --format --fail-on --cited --unused --each --where --color --stdin-filename
-            --fix --write --diff --help'
+            --baseline --fix --write --diff --help'
         [[ $command =~ ^(keys|get)$ ]] && options='--where --help'
         mapfile -t COMPREPLY < <(compgen -W "$options" -- "$current")
         return

@@ -41,6 +41,7 @@ complete -c bibkit -n '__fish_seen_subcommand_from lint' -l unused -d 'Report en
 complete -c bibkit -n '__fish_seen_subcommand_from lint' -l each -d 'Check each file by itself, not all files as one database'
 complete -c bibkit -n '__fish_seen_subcommand_from lint' -x -l color -a 'auto always never' -d 'When to print colours'
 complete -c bibkit -n '__fish_seen_subcommand_from lint' -r -l stdin-filename -d 'The name of standard input in findings'
+complete -c bibkit -n '__fish_seen_subcommand_from lint' -r -l baseline -d 'Don\'t report the findings in this output of an earlier run'
 complete -c bibkit -n '__fish_seen_subcommand_from lint' -l fix -d 'Mend findings with one right remedy'
 complete -c bibkit -n '__fish_seen_subcommand_from lint' -l write -d 'Write the new texts to the files'
 complete -c bibkit -n '__fish_seen_subcommand_from lint' -l diff -d 'Print diffs'

@@ -100,7 +100,7 @@ for word in help --help -h; do
     done
 done
 run_start 'help of lint' 0 $'Report errors and likely mistakes in files\n\nUsage: bibkit lint [OPTIONS] [FILE]...\n' lint --help
-for option in '--only <CODES>' '--ignore <CODES>' '--explain <CODE>' '--format <FORMAT>' '--fail-on <SEVERITY>' '--cited <DOCUMENT>' '--unused' '--each' '--color <WHEN>' '--where <CONDITION>' '--stdin-filename <NAME>' --fix --write --diff; do
+for option in '--only <CODES>' '--ignore <CODES>' '--explain <CODE>' '--format <FORMAT>' '--fail-on <SEVERITY>' '--cited <DOCUMENT>' '--unused' '--each' '--color <WHEN>' '--where <CONDITION>' '--stdin-filename <NAME>' '--baseline <FILE>' --fix --write --diff; do
     holds "help of lint names $option" grep -qE "^      $option +[A-Z]" results
 done
 run_start 'help of keys' 0 $'Print the key of each entry\n\nUsage: bibkit keys [OPTIONS] [FILE]...\n' keys --help
@@ -132,6 +132,10 @@ run 'another command' 2 '' nothing
 run 'a wrong option' 2 '' lint --nothing
 holds 'a wrong option is named' messages_have --nothing
 run 'a wrong code' 2 '' lint --only no-code
+holds 'a wrong code is named' messages_have 'bibkit: `no-code` isn'"'"'t a code, alone or with a field as in `missing-field:publisher`. The codes are: unread-bytes syntax '
+run 'a wrong code with a field' 2 '' lint --ignore syntax,no-code:title
+holds 'a wrong code with a field is named' messages_have 'bibkit: `no-code:title` isn'
+run 'a code with an empty field' 2 '' lint --ignore missing-field:
 run 'a wrong format' 2 '' lint --format xml
 run 'a wrong severity' 2 '' lint --fail-on note
 run 'unused entries of no document' 2 '' lint --unused
@@ -148,6 +152,52 @@ run 'no other code' 0 $'errors: 0, warnings: 0\n' lint --only syntax,duplicate-k
 run 'a code that is left out' 0 $'errors: 0, warnings: 0\n' lint --ignore missing-field one.bib
 run 'two options that leave codes out' 0 $'errors: 0, warnings: 0\n' lint --ignore syntax --ignore missing-field one.bib
 run 'a code that is asked for and left out' 0 $'errors: 0, warnings: 0\n' lint --only missing-field --ignore missing-field one.bib
+# codes with a field: a word of the text, after the key
+missing_title=$'one.bib:1:10: warning: test: missing title [missing-field]\n'
+missing_year=$'one.bib:1:10: warning: test: missing year [missing-field]\n'
+run 'a code and a field that are left out' 1 "$missing_title$missing_year"$'errors: 0, warnings: 2\n' lint --ignore missing-field:journaltitle one.bib
+run 'a code and a field in another case' 1 "$missing_year"$'errors: 0, warnings: 1\n' lint --only missing-field:YEAR one.bib
+run 'a code with two fields' 1 "$missing_title$missing_year"$'errors: 0, warnings: 2\n' lint --only missing-field:title,missing-field:year one.bib
+run 'a part of a word is no field' 0 $'errors: 0, warnings: 0\n' lint --only missing-field:journal one.bib
+run 'another code with the field' 1 "$lines_of_one"$'errors: 0, warnings: 3\n' lint --ignore empty-field:title one.bib
+printf '@article{title, author={A}, journaltitle={J}, nofields={x}}\n' >keyed.bib
+run 'a key is no field' 1 $'keyed.bib:1:10: warning: title: missing title [missing-field]\nerrors: 0, warnings: 1\n' lint --only missing-field:title keyed.bib
+run 'a field in backticks' 1 $'keyed.bib:1:47: warning: title: unknown field `nofields` [unknown-field]\nerrors: 0, warnings: 1\n' lint --only unknown-field:nofields keyed.bib
+# lines of a file that switch off codes in it
+printf '%% bibkit: off missing-field:year, missing-field:title,no-code,\n@article{test, author={A}}\n' >off.bib
+run 'codes that a file switches off' 1 $'off.bib:2:10: warning: test: missing journaltitle [missing-field]\nerrors: 0, warnings: 1\n' lint off.bib
+printf '%% Encoding: UTF-8\r\n\r\n@article{test, author={A}}\r\n\r\n%% bibkit: off missing-field\r\n' >off2.bib
+run 'codes that the last line switches off' 0 $'errors: 0, warnings: 0\n' lint off2.bib
+printf '%% bibkit: off missing-field\n@article{other, author={A}}\n' >off7.bib
+run 'a file switches off codes only for itself' 1 "$lines_of_one"$'errors: 0, warnings: 3\n' lint one.bib off7.bib
+run 'a file switches off nothing for the next one' 1 "$lines_of_one"$'errors: 0, warnings: 3\n' lint off7.bib one.bib
+run 'each file switches off for itself' 1 "$lines_of_one"$'errors: 0, warnings: 3\n' lint --each off7.bib one.bib
+for line in ' %% bibkit: off missing-field' '%% bibkit:off missing-field' '%%bibkit: off missing-field' '%% bibkit: off missing-field missing-field' 'x %% bibkit: off missing-field'; do
+    printf "$line"'\n@article{test, author={A}, journaltitle={J}, title={T}}\n' >off3.bib
+    run "another line: $line" 1 $'off3.bib:2:10: warning: test: missing year [missing-field]\nerrors: 0, warnings: 1\n' lint off3.bib
+done
+printf '%% bibkit: off unused-entry\n@misc{a, title={A}}\n' >off4.bib
+printf '\\relax\n' >off4.aux
+run 'unused entries that a file switches off' 0 $'errors: 0, warnings: 0\n' lint --only unused-entry --cited off4.aux --unused off4.bib
+printf '%% bibkit: off unread-bytes\n@misc{a, title={caf\xe9}}\n' >off5.bib
+run 'bytes that are not UTF-8, switched off' 0 $'errors: 0, warnings: 0\n' lint --only unread-bytes off5.bib
+printf '%% bibkit: off unknown-field\n@book{a, author={A}, titel={T}, title={U}, publsher={P}, year=1999}\n' >off6.bib
+run 'no fix of what is switched off' 0 "$(cat off6.bib)"$'\n' lint --fix off6.bib
+tail -n 1 off6.bib >on6.bib
+# findings of an earlier run
+"$program" lint one.bib >known
+run 'accepted findings' 0 $'errors: 0, warnings: 0\n' lint --baseline known one.bib
+printf '\n\n@article{test, author={A}}\n' >moved.bib
+run 'accepted findings at other places' 0 $'errors: 0, warnings: 0\n' lint --baseline known moved.bib
+printf 'old.bib:7:7: warning: test: missing title [missing-field]\r\nx: error: test: missing year [missing-field]\n' >known2.txt
+run 'one accepted finding' 1 $'one.bib:1:10: warning: test: missing journaltitle [missing-field]\n'"$missing_year"$'errors: 0, warnings: 2\n' lint --baseline known2.txt one.bib
+printf '@article{other, author={A}, title={T}, year=1999}\n' >other.bib
+run 'accepted findings of several files' 1 $'other.bib:1:10: warning: other: missing journaltitle [missing-field]\nerrors: 0, warnings: 1\n' lint --baseline known one.bib other.bib
+run 'an empty file of accepted findings' 1 "$lines_of_one"$'errors: 0, warnings: 3\n' lint --baseline /dev/null one.bib
+run 'no file of accepted findings' 2 '' lint --baseline none.txt one.bib
+holds 'the missing file is named' messages_have 'bibkit: none.txt: '
+"$program" lint on6.bib >known6.txt
+run 'an accepted finding is not mended' 0 "$(cat on6.bib)"$'\n' lint --fix --baseline known6.txt on6.bib
 run 'two files' 1 $'broken.bib:1:7: warning: a: missing year [missing-field]\nbroken.bib:3:1: error: c: expected comma [syntax]\n'"$lines_of_one"$'errors: 1, warnings: 4\n' lint broken.bib one.bib
 cp one.bib input
 run 'standard input' 1 "${lines_of_one//one.bib/-}"$'errors: 0, warnings: 3\n' lint
@@ -1173,6 +1223,12 @@ cp links/end/t.bib "$(printf 'links/caf\xe9/own.bib')"
 (cd "$(printf 'links/caf\xe9')" && "$program" set a title=F -f own.bib --write) >/dev/null 2>messages
 holds 'a file in a folder whose name is not UTF-8' has "$(printf 'links/caf\xe9/own.bib')" $'@misc{a, title={F}}\n'
 holds 'nothing is left in that folder' are_in "$(printf 'links/caf\xe9')" 'own.bib three.bib'
+mkdir "$(printf 'links/caf\xe9/deep')"
+printf '@article{a, nofields={x}}\n' >"$(printf 'links/caf\xe9/deep/own.bib')"
+printf 'only = ["unknown-field"]\n' >"$(printf 'links/caf\xe9/bibkit.toml')"
+(cd "$(printf 'links/caf\xe9/deep')" && "$program" lint own.bib) >output 2>messages
+count 'settings above a folder whose name is not UTF-8' $? 1 $'own.bib:1:13: warning: a: unknown field `nofields` [unknown-field]\nerrors: 0, warnings: 1\n'
+rm -r "$(printf 'links/caf\xe9/deep')" "$(printf 'links/caf\xe9/bibkit.toml')"
 run_messages 'writing into a folder' 2 $'bibkit: written: it is a folder\n' remove a -f written --write
 printf '\xef\xbb\xbf@misc{a, title={A}}\r\n' >written/m.bib
 run 'a byte order mark in a file' 0 '' set a title=B -f written/m.bib --write

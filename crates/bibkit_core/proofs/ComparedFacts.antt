@@ -217,7 +217,8 @@ step_compared lint has_unused name document found old new before file bytes text
             ∙ ap₂ (λ b f. unused_findings b f says.entries) same.unused_is same.citations) p.reported);
         unused =
             subst
-            (λ l. ArePrinted l.style file decoded (selected_findings l.selection (off_in l decoded) p.kept) p.between p.second new.linting.tally)
+            (λ l.
+            ArePrinted l.style file decoded (selected_findings l.selection (off_in l decoded) p.kept) p.between p.second new.linting.tally)
             same.lint_is p.more;
         is = p.is ∙ ap (λ l. in_file l.style file (p.first ++ p.second)) same.lint_is;
         readings = refl;

@@ -84,7 +84,8 @@ pub record PrintsComparing (old : Comparing) (name bytes text : List ℕ) (new :
   pub are_unused : AreUnused old.document (string_bytes decoded.text) unused
   pub reported : AreReportedFindings old.linting.lint.now.conditions.items (string_bytes decoded.text) unused kept
   pub more : ArePrinted old.linting.lint.now.style name (string_bytes decoded.text)
-      (selected_findings old.linting.lint.now.selection (off_in old.linting.lint.now (string_bytes decoded.text)) kept) between second new.linting.tally
+      (selected_findings old.linting.lint.now.selection (off_in old.linting.lint.now (string_bytes decoded.text)) kept) between second
+      new.linting.tally
   pub is : text ≡ in_file old.linting.lint.now.style name (first ++ second)
 
 -- the text of the comparing task after the files, and its status

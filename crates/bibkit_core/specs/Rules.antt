@@ -29,9 +29,9 @@ rule_with code (Some field) = if length field == 0 then None else Some (record {
 abbrev pub rule_named : List ℕ → Option Rule
 rule_named text = option_and_then (λ code. rule_with code (text_after_part (codes ":") text)) (code_named (before_colon text))
 
--- whether a byte separates the words of a message: it is no ASCII letter or digit, hyphen, underscore or plus sign
-abbrev pub is_separator : ℕ → Bool
-is_separator b = not (is_ascii_alphanumeric b || (b == char.hyphen || (b == char.underscore || b == char.plus)))
+-- whether a byte ends a word of a message: it is no ASCII letter or digit, hyphen, underscore or plus sign
+abbrev pub ends_word : ℕ → Bool
+ends_word b = not (is_ascii_alphanumeric b || (b == char.hyphen || (b == char.underscore || b == char.plus)))
 
 -- the text of a message after the key of its entry, or all of it if it begins with no key. No key contains a space
 abbrev pub after_key : List ℕ → List ℕ
@@ -43,15 +43,15 @@ is_field_name field word = is_word word field
 
 -- whether a message contains the name of a field as a word, in any ASCII case, after the key of its entry
 abbrev pub names_field : List ℕ → List ℕ → Bool
-names_field field message = list_any (is_field_name field) (slice_split is_separator (after_key message))
+names_field field message = list_any (is_field_name field) (slice_split ends_word (after_key message))
 
 -- whether a message is about the field of a rule, or the rule has none
-abbrev pub is_about : Option (List ℕ) → List ℕ → Bool
-is_about field message = option_map_or (λ name. names_field name message) field true
+abbrev pub is_of_field : Option (List ℕ) → List ℕ → Bool
+is_of_field field message = option_map_or (λ name. names_field name message) field true
 
 -- whether a rule means a finding: it has the code of the rule, and is about the field of the rule, if the rule has one
 abbrev pub means : Finding → Rule → Bool
-means f rule = bytes_eq (code_name rule.code) (code_name f.code) && is_about rule.field f.message
+means f rule = bytes_eq (code_name rule.code) (code_name f.code) && is_of_field rule.field f.message
 
 -- whether one of these rules means a finding
 abbrev pub mean : List Rule → Finding → Bool

@@ -46,9 +46,9 @@ fn rule_with(alloc: Global, code: Code, field: Option<&str>) -> Result<Option<Ru
     }
 }
 
-// Returns whether a byte separates the words of a message: it occurs in no name of a field.
-fn is_separator(b: u8) -> bool
-    ensures { result ≡ spec.is_separator b }
+// Returns whether a byte ends a word of a message: it occurs in no name of a field.
+fn ends_word(b: u8) -> bool
+    ensures { result ≡ spec.ends_word b }
 {
     !(b.is_ascii_alphanumeric() || matches!(b, b'-' | b'_' | b'+'))
 }
@@ -74,7 +74,7 @@ fn is_field_name(word: &[u8], field: &str) -> bool
 fn names_field(message: &str, field: &str) -> bool
     ensures { result ≡ spec.names_field field.now message.now }
 {
-    let mut words = after_key(message).as_bytes().split(|b| is_separator(*b));
+    let mut words = after_key(message).as_bytes().split(|b| ends_word(*b));
     words.any(|word| is_field_name(word, field))
 }
 
@@ -91,8 +91,8 @@ impl Rule {
     }
 
     // Returns whether a finding is about the field of this rule, or the rule has none.
-    fn is_about(&self, finding: &Finding) -> bool
-        ensures { result ≡ spec.is_about self.now.field finding.now.message }
+    fn is_of_field(&self, finding: &Finding) -> bool
+        ensures { result ≡ spec.is_of_field self.now.field finding.now.message }
     {
         match &self.field {
             Some(field) => names_field(finding.message.as_str(), field.as_str()),
@@ -105,7 +105,7 @@ impl Rule {
     pub fn means(&self, finding: &Finding) -> bool
         ensures { result ≡ spec.means finding.now self.now }
     {
-        self.code.name() == finding.code.name() && self.is_about(finding)
+        self.code.name() == finding.code.name() && self.is_of_field(finding)
     }
 }
 

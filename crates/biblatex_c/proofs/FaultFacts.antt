@@ -11,7 +11,8 @@ use Rattle.biblatex_c.specs.Calls.{AreFaults}
 pub faults_found : {bytes begin found : List ℕ} (end : List ℕ) {status : ℕ} {lint : Lint} (begun ended : Linting)
     → BeginsLinting lint begun → lint.style ≡ style.Json
     → lint.selection.only.items ≡ [] → lint.selection.ignored.items ≡ [] → lint.selection.accepted ≡ None → lint.cited ≡ None
-    → lint.conditions.items ≡ [] → lint.has_switches ≡ false → lint.own.fields.items ≡ [] → lint.own.types.items ≡ [] → lint.own.abbreviations.items ≡ [] → begin ≡ linting_begins begun
+    → lint.conditions.items ≡ [] → lint.has_switches ≡ false
+    → lint.own.fields.items ≡ [] → lint.own.types.items ≡ [] → lint.own.abbreviations.items ≡ [] → begin ≡ linting_begins begun
     → linting_prints begun [] bytes found ended → linting_ends ended end status → AreFaults bytes ((begin ++ found) ++ end)
 faults_found {bytes} {begin} {found} end begun ended begins json only ignored accepted cited every switches fields types abbreviations opens
     prints ends =

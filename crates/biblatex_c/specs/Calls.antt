@@ -82,8 +82,8 @@ pub record IsWrittenAs (target : Target) (text answer : List ℕ) : Type 0 where
   pub of_text : IsBibliographyOf text bibliography
   pub is : answer ≡ exported_text target bibliography
 
--- `answer` is a JSON array of all findings of `bytes`, each with an empty file name: no code is selected, ignored or switched off, no finding
--- is accepted, no name is one of a project, and no document is compared
+-- `answer` is a JSON array of all findings of `bytes`, each with an empty file name: no code is selected, ignored or switched off, no
+-- finding is accepted, no name is one of a project, and no document is compared
 pub record AreFaults (bytes answer : List ℕ) : Type 0 where
   pub lint : Lint
   pub in_json : lint.style ≡ style.Json
