@@ -184,6 +184,13 @@ run 'bytes that are not UTF-8, switched off' 0 $'errors: 0, warnings: 0\n' lint 
 printf '%% bibkit: off unknown-field\n@book{a, author={A}, titel={T}, title={U}, publsher={P}, year=1999}\n' >off6.bib
 run 'no fix of what is switched off' 0 "$(cat off6.bib)"$'\n' lint --fix off6.bib
 tail -n 1 off6.bib >on6.bib
+# ISO-2022-JP
+printf '@misc{a, title={T}}\n@misc{b, title={\x1b$B4A;z\x1b(B}}\n' >japanese.bib
+japanese=$'japanese.bib:2:17: error: ISO-2022-JP from here on, which isn\'t decoded; convert the file to UTF-8 [unread-bytes]\n'
+run 'a text in ISO-2022-JP' 1 "$japanese"$'errors: 1, warnings: 0\n' lint --only unread-bytes japanese.bib
+run 'a text in ISO-2022-JP, with conditions' 0 $'errors: 0, warnings: 0\n' lint --only unread-bytes --where 'key = b' japanese.bib
+printf '@misc{a, title={\x1b(B\x1b}}\n' >latin.bib
+run 'other escape sequences' 0 $'errors: 0, warnings: 0\n' lint --only unread-bytes latin.bib
 # findings of an earlier run
 "$program" lint one.bib >known
 run 'accepted findings' 0 $'errors: 0, warnings: 0\n' lint --baseline known one.bib

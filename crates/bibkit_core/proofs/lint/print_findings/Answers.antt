@@ -3,7 +3,7 @@ use Rattle.std.proofs.lemmas.List.{take_more}
 use Rattle.bib_source.specs.Positions.{position_at}
 use Rattle.bibkit_core.proofs.FindingFacts.{none_added, step_printed, step_passed}
 use Rattle.bibkit_core.proofs.lint.print_findings.Goals as goal
-use Rattle.bibkit_core.proofs.lint.print_findings.Goals.{then-asks_for+in_ok-print_finding, else-asks_for}
+use Rattle.bibkit_core.proofs.lint.print_findings.Goals.{then-branch+in_ok-print_finding, else-branch}
 
 pub findings-init : goal.findings-init
 findings-init c = record { same = c.of_bytes-positions.ensures; added = none_added c.args.printed.now }
@@ -17,12 +17,12 @@ findings-preserved c =
     ∙ ap (λ g. take i c.args.found.now ++ g ∷ []) (sym c.finding-item.is) in
     record {
       same = c.position-start.ensures.same ∙ c.findings.invariant.same;
-      added = elim c.if-asks_for.branch [
-        | then-asks_for+in_ok-print_finding w ↦ step_printed c.args.lint.now.selection (take i c.args.found.now)
+      added = elim c.if-branch.branch [
+        | then-branch+in_ok-print_finding w ↦ step_printed c.args.lint.now.selection (take i c.args.found.now)
             (take (i + 1) c.args.found.now) f w.region_at-region.result grows
             (sym c.asks_for.ensures ∙ w.if-asks_for.true) w.region_at-region.ensures
             c.findings.invariant.added w.in_ok-print_finding.ensures w.printed-is
-        | else-asks_for w ↦ step_passed c.args.lint.now.selection (take i c.args.found.now) (take (i + 1) c.args.found.now) f grows
+        | else-branch w ↦ step_passed c.args.lint.now.selection (take i c.args.found.now) (take (i + 1) c.args.found.now) f grows
             (sym c.asks_for.ensures ∙ w.if-asks_for.false) c.findings.invariant.added w.printed-is
       ];
     }
