@@ -37,7 +37,7 @@ use Rattle.bib_findings.specs.References.{AreReferences}
 use Rattle.bib_findings.specs.Reported.{AreOfReport, reported_missing}
 use Rattle.bib_findings.specs.Stray.{stray_findings}
 use Rattle.bib_findings.specs.Types.{AreOfType}
-use Rattle.bib_findings.specs.UnusedDefinitions.{unused_findings}
+use Rattle.bib_findings.specs.UnusedDefinitions.{unused_definition_findings}
 use Rattle.bib_findings.specs.Urls.{url_findings}
 use Rattle.bib_findings.specs.Years.{year_findings}
 use Rattle.bib_findings.specs.declared.finding.Finding.{Finding}
@@ -136,4 +136,4 @@ pub record AreFindings (text : List ℕ) (found : List Finding) : Type 0 where
   pub recovery : IsFullRecovery text says skipped
   pub of_text : List Finding
   pub are : AreFindingsOf text says skipped of_text
-  pub sorted : AreSortedByPlace (of_text ++ unused_findings says skipped) found
+  pub sorted : AreSortedByPlace (of_text ++ unused_definition_findings says skipped) found

@@ -31,16 +31,16 @@ abbrev pub semicolon : ℕ
 semicolon = 59
 
 -- whether a byte may occur in the name of a tag or of a character reference: an ASCII letter or digit, a hyphen or a colon
-abbrev pub is_name_byte : ℕ → Bool
-is_name_byte b = is_ascii_alphanumeric b || b == char.hyphen || b == char.colon
+abbrev pub is_html_name_byte : ℕ → Bool
+is_html_name_byte b = is_ascii_alphanumeric b || b == char.hyphen || b == char.colon
 
 -- the name at the start of a text: the longest run of bytes that may occur in a name
-abbrev pub name_at : List ℕ → List ℕ
-name_at text = take_while is_name_byte text
+abbrev pub html_name_at : List ℕ → List ℕ
+html_name_at text = take_while is_html_name_byte text
 
 -- whether a byte directly after the name at the start of a text passes a test
 abbrev pub name_ends_by : (ℕ → Bool) → List ℕ → Bool
-name_ends_by test text = option_map_or test (slice_get text (length (name_at text))) false
+name_ends_by test text = option_map_or test (slice_get text (length (html_name_at text))) false
 
 -- names of tags: those of HTML, and those that publishers use
 abbrev pub tag_names : Names
@@ -61,7 +61,9 @@ ends_tag_name b = b == char.greater || b == char.slash || is_ascii_whitespace b
 -- the tag that consists of `start` and a name, if the text after `start` begins with a name of a tag and the end of the name
 abbrev pub tag_from : List ℕ → List ℕ → Option Markup
 tag_from start text =
-    if is_tag_name (name_at text) && name_ends_by ends_tag_name text then Some (Markup.tag (start ++ (name_at text ++ codes ">"))) else None
+    if is_tag_name (html_name_at text) && name_ends_by ends_tag_name text
+    then Some (Markup.tag (start ++ (html_name_at text ++ codes ">")))
+    else None
 
 -- the tag of which this is the text after `<`, if there is one; its name may have a slash before it
 abbrev pub tag_after_less : List ℕ → Option Markup
@@ -69,8 +71,8 @@ tag_after_less [] = tag_from (codes "<") []
 tag_after_less (b ∷ rest) = if b == char.slash then tag_from (codes "</") rest else tag_from (codes "<") (b ∷ rest)
 
 -- the names of the character references that are reported, in any ASCII case
-abbrev pub reference_names : Names
-reference_names = fields "amp apos gt hellip ldquo lsquo lt mdash nbsp ndash quot rdquo rsquo"
+abbrev pub character_reference_names : Names
+character_reference_names = fields "amp apos gt hellip ldquo lsquo lt mdash nbsp ndash quot rdquo rsquo"
 
 -- whether a byte is an `x`, in any case
 abbrev pub is_x : ℕ → Bool
@@ -85,15 +87,15 @@ is_character_number (b ∷ digits) =
 -- the character reference of which this is the text after `&`, if it begins with a known name and a semicolon
 abbrev pub named_reference : List ℕ → Option Markup
 named_reference text =
-    if is_known_name reference_names (name_at text) && name_ends_by (λ b. b == semicolon) text
-    then Some (Markup.reference (codes "&" ++ (name_at text ++ codes ";")))
+    if is_known_name character_reference_names (html_name_at text) && name_ends_by (λ b. b == semicolon) text
+    then Some (Markup.reference (codes "&" ++ (html_name_at text ++ codes ";")))
     else None
 
 -- the character reference of which this is the text after `&#`, if it begins with the number of a character and a semicolon
 abbrev pub numeric_reference : List ℕ → Option Markup
 numeric_reference text =
-    if is_character_number (name_at text) && name_ends_by (λ b. b == semicolon) text
-    then Some (Markup.reference (codes "&#" ++ (name_at text ++ codes ";")))
+    if is_character_number (html_name_at text) && name_ends_by (λ b. b == semicolon) text
+    then Some (Markup.reference (codes "&#" ++ (html_name_at text ++ codes ";")))
     else None
 
 -- the character reference of which this is the text after `&`, if there is one

@@ -37,29 +37,30 @@ abbrev pub used_by_definition : FieldReading → Names
 used_by_definition f = flat_map (other_abbreviation_in f.name.text) f.value.pieces
 
 -- the names of the abbreviations that the entries and the definitions of a file use
-abbrev pub used_names : FileReading → Names
-used_names says = flat_map used_by_entry says.entries ++ flat_map used_by_definition says.abbreviations
+abbrev pub used_abbreviations : FileReading → Names
+used_abbreviations says = flat_map used_by_entry says.entries ++ flat_map used_by_definition says.abbreviations
 
 -- whether these names contain that of a definition
-abbrev pub is_used : Names → FieldReading → Bool
-is_used used f = list_any (str_eq_ignore_ascii_case f.name.text) used
+abbrev pub is_used_abbreviation : Names → FieldReading → Bool
+is_used_abbreviation used f = list_any (str_eq_ignore_ascii_case f.name.text) used
 
 -- the message about an abbreviation with this name
 abbrev pub unused_message : List ℕ → List ℕ
 unused_message name = codes "no field uses the abbreviation `" ++ (name ++ codes "`")
 
 -- the finding of a definition of an abbreviation that nothing uses, at its name
-abbrev pub unused_finding : FieldReading → Finding
-unused_finding f = finding_at UnusedDefinition (part_range f.name) (unused_message f.name.text)
+abbrev pub unused_definition_finding : FieldReading → Finding
+unused_definition_finding f = finding_at UnusedDefinition (part_range f.name) (unused_message f.name.text)
 
 -- the finding of a definition if its abbreviation isn't used, and none of the earlier definitions is of the same abbreviation
 abbrev pub unused_after : Names → List FieldReading → FieldReading → List Finding
-unused_after used earlier f = if is_used used f || list_any (have_one_name f) earlier then [] else unused_finding f ∷ []
+unused_after used earlier f =
+    if is_used_abbreviation used f || list_any (have_one_name f) earlier then [] else unused_definition_finding f ∷ []
 
 -- the findings of the abbreviations that no field of an entry and no definition of another abbreviation uses: one for each, at its first
 -- definition. A text without an entry may be meant for other files, and a skipped block may use any abbreviation, so such texts have no
 -- such finding
-abbrev pub unused_findings : FileReading → List SkippedBlock → List Finding
-unused_findings says skipped =
+abbrev pub unused_definition_findings : FileReading → List SkippedBlock → List Finding
+unused_definition_findings says skipped =
     if length says.entries == 0 || not (length skipped == 0) then []
-    else each_after (unused_after (used_names says)) [] says.abbreviations
+    else each_after (unused_after (used_abbreviations says)) [] says.abbreviations

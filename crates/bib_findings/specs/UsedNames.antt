@@ -8,13 +8,13 @@ use Rattle.bib_tables.specs.Requirements.{Names}
 use Rattle.bib_syntax.specs.Reading.{FieldReading}
 
 -- the texts of borrowed names
-abbrev pub texts_of : List (Bor (List ℕ)) → Names
-texts_of names = map (λ name. name.now) names
+abbrev pub borrowed_texts : List (Bor (List ℕ)) → Names
+borrowed_texts names = map (λ name. name.now) names
 
 -- the names of definitions
-abbrev pub definition_names : List FieldReading → Names
-definition_names definitions = map (λ f. f.name.text) definitions
+abbrev pub names_of_definitions : List FieldReading → Names
+names_of_definitions definitions = map (λ f. f.name.text) definitions
 
 -- whether a set has exactly these names in ASCII lowercase
-abbrev pub HasNames : (List ℕ → Bool) → Names → Type 0
-HasNames has names = (name : List ℕ) → has name ≡ list_any (λ one. bytes_eq name (str_to_ascii_lowercase one)) names
+abbrev pub HasLowercaseNames : (List ℕ → Bool) → Names → Type 0
+HasLowercaseNames has names = (name : List ℕ) → has name ≡ list_any (λ one. bytes_eq name (str_to_ascii_lowercase one)) names

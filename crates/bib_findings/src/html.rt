@@ -51,14 +51,14 @@ static REFERENCE_NAMES: [&str; 13] = [
 
 // Returns whether a byte may occur in the name of a tag or of a character reference: an ASCII letter or digit, `-` or `:`.
 fn is_name_byte(b: u8) -> bool
-    ensures { result ≡ spec.is_name_byte b }
+    ensures { result ≡ spec.is_html_name_byte b }
 {
     b.is_ascii_alphanumeric() || b == b'-' || b == b':'
 }
 
 // Returns those bytes at the start that may occur in a name.
 fn name_bytes(bytes: &[u8]) -> &[u8]
-    ensures { result.now ≡ take_while spec.is_name_byte bytes.now }
+    ensures { result.now ≡ take_while spec.is_html_name_byte bytes.now }
 {
     'bytes: for (index, b) in bytes.iter().enumerate() {
         if !is_name_byte(*b) {
@@ -70,7 +70,7 @@ fn name_bytes(bytes: &[u8]) -> &[u8]
 
 // Returns those bytes at the start that may occur in a name, as a text.
 fn name_at(bytes: &[u8]) -> &str
-    ensures { result.now ≡ take_while spec.is_name_byte bytes.now }
+    ensures { result.now ≡ take_while spec.is_html_name_byte bytes.now }
 {
     match from_utf8(name_bytes(bytes)) {
         Ok(name) => name,

@@ -10,8 +10,8 @@ ghost use Rattle.bib_syntax.specs.Reading.{FieldReading};
 ghost use Rattle.bib_syntax.specs.Views.{entry_reading_of, field_of, file_of, piece_of};
 ghost use Rattle.bib_findings.specs.After.{each_after};
 ghost use Rattle.bib_findings.specs.UnusedDefinitions as spec;
-ghost use Rattle.bib_findings.specs.UnusedDefinitions.{abbreviation_in, abbreviations_in, other_abbreviation_in, unused_after, unused_findings, used_by_definition, used_by_entry, used_names};
-ghost use Rattle.bib_findings.specs.UsedNames.{HasNames, definition_names, texts_of};
+ghost use Rattle.bib_findings.specs.UnusedDefinitions.{abbreviation_in, abbreviations_in, other_abbreviation_in, unused_after, unused_definition_findings, used_by_definition, used_by_entry, used_abbreviations};
+ghost use Rattle.bib_findings.specs.UsedNames.{HasLowercaseNames, names_of_definitions, borrowed_texts};
 
 use crate::codes::Code;
 use crate::finding::Finding;
@@ -23,7 +23,7 @@ use std::collections::BTreeSet;
 
 // Appends a name.
 fn push_name<'s>(names: &mut Vec<&'s str>, name: &'s str) -> Result<(), AllocError>
-    ensures { OnOk result (texts_of names.new.items ≡ texts_of names.old.items ++ name.now ∷ []) }
+    ensures { OnOk result (borrowed_texts names.new.items ≡ borrowed_texts names.old.items ++ name.now ∷ []) }
 {
     names.push(name)?;
     Ok(())
@@ -34,7 +34,7 @@ fn push_abbreviation<'s>(
     names: &mut Vec<&'s str>,
     piece: &Spanned<RawChunk<'s>>,
 ) -> Result<(), AllocError>
-    ensures { OnOk result (texts_of names.new.items ≡ texts_of names.old.items ++ abbreviation_in (piece_of piece.now)) }
+    ensures { OnOk result (borrowed_texts names.new.items ≡ borrowed_texts names.old.items ++ abbreviation_in (piece_of piece.now)) }
 {
     match piece.v {
         RawChunk::Normal(_) => Ok(()),
@@ -44,7 +44,7 @@ fn push_abbreviation<'s>(
 
 // Appends the names of the abbreviations in the value of a field.
 fn push_abbreviations<'s>(names: &mut Vec<&'s str>, field: &Pair<'s>) -> Result<(), AllocError>
-    ensures { OnOk result (texts_of names.new.items ≡ texts_of names.old.items ++ abbreviations_in (field_of field.now)) }
+    ensures { OnOk result (borrowed_texts names.new.items ≡ borrowed_texts names.old.items ++ abbreviations_in (field_of field.now)) }
 {
     'pieces: for piece in &field.value.v {
         push_abbreviation(names, piece)?;
@@ -57,7 +57,7 @@ fn push_of_entry<'s>(
     names: &mut Vec<&'s str>,
     said: &Spanned<RawEntry<'s>>,
 ) -> Result<(), AllocError>
-    ensures { OnOk result (texts_of names.new.items ≡ texts_of names.old.items ++ used_by_entry (entry_reading_of said.now)) }
+    ensures { OnOk result (borrowed_texts names.new.items ≡ borrowed_texts names.old.items ++ used_by_entry (entry_reading_of said.now)) }
 {
     'fields: for field in &said.v.fields {
         push_abbreviations(names, field)?;
@@ -70,7 +70,7 @@ fn push_of_entries<'s>(
     names: &mut Vec<&'s str>,
     said: &[Spanned<RawEntry<'s>>],
 ) -> Result<(), AllocError>
-    ensures { OnOk result (texts_of names.new.items ≡ texts_of names.old.items
+    ensures { OnOk result (borrowed_texts names.new.items ≡ borrowed_texts names.old.items
         ++ flat_map used_by_entry (map entry_reading_of said.now)) }
 {
     'said: for one in said {
@@ -81,7 +81,7 @@ fn push_of_entries<'s>(
 
 // Appends a name, unless it is `own` in any ASCII case.
 fn push_unless_own<'s>(names: &mut Vec<&'s str>, own: &str, name: &'s str) -> Result<(), AllocError>
-    ensures { OnOk result (texts_of names.new.items ≡ texts_of names.old.items
+    ensures { OnOk result (borrowed_texts names.new.items ≡ borrowed_texts names.old.items
         ++ (if str_eq_ignore_ascii_case name.now own.now then [] else name.now ∷ [])) }
 {
     if name.eq_ignore_ascii_case(own) {
@@ -96,7 +96,7 @@ fn push_other<'s>(
     own: &str,
     piece: &Spanned<RawChunk<'s>>,
 ) -> Result<(), AllocError>
-    ensures { OnOk result (texts_of names.new.items ≡ texts_of names.old.items
+    ensures { OnOk result (borrowed_texts names.new.items ≡ borrowed_texts names.old.items
         ++ other_abbreviation_in own.now (piece_of piece.now)) }
 {
     match piece.v {
@@ -107,7 +107,7 @@ fn push_other<'s>(
 
 // Appends the names of the other abbreviations in the value of a definition.
 fn push_of_definition<'s>(names: &mut Vec<&'s str>, definition: &Pair<'s>) -> Result<(), AllocError>
-    ensures { OnOk result (texts_of names.new.items ≡ texts_of names.old.items ++ used_by_definition (field_of definition.now)) }
+    ensures { OnOk result (borrowed_texts names.new.items ≡ borrowed_texts names.old.items ++ used_by_definition (field_of definition.now)) }
 {
     'pieces: for piece in &definition.value.v {
         push_other(names, definition.key.v, piece)?;
@@ -120,7 +120,7 @@ fn push_of_definitions<'s>(
     names: &mut Vec<&'s str>,
     definitions: &[Pair<'s>],
 ) -> Result<(), AllocError>
-    ensures { OnOk result (texts_of names.new.items ≡ texts_of names.old.items
+    ensures { OnOk result (borrowed_texts names.new.items ≡ borrowed_texts names.old.items
         ++ flat_map used_by_definition (map field_of definitions.now)) }
 {
     'definitions: for definition in definitions {
@@ -131,7 +131,7 @@ fn push_of_definitions<'s>(
 
 // Returns the names of the abbreviations that the entries and the definitions of a file use.
 fn used_names<'s>(alloc: Global, raw: &RawBibliography<'s>) -> Result<Vec<&'s str>, AllocError>
-    ensures { IfOk result (λ names. texts_of names.items ≡ used_names (file_of raw.now)) }
+    ensures { IfOk result (λ names. borrowed_texts names.items ≡ used_abbreviations (file_of raw.now)) }
 {
     let mut names = Vec::new(alloc);
     push_of_entries(&mut names, &raw.entries)?;
@@ -141,9 +141,9 @@ fn used_names<'s>(alloc: Global, raw: &RawBibliography<'s>) -> Result<Vec<&'s st
 
 // Inserts a name in ASCII lowercase. Returns whether it is new.
 fn insert_name(alloc: Global, set: &mut BTreeSet<String>, name: &str) -> Result<bool, AllocError>
-    ensures set { OnOk result ((names : Names) → HasNames (contains_text set.old) names
-        → HasNames (contains_text set.new) (names ++ name.now ∷ [])) }
-    ensures new { IfOk result (λ is_new. (names : Names) → HasNames (contains_text set.old) names
+    ensures set { OnOk result ((names : Names) → HasLowercaseNames (contains_text set.old) names
+        → HasLowercaseNames (contains_text set.new) (names ++ name.now ∷ [])) }
+    ensures new { IfOk result (λ is_new. (names : Names) → HasLowercaseNames (contains_text set.old) names
         → is_new ≡ not (list_any (str_eq_ignore_ascii_case name.now) names)) }
 {
     let lower = name.to_ascii_lowercase(alloc)?;
@@ -152,7 +152,7 @@ fn insert_name(alloc: Global, set: &mut BTreeSet<String>, name: &str) -> Result<
 
 // Returns the set of these names in ASCII lowercase.
 fn name_set(alloc: Global, names: &[&str]) -> Result<BTreeSet<String>, AllocError>
-    ensures { IfOk result (λ set. HasNames (contains_text set) (texts_of names.now)) }
+    ensures { IfOk result (λ set. HasLowercaseNames (contains_text set) (borrowed_texts names.now)) }
 {
     let mut set = BTreeSet::new(alloc);
     'names: for name in names {
@@ -170,7 +170,7 @@ fn unused_message(alloc: Global, name: &str) -> Result<String, AllocError>
 
 // Returns the finding of a definition of an abbreviation that nothing uses.
 fn unused_finding(alloc: Global, definition: &Pair<'_>) -> Result<Finding, AllocError>
-    ensures { IfOk result (λ finding. finding ≡ spec.unused_finding (field_of definition.now)) }
+    ensures { IfOk result (λ finding. finding ≡ spec.unused_definition_finding (field_of definition.now)) }
 {
     let name = &definition.key;
     let message = unused_message(alloc, name.v)?;
@@ -189,7 +189,7 @@ fn add_if_new(
     definition: &Pair<'_>,
 ) -> Result<(), AllocError>
     ensures { OnOk result (found.new.items ≡ found.old.items
-        ++ (if is_new then spec.unused_finding (field_of definition.now) ∷ [] else [])) }
+        ++ (if is_new then spec.unused_definition_finding (field_of definition.now) ∷ [] else [])) }
 {
     if is_new {
         found.push(unused_finding(alloc, definition)?)?;
@@ -206,10 +206,10 @@ fn add_if_unused(
     definition: &Pair<'_>,
 ) -> Result<(), AllocError>
     ensures set { OnOk result ((used : Names) (earlier : List FieldReading)
-        → HasNames (contains_text set.old) (used ++ definition_names earlier)
-        → HasNames (contains_text set.new) (used ++ definition_names (earlier ++ field_of definition.now ∷ []))) }
+        → HasLowercaseNames (contains_text set.old) (used ++ names_of_definitions earlier)
+        → HasLowercaseNames (contains_text set.new) (used ++ names_of_definitions (earlier ++ field_of definition.now ∷ []))) }
     ensures added { OnOk result ((used : Names) (earlier : List FieldReading)
-        → HasNames (contains_text set.old) (used ++ definition_names earlier)
+        → HasLowercaseNames (contains_text set.old) (used ++ names_of_definitions earlier)
         → found.new.items ≡ found.old.items ++ unused_after used earlier (field_of definition.now)) }
 {
     let is_new = insert_name(alloc, set, definition.key.v)?;
@@ -223,7 +223,7 @@ fn add_unused_among(
     set: BTreeSet<String>,
     definitions: &[Pair<'_>],
 ) -> Result<(), AllocError>
-    ensures { OnOk result ((used : Names) → HasNames (contains_text set) used
+    ensures { OnOk result ((used : Names) → HasLowercaseNames (contains_text set) used
         → found.new.items ≡ found.old.items ++ each_after (unused_after used) [] (map field_of definitions.now)) }
 {
     let mut set = set;
@@ -241,7 +241,7 @@ pub(crate) fn add_unused(
     recovery: &RawRecovery<'_>,
 ) -> Result<(), AllocError>
     ensures { OnOk result (found.new.items ≡ found.old.items
-        ++ unused_findings (file_of recovery.now.raw) recovery.now.skipped.items) }
+        ++ unused_definition_findings (file_of recovery.now.raw) recovery.now.skipped.items) }
 {
     let raw = &recovery.raw;
     if raw.entries.is_empty() || !recovery.skipped.is_empty() {
