@@ -1,5 +1,5 @@
 -- Sets of names, and the definitions that nothing uses.
-use Rattle.std.proofs.Common.{◌≡◌, ℕ, ◌+◌, ◌<◌, Bool, true, false, not, cond, List, [], ◌∷◌, ◌++◌, length, get_or, take, map, refl, sym, ap, ◌∙◌, append_assoc}
+use Rattle.std.proofs.Common.{◌≡◌, ℕ, ◌+◌, ◌<◌, Bool, true, false, not, cond, List, [], ◌∷◌, ◌++◌, length, get_or, take, refl, sym, ap, ◌∙◌, append_assoc}
 use Rattle.std.specs.Prelude.{◌||◌}
 use Rattle.std.specs.Borrow.{Bor}
 use Rattle.std.specs.List.{list_any}
@@ -10,8 +10,7 @@ use Rattle.bib_tables.specs.Requirements.{Names}
 use Rattle.bib_syntax.specs.Reading.{FieldReading}
 use Rattle.bib_findings.specs.Foreign.{have_one_name}
 use Rattle.bib_findings.specs.UnusedDefinitions.{is_used_abbreviation, unused_after, unused_definition_finding}
-use Rattle.bib_findings.specs.UsedNames.{HasLowercaseNames, names_of_definitions, borrowed_texts}
-use Rattle.bib_findings.specs.declared.finding.Finding.{Finding}
+use Rattle.bib_findings.specs.UsedNames.{names_of_definitions, borrowed_texts}
 use Rattle.bib_findings.proofs.ListFacts.{any_of_map}
 
 -- the first names up to an index are those before it and the one at it

@@ -1,4 +1,4 @@
-use Rattle.std.proofs.Common.{◌≡◌, List, [], ◌++◌, map, take}
+use Rattle.std.proofs.Common.{◌≡◌, [], ◌++◌, map, take}
 use Rattle.std.specs.BTreeSet.{contains_text}
 use Rattle.bib_tables.specs.Requirements.{Names}
 use Rattle.bib_syntax.specs.Views.{field_of}
