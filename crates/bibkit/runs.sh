@@ -479,7 +479,7 @@ run 'an abbreviation with two texts in two files' 1 $'other.bib:1:9: warning: de
 run 'an abbreviation with two texts, and each file by itself' 0 $'other.bib:1:9: info: no field uses the abbreviation `JSL` [unused-definition]\nerrors: 0, warnings: 0, info: 1\n' lint --each --ignore unknown-abbreviation,url-scheme def.bib use.bib other.bib
 run 'an abbreviation that nothing uses in one file' 0 $'other.bib:1:9: info: no field uses the abbreviation `JSL` [unused-definition]\nerrors: 0, warnings: 0, info: 1\n' lint --ignore url-scheme other.bib
 run 'a file of definitions' 0 "$clean" lint def.bib
-run 'an abbreviation that nothing uses, and no selected entry' 0 "$clean" lint --where 'key = z' other.bib
+run 'an abbreviation that nothing uses is in no selected entry' 0 "$clean" lint --where 'key = o' --ignore url-scheme other.bib
 run 'a definition in a file, and one file alone' 1 "$undefined" lint use.bib
 run 'a definition in a file, and each file by itself' 1 "$undefined" lint --each def.bib use.bib
 run 'one file by itself' 1 "$undefined" lint --each use.bib
