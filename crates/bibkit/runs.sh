@@ -237,11 +237,11 @@ for code in unread-bytes syntax unread-field circular-abbreviation duplicate-key
     run_start "the meaning of $code" 0 "$code (error): " lint --explain $code no-file.bib
 done
 for code in unknown-abbreviation unread-date unknown-type missing-field superfluous-field malformed-field malformed-date unknown-field repeated-field \
-    wrong-isbn wrong-issn doi-address url-scheme malformed-name special-character two-years empty-key stray-field unknown-reference likely-duplicate \
+    wrong-isbn wrong-issn doi-address url-scheme malformed-name special-character html two-years empty-key stray-field unknown-reference likely-duplicate \
     key-case repeated-definition unused-entry; do
     run_start "the meaning of $code" 0 "$code (warning): " lint --explain $code no-file.bib
 done
-for code in not-a-number foreign-field empty-field early-parent; do
+for code in not-a-number foreign-field empty-field early-parent unused-definition; do
     run_start "the meaning of $code" 0 "$code (info): " lint --explain $code no-file.bib
 done
 run 'the whole meaning of a code' 0 'superfluous-field (warning): An entry of this type must not have this field. Remove it, or change the type of the entry.
@@ -261,6 +261,9 @@ run 'findings of an entry that is cut' 1 $'cut.bib:1:13: warning: k: unknown fie
 printf '@book{a, author={}, title={T}, year=2001, issn={0378-5954}}\n@misc{, title={T}, year=2001}\n' >empty.bib
 run 'a required field that is empty, a wrong ISSN and an empty key' 1 $'empty.bib:1:10: warning: a: empty author [missing-field]\nempty.bib:1:43: warning: a: wrong length or check digit in `issn` [wrong-issn]\nempty.bib:2:7: warning: an entry without a key; Biber skips it [empty-key]\nerrors: 0, warnings: 3\n' lint --only missing-field,empty-field,wrong-isbn,wrong-issn,empty-key empty.bib
 run 'findings that are information' 0 $'infos.bib:1:34: info: a: malformed volume: invalid number [not-a-number]\ninfos.bib:1:48: info: field owner of another program, 1 time [foreign-field]\nerrors: 0, warnings: 0, info: 2\n' lint infos.bib
+printf '@misc{a, title={<i>E. coli</i> & salt}, note={{A &amp; B}, $x<b>y$}, year={2000}}\n' >html.bib
+run 'a tag and a character reference' 1 $'html.bib:1:10: warning: a: HTML `<i>` in `title`; LaTeX prints it as text [html]\nhtml.bib:1:41: warning: a: HTML `&amp;` in `note`; LaTeX stops at `&` [html]\nerrors: 0, warnings: 2\n' lint html.bib
+run 'a field with a tag is not tested for special characters' 0 $'errors: 0, warnings: 0\n' lint --ignore html html.bib
 "$program" lint --format json infos.bib >output
 holds 'information in JSON' python3 -c 'import json, sys; found = json.load(open("output")); sys.exit([it["severity"] for it in found] != ["info", "info"])'
 
@@ -530,7 +533,10 @@ run 'a definition in the file after' 0 "$clean" lint use.bib def.bib
 run 'a definition in two files' 0 "$clean" lint def.bib use.bib def.bib
 printf '@string{JSL = "Other"}\n@misc{o, title={O}, year={2001}, url={www.example.org}}\n' >other.bib
 run 'an abbreviation with two texts in two files' 1 $'other.bib:1:9: warning: definition of `JSL` occurs again with another value; BibTeX and Biber use it for later entries [repeated-definition]\nother.bib:2:34: warning: o: `url` has no scheme such as `https:`; viewers take the link for a file [url-scheme]\nerrors: 0, warnings: 2\n' lint def.bib use.bib other.bib
-run 'an abbreviation with two texts, and each file by itself' 0 $'errors: 0, warnings: 0\n' lint --each --ignore unknown-abbreviation,url-scheme def.bib use.bib other.bib
+run 'an abbreviation with two texts, and each file by itself' 0 $'other.bib:1:9: info: no field uses the abbreviation `JSL` [unused-definition]\nerrors: 0, warnings: 0, info: 1\n' lint --each --ignore unknown-abbreviation,url-scheme def.bib use.bib other.bib
+run 'an abbreviation that nothing uses in one file' 0 $'other.bib:1:9: info: no field uses the abbreviation `JSL` [unused-definition]\nerrors: 0, warnings: 0, info: 1\n' lint --ignore url-scheme other.bib
+run 'a file of definitions' 0 "$clean" lint def.bib
+run 'an abbreviation that nothing uses is in no selected entry' 0 "$clean" lint --where 'key = o' --ignore url-scheme other.bib
 run 'a definition in a file, and one file alone' 1 "$undefined" lint use.bib
 run 'a definition in a file, and each file by itself' 1 "$undefined" lint --each def.bib use.bib
 run 'one file by itself' 1 "$undefined" lint --each use.bib

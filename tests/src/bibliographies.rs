@@ -42,6 +42,7 @@ fn answer_of_text(alloc: Global, call: &str, text: &str) -> Result<Option<String
         "raw settled" => raw::settled(alloc, text),
         "recover" => Ok(recovered::recover(alloc, text)?),
         "findings" => Ok(findings::findings(alloc, text)?),
+        "all findings" => Ok(findings::all_findings(alloc, text)?),
         "recovered origins" => Ok(recovered::origins(alloc, text)?),
         "recovered fronts" => Ok(recovered::recovered_prefixes(alloc, text)?),
         "raw twice" => raw::twice(alloc, text),

@@ -3,6 +3,7 @@ mod DemandFacts
 mod CountedFacts
 mod CountedIndexFacts
 mod ForeignFacts
+mod HtmlFacts
 mod IdentityFacts
 mod LackingFacts
 mod ListFacts
@@ -18,6 +19,7 @@ mod SharedFacts
 mod SpecialFacts
 mod StartFacts
 mod TypeFacts
+mod UnusedFacts
 mod WordFacts
 mod AfterFacts
 mod CutFacts

@@ -2,7 +2,7 @@
 -- Codes of findings: their names and severities.
 use Rattle.std.specs.Prelude.{ℕ, List, [], ◌∷◌, Option, bytes_eq, codes, find}
 use Rattle.bib_findings.specs.declared.codes.Code.{Code}
-use Rattle.bib_findings.specs.declared.codes.Code.TheVariants.{UnreadBytes, Syntax, UnreadField, UnknownAbbreviation, CircularAbbreviation, DuplicateKey, CircularReference, UnreadDate, UnknownType, MissingField, SuperfluousField, MalformedField, NotANumber, MalformedDate, UnknownField, ForeignField, RepeatedField, EmptyField, WrongIsbn, WrongIssn, DoiAddress, UrlScheme, MalformedName, SpecialCharacter, TwoYears, EmptyKey, StrayField, UnknownReference, LikelyDuplicate, KeyCase, EarlyParent, RepeatedDefinition, MissingEntry, UnusedEntry}
+use Rattle.bib_findings.specs.declared.codes.Code.TheVariants.{UnreadBytes, Syntax, UnreadField, UnknownAbbreviation, CircularAbbreviation, DuplicateKey, CircularReference, UnreadDate, UnknownType, MissingField, SuperfluousField, MalformedField, NotANumber, MalformedDate, UnknownField, ForeignField, RepeatedField, EmptyField, WrongIsbn, WrongIssn, DoiAddress, UrlScheme, MalformedName, SpecialCharacter, Html, TwoYears, EmptyKey, StrayField, UnknownReference, LikelyDuplicate, KeyCase, EarlyParent, RepeatedDefinition, UnusedDefinition, MissingEntry, UnusedEntry}
 use Rattle.bib_findings.specs.declared.codes.Severity.{Severity}
 use Rattle.bib_findings.specs.declared.codes.Severity.TheVariants.{Error, Warning, Info}
 
@@ -38,6 +38,7 @@ code_name DoiAddress = codes "doi-address"
 code_name UrlScheme = codes "url-scheme"
 code_name MalformedName = codes "malformed-name"
 code_name SpecialCharacter = codes "special-character"
+code_name Html = codes "html"
 code_name TwoYears = codes "two-years"
 code_name EmptyKey = codes "empty-key"
 code_name StrayField = codes "stray-field"
@@ -46,6 +47,7 @@ code_name LikelyDuplicate = codes "likely-duplicate"
 code_name KeyCase = codes "key-case"
 code_name EarlyParent = codes "early-parent"
 code_name RepeatedDefinition = codes "repeated-definition"
+code_name UnusedDefinition = codes "unused-definition"
 code_name MissingEntry = codes "missing-entry"
 code_name UnusedEntry = codes "unused-entry"
 
@@ -55,8 +57,8 @@ all_codes =
     UnreadBytes ∷ Syntax ∷ UnreadField ∷ UnknownAbbreviation ∷ CircularAbbreviation ∷ DuplicateKey ∷ CircularReference ∷ UnreadDate
     ∷ UnknownType ∷ MissingField ∷ SuperfluousField ∷ MalformedField ∷ NotANumber ∷ MalformedDate ∷ UnknownField ∷ ForeignField
     ∷ RepeatedField ∷ EmptyField ∷ WrongIsbn ∷ WrongIssn ∷ DoiAddress ∷ UrlScheme ∷ MalformedName ∷ SpecialCharacter
-    ∷ TwoYears ∷ EmptyKey ∷ StrayField ∷ UnknownReference ∷ LikelyDuplicate ∷ KeyCase ∷ EarlyParent ∷ RepeatedDefinition
-    ∷ MissingEntry ∷ UnusedEntry ∷ []
+    ∷ Html ∷ TwoYears ∷ EmptyKey ∷ StrayField ∷ UnknownReference ∷ LikelyDuplicate ∷ KeyCase ∷ EarlyParent ∷ RepeatedDefinition
+    ∷ UnusedDefinition ∷ MissingEntry ∷ UnusedEntry ∷ []
 
 -- the code that has this name, if there is one
 abbrev pub code_named : List ℕ → Option Code
@@ -76,4 +78,5 @@ severity_of NotANumber = Info
 severity_of ForeignField = Info
 severity_of EmptyField = Info
 severity_of EarlyParent = Info
+severity_of UnusedDefinition = Info
 severity_of _ = Warning

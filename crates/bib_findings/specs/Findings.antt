@@ -26,6 +26,7 @@ use Rattle.bib_findings.specs.Entries.{AreOfEach}
 use Rattle.bib_findings.specs.Errors.{block_finding, error_finding}
 use Rattle.bib_findings.specs.Fields.{address_findings, empty_findings, key_findings, repeated_findings}
 use Rattle.bib_findings.specs.Foreign.{foreign_findings}
+use Rattle.bib_findings.specs.Html.{printed_findings}
 use Rattle.bib_findings.specs.KeyCases.{case_findings}
 use Rattle.bib_findings.specs.Lacking.{AreLacking, with_flags}
 use Rattle.bib_findings.specs.MalformedDates.{date_findings}
@@ -34,9 +35,9 @@ use Rattle.bib_findings.specs.ParentOrder.{early_findings}
 use Rattle.bib_findings.specs.People.{name_findings}
 use Rattle.bib_findings.specs.References.{AreReferences}
 use Rattle.bib_findings.specs.Reported.{AreOfReport, reported_missing}
-use Rattle.bib_findings.specs.SpecialCharacters.{special_findings}
 use Rattle.bib_findings.specs.Stray.{stray_findings}
 use Rattle.bib_findings.specs.Types.{AreOfType}
+use Rattle.bib_findings.specs.UnusedDefinitions.{unused_definition_findings}
 use Rattle.bib_findings.specs.Urls.{url_findings}
 use Rattle.bib_findings.specs.Years.{year_findings}
 use Rattle.bib_findings.specs.declared.finding.Finding.{Finding}
@@ -54,9 +55,9 @@ own_findings missing said entry =
     ++ (empty_findings missing said
     ++ (number_findings said ++ (address_findings said ++ (url_findings said ++ date_findings said entry)))))
 
--- the findings of two different years, malformed names and special characters of an entry
+-- the findings of two different years, malformed names, and HTML or special characters of an entry
 abbrev pub text_findings : EntryReading → Entry → List Finding
-text_findings said entry = year_findings said entry ++ (name_findings said ++ special_findings said)
+text_findings said entry = year_findings said entry ++ (name_findings said ++ printed_findings said)
 
 -- the findings of a key and of single fields of an entry with these missing fields
 abbrev pub single_findings : Names → EntryReading → Entry → List Finding
@@ -108,9 +109,9 @@ pub record AreFindingsIn (skipped : List SkippedBlock) (lacking : List Bool) (er
   pub reports : AreOfEach AreOfKept said origins (with_flags lacking entries) of_entries
   pub sorted : AreSortedByPlace (map (block_finding said) skipped ++ (map error_finding errors ++ (of_entries ++ between))) found
 
--- whether these are all findings of a recovered text with this content and these skipped blocks. The content includes the complete parts of
--- the skipped blocks. The findings of a kept entry also use the fields that it inherits. The findings between entries use only the fields
--- that each entry has itself.
+-- whether these are the findings of a recovered text with this content and these skipped blocks. The text may be that of several files. The
+-- content includes the complete parts of the skipped blocks. The findings of a kept entry also use the fields that it inherits. The
+-- findings between entries use only the fields that each entry has itself.
 pub record AreFindingsOf (text : List ℕ) (says : FileReading) (skipped : List SkippedBlock) (found : List Finding) : Type 0 where
   pub own : List Entry
   pub names : ByText ℕ
@@ -127,9 +128,12 @@ pub record AreFindingsOf (text : List ℕ) (says : FileReading) (skipped : List 
   pub are_between : AreBetween text skipped names says.entries origins own says.abbreviations between
   pub are : AreFindingsIn skipped lacking (of_entries ++ of_references) says.entries origins entries between found
 
--- whether these are all findings of a file with this text
+-- whether these are all findings of a file with this text: those of the recovered text, and those of the abbreviations that nothing in
+-- this text uses, sorted by their starts
 pub record AreFindings (text : List ℕ) (found : List Finding) : Type 0 where
   pub says : FileReading
   pub skipped : List SkippedBlock
   pub recovery : IsFullRecovery text says skipped
-  pub are : AreFindingsOf text says skipped found
+  pub of_text : List Finding
+  pub are : AreFindingsOf text says skipped of_text
+  pub sorted : AreSortedByPlace (of_text ++ unused_definition_findings says skipped) found

@@ -14,6 +14,8 @@ pub mod Duplicates
 pub mod Findings
 pub mod FirstKeys
 pub mod Foreign
+pub mod Html
+pub mod HtmlParts
 pub mod Identities
 pub mod KeyCases
 pub mod Lacking
@@ -36,6 +38,8 @@ pub mod StandardNumbers
 pub mod Starts
 pub mod Stray
 pub mod Types
+pub mod UnusedDefinitions
 pub mod Urls
+pub mod UsedNames
 pub mod Words
 pub mod Years

@@ -2,11 +2,10 @@
 -- The findings of printed fields with a special character: one that is special to LaTeX, and occurs outside braces and math without a
 -- backslash before it.
 use Rattle.std.specs.Prelude.{ℕ, Bool, true, false, ◌==◌, ◌&&◌, ◌||◌, List, [], ◌∷◌, ◌++◌, chars, codes, encode_utf8, Option, Some, None, if◌then◌else◌}
-use Rattle.std.specs.List.{flat_map}
 use Rattle.std.specs.Option.{option_map_or}
 use Rattle.bib_text.specs.Characters as char
 use Rattle.bib_tables.specs.Requirements.{Names, fields}
-use Rattle.bib_syntax.specs.Reading.{EntryReading, FieldReading}
+use Rattle.bib_syntax.specs.Reading.{FieldReading}
 use Rattle.bib_findings.specs.Entries.{part_range}
 use Rattle.bib_findings.specs.Errors.{finding_at}
 use Rattle.bib_findings.specs.Fields.{named_message}
@@ -70,6 +69,10 @@ printed_fields =
     ++ (fields "organization origpublisher origtitle publisher reprinttitle school series shortjournal shorttitle subtitle title"
     ++ fields "titleaddon translator venue"))
 
+-- whether BibLaTeX prints the field of this name as text, in any ASCII case
+abbrev pub is_printed : List ℕ → Bool
+is_printed name = is_known_name printed_fields name
+
 -- the end of a message: the advice for a special character; `\^` is an accent
 abbrev pub special_remedy : ℕ → List ℕ
 special_remedy c = if c == char.circumflex then codes "; write `\\textasciicircum{}`" else codes " needs a backslash before it"
@@ -80,13 +83,6 @@ special_finding key f c =
     finding_at SpecialCharacter (part_range f.name)
     (named_message key (codes "`" ++ (encode_utf8 c ++ codes "` in ")) f.name.text (special_remedy c))
 
--- the finding of a field of the entry with this key, if it is printed and its value is one literal with a special character
+-- the finding of a printed field of the entry with this key, if its value is one literal with a special character
 abbrev pub specials_of : List ℕ → FieldReading → List Finding
-specials_of key f =
-    if is_known_name printed_fields f.name.text
-    then option_map_or (λ c. special_finding key f c ∷ []) (special_of (literal_text f.value.pieces)) []
-    else []
-
--- the findings of the fields of an entry with a special character
-abbrev pub special_findings : EntryReading → List Finding
-special_findings said = flat_map (specials_of said.key.text) said.fields
+specials_of key f = option_map_or (λ c. special_finding key f c ∷ []) (special_of (literal_text f.value.pieces)) []

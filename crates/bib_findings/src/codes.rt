@@ -78,6 +78,8 @@ pub enum Code {
     MalformedName,
     /// A printed field with a character that is special to LaTeX and has no backslash before it.
     SpecialCharacter,
+    /// A printed field with an HTML or XML tag, or with a character reference such as `&amp;`.
+    Html,
     /// A date with another year than the field `year` has.
     TwoYears,
     /// An entry with an empty key.
@@ -94,6 +96,8 @@ pub enum Code {
     EarlyParent,
     /// An abbreviation that `@string` defines again with another value.
     RepeatedDefinition,
+    /// An abbreviation that `@string` defines, and that no field of an entry and no other definition uses.
+    UnusedDefinition,
     /// A key that a document cites and no entry of the files has, as its key or in its field `ids`.
     MissingEntry,
     /// An entry that no document cites.
@@ -102,7 +106,7 @@ pub enum Code {
 
 // The codes in the order of their listing. First come errors of parsing and of inheriting, then findings about an entry's type, fields and
 // key. Then come those about references, duplicates, the case of keys and the order of entries, and last those about documents.
-static CODES: [Code; 34] = [
+static CODES: [Code; 36] = [
     Code::UnreadBytes,
     Code::Syntax,
     Code::UnreadField,
@@ -127,6 +131,7 @@ static CODES: [Code; 34] = [
     Code::UrlScheme,
     Code::MalformedName,
     Code::SpecialCharacter,
+    Code::Html,
     Code::TwoYears,
     Code::EmptyKey,
     Code::StrayField,
@@ -135,6 +140,7 @@ static CODES: [Code; 34] = [
     Code::KeyCase,
     Code::EarlyParent,
     Code::RepeatedDefinition,
+    Code::UnusedDefinition,
     Code::MissingEntry,
     Code::UnusedEntry,
 ];
@@ -176,6 +182,7 @@ impl Code {
             Self::UrlScheme => "url-scheme",
             Self::MalformedName => "malformed-name",
             Self::SpecialCharacter => "special-character",
+            Self::Html => "html",
             Self::TwoYears => "two-years",
             Self::EmptyKey => "empty-key",
             Self::StrayField => "stray-field",
@@ -184,6 +191,7 @@ impl Code {
             Self::KeyCase => "key-case",
             Self::EarlyParent => "early-parent",
             Self::RepeatedDefinition => "repeated-definition",
+            Self::UnusedDefinition => "unused-definition",
             Self::MissingEntry => "missing-entry",
             Self::UnusedEntry => "unused-entry",
         }
@@ -209,9 +217,11 @@ impl Code {
             | Self::DuplicateKey
             | Self::CircularReference
             | Self::MissingEntry => Severity::Error,
-            Self::NotANumber | Self::ForeignField | Self::EmptyField | Self::EarlyParent => {
-                Severity::Info
-            }
+            Self::NotANumber
+            | Self::ForeignField
+            | Self::EmptyField
+            | Self::EarlyParent
+            | Self::UnusedDefinition => Severity::Info,
             Self::UnknownAbbreviation
             | Self::UnreadDate
             | Self::UnknownType
@@ -227,6 +237,7 @@ impl Code {
             | Self::UrlScheme
             | Self::MalformedName
             | Self::SpecialCharacter
+            | Self::Html
             | Self::TwoYears
             | Self::EmptyKey
             | Self::StrayField
@@ -289,6 +300,8 @@ impl Code {
                 "A name in this list of people is empty, has more than two commas, begins or ends with a comma, or contains a semicolon or `et al.`. Biber skips an entry with nothing between two of the words `and` or with more than two commas in a name. Separate names by ` and `, write `and others` at the end, and put the name of an organization in braces.",
             Self::SpecialCharacter =>
                 "LaTeX reads the character `&`, `%`, `#`, `_` or `^` as a command, and stops or leaves out the rest of the line. Write a backslash before it, `\\textasciicircum{}` for `^`, or put math between dollar signs. Characters in braces, in math and in verbatim fields such as `url` aren't reported.",
+            Self::Html =>
+                "The field contains an HTML or XML tag such as `<i>`, or a character reference such as `&amp;`, as exports of publishers and of Crossref do. LaTeX prints a tag as text, and stops at the `&` of a reference. Write a command such as \\emph or \\textsubscript for the tag, and the character itself for the reference. Only the first tag or reference of a field is reported. Math isn't tested.",
             Self::TwoYears =>
                 "The field `date` begins with another year than the field `year` has. Biber takes the year of `date`, and BibTeX that of `year`. Remove one of the two.",
             Self::EmptyKey =>
@@ -305,6 +318,8 @@ impl Code {
                 "The field `crossref` names an earlier entry. If the document doesn't cite this parent itself, BibTeX reports a bad cross reference, and the entry inherits nothing. Biber inherits as usual. `fmt --sort` puts children before their parents.",
             Self::RepeatedDefinition =>
                 "An earlier `@string` defines the same abbreviation, in any case, with another value. BibTeX and Biber use the last definition before an entry, so the entries between the two have the earlier value. For all entries, this program uses the last definition whose name is written as in the entry. Remove one of the two definitions, or rename one of them.",
+            Self::UnusedDefinition =>
+                "No field of an entry and no other definition uses this abbreviation, in any case. Remove the definition if it isn't needed. A file without entries and a file with a skipped block aren't tested. If several files are read as one database, no definition is tested.",
             Self::MissingEntry =>
                 "A document cites a key that no entry of the files has as its key or in its field `ids`. Correct the key, or add the entry.",
             Self::UnusedEntry =>

@@ -19,6 +19,7 @@ use crate::errors::{add_blocks, add_errors};
 use crate::fields::{add_address, add_empty, add_empty_key, add_repeated};
 use crate::finding::Finding;
 use crate::foreign::add_foreign_fields;
+use crate::html::add_printed_fields;
 use crate::key_cases::add_cases;
 use crate::lacking::{flag_at, lacking_flags};
 use crate::malformed_dates::add_dates;
@@ -26,10 +27,10 @@ use crate::names::{FieldName, add_unknown_fields};
 use crate::parent_order::add_early;
 use crate::people::add_names;
 use crate::references::add_references;
-use crate::special_characters::add_specials;
 use crate::standard_numbers::add_numbers;
 use crate::stray::add_strays;
 use crate::types::add_unknown_type;
+use crate::unused_definitions::add_unused;
 use crate::urls::add_url;
 use crate::years::add_years;
 use bib_collections::names::Names;
@@ -62,7 +63,7 @@ fn add_own(
     add_dates(alloc, found, said, entry)
 }
 
-// Appends the findings of two different years, malformed names and special characters of an entry.
+// Appends the findings of two different years, malformed names, and HTML or special characters of an entry.
 fn add_texts(
     alloc: Global,
     found: &mut Vec<Finding>,
@@ -73,7 +74,7 @@ fn add_texts(
 {
     add_years(alloc, found, said, entry)?;
     add_names(alloc, found, said)?;
-    add_specials(alloc, found, said)
+    add_printed_fields(alloc, found, said)
 }
 
 // Appends the findings of a key and of single fields of an entry with these missing fields.
@@ -207,8 +208,8 @@ pub fn findings_in(
     sorted_by_place(found)
 }
 
-/// Returns all findings of a recovered text, sorted by their starts, with the codes of `findings`. Spans are in bytes of the text. The text
-/// may be that of several files (`JoinedFiles`). Then a file can use the definitions and the entries of the others, and an entry can be a
+/// Returns the findings of a recovered text, sorted by their starts, with the codes of `findings` except `UnusedDefinition`. Spans are in
+/// bytes of the text. The text may be that of several files (`JoinedFiles`). Then a file can use the definitions and the entries of the others, and an entry can be a
 /// duplicate of one in another file. Fails only if out of memory.
 pub fn findings_of(
     alloc: Global,
@@ -247,11 +248,14 @@ pub fn findings_of(
 
 /// Returns all findings of the text of a bibliography file, sorted by their starts. Recovers the text as
 /// `Bibliography::recover` does, so the complete fields of an entry with a syntax error have findings too. Spans are in bytes of
-/// the text. The codes `UnreadBytes`, `MissingEntry` and `UnusedEntry` don't occur, because they are about the bytes of the file
-/// or about documents. Fails only if out of memory.
+/// the text. Besides those of `findings_of`, it returns the findings of abbreviations that nothing in this text uses. The codes
+/// `UnreadBytes`, `MissingEntry` and `UnusedEntry` don't occur, because they are about the bytes of the file or about documents.
+/// Fails only if out of memory.
 pub fn findings(alloc: Global, text: &str) -> Result<Vec<Finding>, AllocError>
     ensures { IfOk result (λ found. AreFindings text.now found.items) }
 {
     let recovery = RawBibliography::recover_parts(alloc, text)?;
-    findings_of(alloc, text, &recovery)
+    let mut found = findings_of(alloc, text, &recovery)?;
+    add_unused(alloc, &mut found, &recovery)?;
+    sorted_by_place(found)
 }

@@ -5,15 +5,15 @@
 //! names, and the findings of its key and of single fields. `findings::between` reports unknown references, likely duplicates,
 //! text after an entry that reads as a field, keys that differ only in ASCII case, early parents, fields of other programs, and
 //! abbreviations that are defined again.
-//! `findings::findings_in` sorts all findings by their starts.
+//! `findings::findings_in` sorts all findings by their starts. `findings::findings` also reports the abbreviations that nothing uses.
 //!
 //! `codes` contains the codes and their explanations. `places` finds fields in an entry, and `cuts` finds the entries of skipped
 //! blocks. `lacking` finds the entries of which fields may be lost: those of skipped blocks, and those that refer to one by
 //! `crossref` or `xdata`, directly or through others. `demands` has the fields that BibLaTeX requires. `nearest` finds
 //! the known name that may be meant, `marks` selects the entries that may be the same work as another, and `outside` finds the text
 //! outside braces. `errors`, `types`, `entries`, `names`, `fields`, `standard_numbers`, `urls`, `malformed_dates`, `people`,
-//! `special_characters`, `years`, `stray`, `references`, `duplicates`, `key_cases`, `foreign`, `parent_order` and `definitions` make
-//! the findings; `duplicates` uses `identities`.
+//! `special_characters`, `html`, `years`, `stray`, `references`, `duplicates`, `key_cases`, `foreign`, `parent_order`, `definitions` and
+//! `unused_definitions` make the findings; `duplicates` uses `identities`.
 #![tactic(auto)]
 
 pub mod codes;
@@ -28,6 +28,7 @@ mod fields;
 pub mod finding;
 pub mod findings;
 mod foreign;
+mod html;
 pub mod identities;
 mod key_cases;
 pub mod lacking;
@@ -44,5 +45,6 @@ mod special_characters;
 mod standard_numbers;
 mod stray;
 mod types;
+mod unused_definitions;
 mod urls;
 mod years;

@@ -1,12 +1,11 @@
 //! Findings of special characters: those that are special to LaTeX, and occur outside braces and math without a backslash before them.
 
-ghost use Rattle.std.specs.Prelude.{◌≡◌, ◌++◌, map, option_map, IfOk, OnOk};
-ghost use Rattle.std.specs.List.{flat_map};
+ghost use Rattle.std.specs.Prelude.{◌≡◌, ◌++◌, IfOk, OnOk};
 ghost use Rattle.std.specs.String.{string_bytes};
 ghost use Rattle.std.specs.Str.{chars};
-ghost use Rattle.bib_syntax.specs.Views.{entry_reading_of, field_of};
+ghost use Rattle.bib_syntax.specs.Views.{field_of};
 ghost use Rattle.bib_findings.specs.SpecialCharacters as spec;
-ghost use Rattle.bib_findings.specs.SpecialCharacters.{special_findings, special_finding, specials_of};
+ghost use Rattle.bib_findings.specs.SpecialCharacters.{special_finding, specials_of};
 ghost use Rattle.bib_findings.specs.declared.special_characters.Zone.TheVariants.{InText};
 
 use crate::codes::Code;
@@ -15,14 +14,13 @@ use crate::finding::Finding;
 use crate::identities::literal_text;
 use crate::nearest::is_among;
 use crate::outside::outside_braces;
-use bib_syntax::raw::{Pair, RawEntry};
-use bib_text::spanned::Spanned;
+use bib_syntax::raw::Pair;
 use bib_text::text::Text;
 use std::alloc::{AllocError, Global};
 
-// The part of a text to which a character belongs.
+/// The part of a text to which a character belongs.
 #[derive(Clone, Copy)]
-enum Zone {
+pub(crate) enum Zone {
     // In the text itself.
     InText,
     // After a backslash in the text.
@@ -101,8 +99,8 @@ fn after_text(c: char) -> Zone
     }
 }
 
-// Returns the zone after a character.
-fn zone_after(zone: Zone, c: char) -> Zone
+/// Returns the zone after a character.
+pub(crate) fn zone_after(zone: Zone, c: char) -> Zone
     ensures { result ≡ spec.zone_after zone c }
 {
     match (zone, c) {
@@ -172,8 +170,15 @@ fn special_finding(
     })
 }
 
-// Appends the finding of a field of the entry with this key, if it is printed and its value is one literal with a special character.
-fn add_special(
+/// Returns whether BibLaTeX prints the field of this name as text, in any ASCII case.
+pub(crate) fn is_printed(name: &str) -> bool
+    ensures { result ≡ spec.is_printed name.now }
+{
+    is_among(&PRINTED_FIELDS, name)
+}
+
+/// Appends the finding of a printed field of the entry with this key, if its value is one literal with a special character.
+pub(crate) fn add_special(
     alloc: Global,
     found: &mut Vec<Finding>,
     key: &str,
@@ -181,39 +186,10 @@ fn add_special(
 ) -> Result<(), AllocError>
     ensures { OnOk result (found.new.items ≡ found.old.items ++ specials_of key.now (field_of field.now)) }
 {
-    if !is_among(&PRINTED_FIELDS, field.key.v) {
-        return Ok(());
-    }
     let outside = outside_braces(alloc, literal_text(&field.value.v))?;
     let Some(c) = first_special(&outside) else {
         return Ok(());
     };
     found.push(special_finding(alloc, key, field, c)?)?;
     Ok(())
-}
-
-// Appends a finding for each of these fields of the entry with this key that is printed and has a special character.
-fn add_special_among(
-    alloc: Global,
-    found: &mut Vec<Finding>,
-    key: &str,
-    fields: &[Pair<'_>],
-) -> Result<(), AllocError>
-    ensures { OnOk result (found.new.items ≡ found.old.items ++ flat_map (specials_of key.now) (map field_of fields.now)) }
-{
-    'fields: for field in fields {
-        add_special(alloc, found, key, field)?;
-    }
-    Ok(())
-}
-
-/// Appends a finding for each field of an entry that is printed and has a special character.
-pub(crate) fn add_specials(
-    alloc: Global,
-    found: &mut Vec<Finding>,
-    said: &Spanned<RawEntry<'_>>,
-) -> Result<(), AllocError>
-    ensures { OnOk result (found.new.items ≡ found.old.items ++ special_findings (entry_reading_of said.now)) }
-{
-    add_special_among(alloc, found, said.v.key.v, &said.v.fields)
 }

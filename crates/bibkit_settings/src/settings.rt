@@ -43,7 +43,7 @@ pub enum OutputFormat {
 }
 
 // The names of the codes of findings, in the order in which they are listed.
-static CODES: [&str; 34] = [
+static CODES: [&str; 36] = [
     "unread-bytes",
     "syntax",
     "unread-field",
@@ -68,6 +68,7 @@ static CODES: [&str; 34] = [
     "url-scheme",
     "malformed-name",
     "special-character",
+    "html",
     "two-years",
     "empty-key",
     "stray-field",
@@ -76,6 +77,7 @@ static CODES: [&str; 34] = [
     "key-case",
     "early-parent",
     "repeated-definition",
+    "unused-definition",
     "missing-entry",
     "unused-entry",
 ];

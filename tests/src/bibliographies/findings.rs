@@ -26,10 +26,10 @@ fn found(alloc: Global, file: &str) -> Result<Vec<Finding>, AllocError> {
     findings_in(alloc, &skipped, &lacking, &errors, &said, &origins, &entries, between)
 }
 
-/// All that is wrong in a file: each finding's place, code and message.
-pub(crate) fn findings(alloc: Global, file: &str) -> Result<String, AllocError> {
+// Each finding's place, code and message.
+fn lines(alloc: Global, found: &[Finding]) -> Result<String, AllocError> {
     let mut out = String::new(alloc);
-    for finding in &found(alloc, file)? {
+    for finding in found {
         if !out.is_empty() {
             out.push_str("; ")?;
         }
@@ -38,4 +38,14 @@ pub(crate) fn findings(alloc: Global, file: &str) -> Result<String, AllocError> 
         out.push_str(line.as_str())?;
     }
     Ok(out)
+}
+
+/// The findings of a recovered file, maybe one of several: each finding's place, code and message.
+pub(crate) fn findings(alloc: Global, file: &str) -> Result<String, AllocError> {
+    lines(alloc, &found(alloc, file)?)
+}
+
+/// The findings of a file by itself.
+pub(crate) fn all_findings(alloc: Global, file: &str) -> Result<String, AllocError> {
+    lines(alloc, &bib_findings::findings::findings(alloc, file)?)
 }

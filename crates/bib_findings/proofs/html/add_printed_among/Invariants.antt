@@ -1,10 +1,10 @@
 use Rattle.std.proofs.Common.{◌≡◌, ◌++◌, map, take}
 use Rattle.std.specs.List.{flat_map}
 use Rattle.bib_syntax.specs.Views.{field_of}
-use Rattle.bib_findings.specs.SpecialCharacters.{specials_of}
-use Rattle.bib_findings.proofs.special_characters.add_special_among.Given as goal
+use Rattle.bib_findings.specs.Html.{printed_finding}
+use Rattle.bib_findings.proofs.html.add_printed_among.Given as goal
 
 -- the findings of the first fields were appended
 abbrev pub invariant-fields : goal.invariant-fields
 invariant-fields l =
-    l.found.items ≡ l.initial.found.items ++ flat_map (specials_of l.key) (map field_of (take l.field-index l.fields))
+    l.found.items ≡ l.initial.found.items ++ flat_map (printed_finding l.key) (map field_of (take l.field-index l.fields))

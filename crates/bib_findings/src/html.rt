@@ -1,0 +1,313 @@
+//! Findings of printed fields: HTML, or else a special character.
+
+ghost use Rattle.std.specs.Prelude.{◌≡◌, ◌==◌, ◌++◌, false, map, option_map, slice_get, IfOk, OnOk};
+ghost use Rattle.std.specs.Char.{is_ascii_digit, is_ascii_hexdigit};
+ghost use Rattle.std.specs.List.{flat_map, list_all, take_while};
+ghost use Rattle.std.specs.Option.{option_map_or};
+ghost use Rattle.std.specs.String.{string_bytes};
+ghost use Rattle.bib_syntax.specs.Views.{entry_reading_of, field_of};
+ghost use Rattle.bib_findings.specs.Html as spec;
+ghost use Rattle.bib_findings.specs.Html.{printed_finding, printed_findings};
+ghost use Rattle.bib_findings.specs.HtmlParts.{markup_of};
+ghost use Rattle.bib_findings.specs.declared.special_characters.Zone.TheVariants.{InText};
+
+use crate::codes::Code;
+use crate::fields::named_message;
+use crate::finding::Finding;
+use crate::foreign::begins_with_any;
+use crate::identities::literal_text;
+use crate::nearest::is_among;
+use crate::special_characters::{Zone, add_special, is_printed, zone_after};
+use bib_syntax::raw::{Pair, RawEntry};
+use bib_text::spanned::Spanned;
+use bib_text::text::Text;
+use std::alloc::{AllocError, Global};
+use std::str::from_utf8;
+
+// A part of a text that is HTML.
+#[derive(Clone, Copy)]
+enum HtmlPart<'s> {
+    // A tag: `<` or `</`, and its name.
+    Tag(&'static str, &'s str),
+    // A character reference: `&` or `&#`, and its name or number.
+    Reference(&'static str, &'s str),
+}
+
+// The names of tags that exports of publishers and of Crossref contain.
+static TAG_NAMES: [&str; 19] = [
+    "a", "b", "bold", "br", "div", "em", "font", "i", "inf", "italic", "p", "sc", "scp", "span",
+    "strong", "sub", "sup", "tt", "u",
+];
+
+// The beginnings of the names of other such tags: those of JATS and of MathML.
+static TAG_PREFIXES: [&str; 2] = ["jats:", "mml:"];
+
+// The names of the character references.
+static REFERENCE_NAMES: [&str; 13] = [
+    "amp", "apos", "gt", "hellip", "ldquo", "lsquo", "lt", "mdash", "nbsp", "ndash", "quot",
+    "rdquo", "rsquo",
+];
+
+// Returns whether a byte may occur in the name of a tag or of a character reference: an ASCII letter or digit, `-` or `:`.
+fn is_name_byte(b: u8) -> bool
+    ensures { result ≡ spec.is_html_name_byte b }
+{
+    b.is_ascii_alphanumeric() || b == b'-' || b == b':'
+}
+
+// Returns those bytes at the start that may occur in a name.
+fn name_bytes(bytes: &[u8]) -> &[u8]
+    ensures { result.now ≡ take_while spec.is_html_name_byte bytes.now }
+{
+    'bytes: for (index, b) in bytes.iter().enumerate() {
+        if !is_name_byte(*b) {
+            return &bytes[..index];
+        }
+    }
+    bytes
+}
+
+// Returns those bytes at the start that may occur in a name, as a text.
+fn name_at(bytes: &[u8]) -> &str
+    ensures { result.now ≡ take_while spec.is_html_name_byte bytes.now }
+{
+    match from_utf8(name_bytes(bytes)) {
+        Ok(name) => name,
+        Err(_) => "",
+    }
+}
+
+// Returns whether tags with this name are reported, in any ASCII case.
+fn is_tag_name(name: &str) -> bool
+    ensures { result ≡ spec.is_tag_name name.now }
+{
+    is_among(&TAG_NAMES, name) || begins_with_any(&TAG_PREFIXES, name)
+}
+
+// Returns whether a byte is `>`, `/` or ASCII white space. One of these ends the name of a tag.
+fn ends_tag_name(b: u8) -> bool
+    ensures { result ≡ spec.ends_tag_name b }
+{
+    b == b'>' || b == b'/' || b.is_ascii_whitespace()
+}
+
+// Returns whether there is a byte at an index, and it ends the name of a tag.
+fn is_tag_name_ended(bytes: &[u8], index: usize) -> bool
+    ensures { result ≡ option_map_or spec.ends_tag_name (slice_get bytes.now index) false }
+{
+    match bytes.get(index) {
+        Some(b) => ends_tag_name(*b),
+        None => false,
+    }
+}
+
+// Returns whether there is a semicolon at an index.
+fn is_semicolon_at(bytes: &[u8], index: usize) -> bool
+    ensures { result ≡ option_map_or (λ b. b == spec.semicolon) (slice_get bytes.now index) false }
+{
+    match bytes.get(index) {
+        Some(b) => *b == b';',
+        None => false,
+    }
+}
+
+// Returns the tag that begins with `start`, if the bytes after it begin with a name of a tag and the end of the name.
+fn tag<'s>(start: &'static str, bytes: &'s [u8]) -> Option<HtmlPart<'s>>
+    ensures { option_map markup_of result ≡ spec.tag_from start.now bytes.now }
+{
+    let name = name_at(bytes);
+    if is_tag_name(name) && is_tag_name_ended(bytes, name.len()) {
+        Some(HtmlPart::Tag(start, name))
+    } else {
+        None
+    }
+}
+
+// Returns the tag of which these are the bytes after `<`, if there is one.
+fn tag_after_less(bytes: &[u8]) -> Option<HtmlPart<'_>>
+    ensures { option_map markup_of result ≡ spec.tag_after_less bytes.now }
+{
+    match bytes {
+        [b'/', rest @ ..] => tag("</", rest),
+        _ => tag("<", bytes),
+    }
+}
+
+// Returns whether all bytes are ASCII digits.
+fn are_digits(bytes: &[u8]) -> bool
+    ensures { result ≡ list_all is_ascii_digit bytes.now }
+{
+    bytes.iter().all(|b| b.is_ascii_digit())
+}
+
+// Returns whether all bytes are hexadecimal digits.
+fn are_hexadecimal(bytes: &[u8]) -> bool
+    ensures { result ≡ list_all is_ascii_hexdigit bytes.now }
+{
+    bytes.iter().all(|b| b.is_ascii_hexdigit())
+}
+
+// Returns whether bytes are the number of a character: ASCII digits, or `x` and hexadecimal digits.
+fn is_character_number(bytes: &[u8]) -> bool
+    ensures { result ≡ spec.is_character_number bytes.now }
+{
+    match bytes {
+        [b'x' | b'X', digits @ ..] => !digits.is_empty() && are_hexadecimal(digits),
+        _ => !bytes.is_empty() && are_digits(bytes),
+    }
+}
+
+// Returns the character reference that begins with `&`, if the bytes after it begin with a known name and a semicolon.
+fn named_reference(bytes: &[u8]) -> Option<HtmlPart<'_>>
+    ensures { option_map markup_of result ≡ spec.named_reference bytes.now }
+{
+    let name = name_at(bytes);
+    if is_among(&REFERENCE_NAMES, name) && is_semicolon_at(bytes, name.len()) {
+        Some(HtmlPart::Reference("&", name))
+    } else {
+        None
+    }
+}
+
+// Returns the character reference that begins with `&#`, if the bytes after it begin with the number of a character and a semicolon.
+fn numeric_reference(bytes: &[u8]) -> Option<HtmlPart<'_>>
+    ensures { option_map markup_of result ≡ spec.numeric_reference bytes.now }
+{
+    let name = name_at(bytes);
+    if is_character_number(name.as_bytes()) && is_semicolon_at(bytes, name.len()) {
+        Some(HtmlPart::Reference("&#", name))
+    } else {
+        None
+    }
+}
+
+// Returns the character reference of which these are the bytes after `&`, if there is one.
+fn reference_after_ampersand(bytes: &[u8]) -> Option<HtmlPart<'_>>
+    ensures { option_map markup_of result ≡ spec.reference_after_ampersand bytes.now }
+{
+    match bytes {
+        [b'#', rest @ ..] => numeric_reference(rest),
+        _ => named_reference(bytes),
+    }
+}
+
+// Returns the tag or the character reference with which bytes begin, if there is one.
+fn html_at(bytes: &[u8]) -> Option<HtmlPart<'_>>
+    ensures { option_map markup_of result ≡ spec.html_at bytes.now }
+{
+    match bytes {
+        [b'<', rest @ ..] => tag_after_less(rest),
+        [b'&', rest @ ..] => reference_after_ampersand(rest),
+        _ => None,
+    }
+}
+
+// Returns the tag or the character reference with which bytes in this zone begin, if there is one.
+fn html_in(zone: Zone, bytes: &[u8]) -> Option<HtmlPart<'_>>
+    ensures { option_map markup_of result ≡ spec.html_in zone bytes.now }
+{
+    match zone {
+        Zone::InText => html_at(bytes),
+        _ => None,
+    }
+}
+
+// Returns the first tag or character reference of bytes that is outside math and has no backslash before it.
+fn first_html(bytes: &[u8]) -> Option<HtmlPart<'_>>
+    ensures { option_map markup_of result ≡ spec.first_html InText bytes.now }
+{
+    let mut zone = Zone::InText;
+    'bytes: for (index, b) in bytes.iter().enumerate() {
+        let html = html_in(zone, &bytes[index..]);
+        if html.is_some() {
+            return html;
+        }
+        zone = zone_after(zone, char::from(*b));
+    }
+    None
+}
+
+// Returns a tag without its attributes, or a character reference.
+fn html_text(alloc: Global, html: HtmlPart<'_>) -> Result<String, AllocError>
+    ensures { IfOk result (λ text. string_bytes text ≡ spec.markup_text (markup_of html.entry)) }
+{
+    match html {
+        HtmlPart::Tag(start, name) => format!(in alloc; "{start}{name}>"),
+        HtmlPart::Reference(start, name) => format!(in alloc; "{start}{name};"),
+    }
+}
+
+// Returns the end of a message: how LaTeX reads a tag or a character reference.
+fn html_reading(html: HtmlPart<'_>) -> &'static str
+    ensures { result.now ≡ spec.markup_reading (markup_of html.entry) }
+{
+    match html {
+        HtmlPart::Tag(_, _) => "; LaTeX prints it as text",
+        HtmlPart::Reference(_, _) => "; LaTeX stops at `&`",
+    }
+}
+
+// Returns the finding of a field of the entry with this key, which contains this HTML.
+fn html_finding(
+    alloc: Global,
+    key: &str,
+    field: &Pair<'_>,
+    html: HtmlPart<'_>,
+) -> Result<Finding, AllocError>
+    ensures { IfOk result (λ finding. finding ≡ spec.html_finding key.now (field_of field.now) (markup_of html.entry)) }
+{
+    let markup = html_text(alloc, html)?;
+    let before = format!(in alloc; "HTML `{markup}` in ")?;
+    let message = named_message(alloc, key, &before, field.key.v, html_reading(html))?;
+    Ok(Finding {
+        code: Code::Html,
+        span: field.key.span.start..field.key.span.end,
+        message: Text::from_string(message),
+    })
+}
+
+// Appends the finding of HTML in a field of the entry with this key if the field is printed and its value is one literal, or else that of
+// a special character.
+fn add_printed(
+    alloc: Global,
+    found: &mut Vec<Finding>,
+    key: &str,
+    field: &Pair<'_>,
+) -> Result<(), AllocError>
+    ensures { OnOk result (found.new.items ≡ found.old.items ++ printed_finding key.now (field_of field.now)) }
+{
+    if !is_printed(field.key.v) {
+        return Ok(());
+    }
+    let Some(html) = first_html(literal_text(&field.value.v).as_bytes()) else {
+        return add_special(alloc, found, key, field);
+    };
+    found.push(html_finding(alloc, key, field, html)?)?;
+    Ok(())
+}
+
+// Appends, for each of these fields of the entry with this key that is printed, the finding of HTML, or else that of a special character.
+fn add_printed_among(
+    alloc: Global,
+    found: &mut Vec<Finding>,
+    key: &str,
+    fields: &[Pair<'_>],
+) -> Result<(), AllocError>
+    ensures { OnOk result (found.new.items ≡ found.old.items ++ flat_map (printed_finding key.now) (map field_of fields.now)) }
+{
+    'fields: for field in fields {
+        add_printed(alloc, found, key, field)?;
+    }
+    Ok(())
+}
+
+/// Appends a finding for each field of an entry that is printed and contains HTML, or else a special character.
+pub(crate) fn add_printed_fields(
+    alloc: Global,
+    found: &mut Vec<Finding>,
+    said: &Spanned<RawEntry<'_>>,
+) -> Result<(), AllocError>
+    ensures { OnOk result (found.new.items ≡ found.old.items ++ printed_findings (entry_reading_of said.now)) }
+{
+    add_printed_among(alloc, found, said.v.key.v, &said.v.fields)
+}
