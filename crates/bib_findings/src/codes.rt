@@ -30,7 +30,8 @@ impl Severity {
 /// The code of a finding: the problem that it reports.
 #[derive(Debug, Clone, Copy, PartialEq, Eq)]
 pub enum Code {
-    /// The first byte that isn't UTF-8; the whole file was decoded as Windows-1252.
+    /// The first byte that isn't UTF-8; the whole file was decoded as Windows-1252. Or the first Japanese text in ISO-2022-JP, which isn't
+    /// decoded.
     UnreadBytes,
     /// A block that can't be parsed. It is skipped; only its complete parts are kept.
     Syntax,
@@ -253,7 +254,7 @@ impl Code {
     pub fn explanation(self) -> &'static str {
         match self {
             Self::UnreadBytes =>
-                "From this byte on the file isn't UTF-8, so all of it was decoded as Windows-1252. Save the file as UTF-8.",
+                "From this byte on the file isn't UTF-8, so all of it was decoded as Windows-1252. Or it is ISO-2022-JP, which isn't decoded. Save the file as UTF-8.",
             Self::Syntax =>
                 "A block can't be parsed as an entry, a preamble, abbreviations or a comment. It is skipped, up to the next at sign that begins a line; only its complete parts are kept. Most often a comma, a brace or a quote is missing at the reported position, or before it.",
             Self::UnreadField =>

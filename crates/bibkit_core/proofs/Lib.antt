@@ -7,6 +7,7 @@ pub mod FindingFacts
 pub mod RunFacts
 pub mod TableFacts
 mod TallyFacts
+mod BaselineFacts
 mod Beside
 mod Outcomes
 mod RegionFacts

@@ -155,13 +155,13 @@ fn print_unread(
     print_findings(alloc, printed, lint, off, origin, &kept)
 }
 
-// Returns the finding that Japanese text in ISO-2022-JP begins at the byte offset `at`.
-fn japanese_finding(alloc: Global, at: usize) -> Result<Finding, AllocError>
-    ensures { IfOk result (λ finding. finding ≡ linted.japanese_finding at) }
+// Returns the finding that Japanese text in ISO-2022-JP begins at the byte offset `start`.
+fn japanese_finding(alloc: Global, start: usize) -> Result<Finding, AllocError>
+    ensures { IfOk result (λ finding. finding ≡ linted.japanese_finding start) }
 {
     Ok(Finding {
         code: Code::UnreadBytes,
-        span: at..at,
+        span: start..start,
         message: Text::from_str(
             alloc,
             "ISO-2022-JP from here on, which isn't decoded; convert the file to UTF-8",
@@ -196,8 +196,8 @@ fn print_japanese(
         (selected_findings lint.now.selection off.now
         (findings_of_no_entry lint.now.conditions.items (linted.japanese_findings text.now)))) printed.old printed.new) }
 {
-    let found = japanese_findings(alloc, text)?;
-    let kept = findings_of_no_entry(alloc, &lint.conditions, found);
+    let japanese = japanese_findings(alloc, text)?;
+    let kept = findings_of_no_entry(alloc, &lint.conditions, japanese);
     print_findings(alloc, printed, lint, off, origin, &kept)
 }
 

@@ -18,12 +18,12 @@ findings-preserved c =
     record {
       same = c.position-start.ensures.same ∙ c.findings.invariant.same;
       added = elim c.if-branch.branch [
-        | then-branch+in_ok-print_finding w ↦ step_printed c.args.lint.now.selection (take i c.args.found.now)
+        | then-branch+in_ok-print_finding w ↦ step_printed c.args.lint.now.selection c.args.off.now (take i c.args.found.now)
             (take (i + 1) c.args.found.now) f w.region_at-region.result grows
-            (sym c.asks_for.ensures ∙ w.if-asks_for.true) w.region_at-region.ensures
+            (sym c.in_ok-asks_for.ensures ∙ w.if-branch.true) w.region_at-region.ensures
             c.findings.invariant.added w.in_ok-print_finding.ensures w.printed-is
-        | else-branch w ↦ step_passed c.args.lint.now.selection (take i c.args.found.now) (take (i + 1) c.args.found.now) f grows
-            (sym c.asks_for.ensures ∙ w.if-asks_for.false) c.findings.invariant.added w.printed-is
+        | else-branch w ↦ step_passed c.args.lint.now.selection c.args.off.now (take i c.args.found.now) (take (i + 1) c.args.found.now) f grows
+            (sym c.in_ok-asks_for.ensures ∙ w.if-branch.false) c.findings.invariant.added w.printed-is
       ];
     }
 

@@ -1,4 +1,5 @@
-use Rattle.std.proofs.Common.{subst, ◌∙◌}
+use Rattle.std.proofs.Common.{ap, subst, ◌∙◌}
+use Rattle.std.specs.String.{string_bytes}
 use Rattle.bibkit_core.specs.Adding.{IsAdded}
 use Rattle.bibkit_core.specs.Asked.{selected_findings}
 use Rattle.bibkit_core.specs.Conditions.{findings_of_no_entry}
@@ -11,8 +12,7 @@ returns c =
     let lint = c.args.lint.now in
     let name = c.args.origin.now.name.now in
     let conditions = lint.conditions.items in
-    let text = c.args.decoded.now.text in
-    let off = c.in_ok-off.ensures in
+    let off = c.in_ok-off.ensures ∙ ap (off_in lint) c.deref.ensures in
     let unread =
     subst
     (λ o.
@@ -20,5 +20,44 @@ returns c =
     (ArePrinted lint.style name c.args.origin.now.bytes.now
     (selected_findings lint.selection o (findings_of_no_entry conditions (unread_findings c.args.decoded.now.invalid))))
     c.args.printed.now c.print_unread.new.printed)
-    off c.in_ok-print_unread.ensures in
-    kept_added c.args.kept.now unread ? ?
+    (c.deref-2.ensures.value ∙ off) c.in_ok-print_unread.ensures in
+    let japanese_at =
+    subst
+    (λ b.
+    IsAdded
+    (ArePrinted lint.style name b
+    (selected_findings lint.selection c.deref-3.result.now
+    (findings_of_no_entry conditions (japanese_findings c.deref-4.result.now))))
+    c.print_unread.new.printed c.print_japanese.new.printed)
+    c.as_bytes.ensures.value c.in_ok-print_japanese.ensures in
+    let japanese_in =
+    subst
+    (λ t.
+    IsAdded
+    (ArePrinted lint.style name (string_bytes c.args.decoded.now.text)
+    (selected_findings lint.selection c.deref-3.result.now (findings_of_no_entry conditions (japanese_findings t))))
+    c.print_unread.new.printed c.print_japanese.new.printed)
+    c.deref-4.ensures japanese_at in
+    let japanese =
+    subst
+    (λ o.
+    IsAdded
+    (ArePrinted lint.style name (string_bytes c.args.decoded.now.text)
+    (selected_findings lint.selection o
+    (findings_of_no_entry conditions (japanese_findings (string_bytes c.args.decoded.now.text)))))
+    c.print_unread.new.printed c.print_japanese.new.printed)
+    (c.deref-3.ensures.value ∙ off) japanese_in in
+    let placed =
+    subst
+    (λ b.
+    IsAdded (ArePrinted lint.style name b (selected_findings lint.selection c.deref-5.result.now c.args.kept.now))
+    c.print_japanese.new.printed c.print_findings.new.printed)
+    c.as_bytes.ensures.value c.in_ok-print_findings.ensures in
+    let of_text =
+    subst
+    (λ o.
+    IsAdded
+    (ArePrinted lint.style name (string_bytes c.args.decoded.now.text) (selected_findings lint.selection o c.args.kept.now))
+    c.print_japanese.new.printed c.print_findings.new.printed)
+    (c.deref-5.ensures.value ∙ off) placed in
+    kept_added c.args.kept.now unread japanese of_text

@@ -2,7 +2,7 @@ use Rattle.std.proofs.Common.{◌++◌, ap, subst, ◌∙◌}
 use Rattle.std.specs.String.{string_bytes}
 use Rattle.bibkit_core.specs.Asked.{selected_findings}
 use Rattle.bibkit_core.specs.Conditions.{AreReportedFindings}
-use Rattle.bibkit_core.specs.Linted.{ArePrinted}
+use Rattle.bibkit_core.specs.Linted.{ArePrinted, off_in}
 use Rattle.bibkit_core.specs.Marks.{AreKnownWith, AreUnused}
 use Rattle.bibkit_core.specs.Tasks.{in_file}
 use Rattle.bibkit_core.proofs.comparing.ComparingTask.file.Goals as goal
@@ -17,13 +17,22 @@ returns c =
     let of_lint =
     subst
     (λ l.
-    ArePrinted l.style c.args.name.now c.as_bytes.result.now (selected_findings l.selection c.deref-2.result.now) before
+    ArePrinted l.style c.args.name.now c.as_bytes.result.now
+    (selected_findings l.selection c.deref-2.result.now c.deref-3.result.now) before
     text after) c.in_ok-text.ensures.lint c.in_ok-more.ensures.printed in
     let lint = c.args.self.now.linting.lint.now in
+    let off =
+    c.deref-2.ensures.value ∙ c.in_ok-off.ensures ∙ ap (λ l. off_in l c.as_str-3.result.now) c.lint-lint.ensures
+    ∙ ap (off_in lint) c.as_str-3.ensures.value in
     let listed =
     subst
-    (λ f. ArePrinted lint.style c.args.name.now c.as_bytes.result.now (selected_findings lint.selection f) before text after)
-    c.deref-2.ensures.value of_lint in
+    (λ f.
+    ArePrinted lint.style c.args.name.now c.as_bytes.result.now (selected_findings lint.selection c.deref-2.result.now f) before text after)
+    c.deref-3.ensures.value of_lint in
+    let switched =
+    subst
+    (λ o. ArePrinted lint.style c.args.name.now c.as_bytes.result.now (selected_findings lint.selection o kept) before text after)
+    off listed in
     record {
       first = string_bytes c.in_ok-text.text;
       second = text;
@@ -48,9 +57,10 @@ returns c =
       more =
           subst
           (λ b.
-          ArePrinted lint.style c.args.name.now b (selected_findings lint.selection kept) before text
-          after) c.as_bytes.ensures.value listed;
+          ArePrinted lint.style c.args.name.now b
+          (selected_findings lint.selection (off_in lint (string_bytes c.in_ok-decoded.decoded.text)) kept) before text
+          after) c.as_bytes.ensures.value switched;
       is = c.in_ok-output.ensures ∙ ap (λ l. in_file l.style c.args.name.now (string_bytes c.push_str.new.self)) c.lint-lint.ensures
           ∙ ap (in_file lint.style c.args.name.now)
-          (c.in_ok-push_str.ensures.bytes ∙ ap (λ t. string_bytes c.in_ok-text.text ++ t) c.deref-3.ensures);
+          (c.in_ok-push_str.ensures.bytes ∙ ap (λ t. string_bytes c.in_ok-text.text ++ t) c.deref-4.ensures);
     }

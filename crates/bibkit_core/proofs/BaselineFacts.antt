@@ -1,0 +1,33 @@
+-- Facts about the texts of accepted findings.
+use Rattle.std.proofs.Common.{◌≡◌, ◌||◌, ℕ, Bool, true, false, cond, List, [], ◌∷◌, ◌++◌, refl, sym, ap, ◌∙◌, append-nil}
+use Rattle.std.specs.List.{flat_map, list_any}
+use Rattle.std.specs.Prelude.{bytes_eq}
+use Rattle.std.proofs.lemmas.List.Concat.{flat_map-append}
+use Rattle.std.proofs.lemmas.List.Folds.{list_any-append}
+use Rattle.bib_queries.specs.Needed.{is_listed}
+use Rattle.bibkit_core.specs.Baselines.{texts_of_line}
+
+-- a text is the one in a list, or another condition holds
+or_of_one : (b c : Bool) → ((b || false) || c) ≡ cond b true c
+or_of_one true c = refl
+or_of_one false c = refl
+
+-- a list of one text contains a text exactly if they are equal
+pub one_listed : (t text : List ℕ) (c : Bool) → (is_listed (t ∷ []) text || c) ≡ cond (bytes_eq t text) true c
+one_listed t text c = or_of_one (bytes_eq t text) c
+
+or_turned : (x y : Bool) → (x || y) ≡ (y || x)
+or_turned true true = refl
+or_turned true false = refl
+or_turned false true = refl
+or_turned false false = refl
+
+-- the texts of one more line are among those of all lines
+pub listed_more : (lines : List (List ℕ)) (line text : List ℕ)
+    → is_listed (flat_map texts_of_line (lines ++ line ∷ [])) text
+    ≡ (is_listed (texts_of_line line) text || is_listed (flat_map texts_of_line lines) text)
+listed_more lines line text =
+    ap (λ l. is_listed l text)
+    (flat_map-append texts_of_line lines (line ∷ []) ∙ ap (λ l. flat_map texts_of_line lines ++ l) (append-nil (texts_of_line line)))
+    ∙ list_any-append (λ one. bytes_eq one text) (flat_map texts_of_line lines) (texts_of_line line)
+    ∙ or_turned (is_listed (flat_map texts_of_line lines) text) (is_listed (texts_of_line line) text)
