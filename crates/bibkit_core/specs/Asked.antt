@@ -1,6 +1,6 @@
 -- Meaning: words of public contracts.
 -- The selection of findings: by rules of the command line, of the project and of the file, and by the findings of an earlier run.
-use Rattle.std.specs.Prelude.{ℕ, Bool, true, false, ◌||◌, ◌&&◌, not, List, [], ◌∷◌, filter}
+use Rattle.std.specs.Prelude.{Bool, true, false, ◌||◌, ◌&&◌, not, List, [], ◌∷◌, filter}
 use Rattle.std.specs.BTreeSet.{contains_text}
 use Rattle.std.specs.Option.{option_map_or}
 use Rattle.bib_findings.specs.declared.finding.Finding.{Finding}
