@@ -132,7 +132,7 @@ run 'another command' 2 '' nothing
 run 'a wrong option' 2 '' lint --nothing
 holds 'a wrong option is named' messages_have --nothing
 run 'a wrong code' 2 '' lint --only no-code
-holds 'a wrong code is named' messages_have 'bibkit: `no-code` isn'"'"'t a code, alone or with a field as in `missing-field:publisher`. The codes are: unread-bytes syntax '
+holds 'a wrong code is named' messages_have 'bibkit: `no-code` isn'"'"'t a code, alone or with a field as in `missing-field:publisher`. The codes are: unread-bytes, syntax, '
 run 'a wrong code with a field' 2 '' lint --ignore syntax,no-code:title
 holds 'a wrong code with a field is named' messages_have 'bibkit: `no-code:title` isn'
 run 'a code with an empty field' 2 '' lint --ignore missing-field:
@@ -184,13 +184,6 @@ run 'bytes that are not UTF-8, switched off' 0 $'errors: 0, warnings: 0\n' lint 
 printf '%% bibkit: off unknown-field\n@book{a, author={A}, titel={T}, title={U}, publsher={P}, year=1999}\n' >off6.bib
 run 'no fix of what is switched off' 0 "$(cat off6.bib)"$'\n' lint --fix off6.bib
 tail -n 1 off6.bib >on6.bib
-# ISO-2022-JP
-printf '@misc{a, title={T}}\n@misc{b, title={\x1b$B4A;z\x1b(B}}\n' >japanese.bib
-japanese=$'japanese.bib:2:17: error: ISO-2022-JP from here on, which isn\'t decoded; convert the file to UTF-8 [unread-bytes]\n'
-run 'a text in ISO-2022-JP' 1 "$japanese"$'errors: 1, warnings: 0\n' lint --only unread-bytes japanese.bib
-run 'a text in ISO-2022-JP, with conditions' 0 $'errors: 0, warnings: 0\n' lint --only unread-bytes --where 'key = b' japanese.bib
-printf '@misc{a, title={\x1b(B\x1b}}\n' >latin.bib
-run 'other escape sequences' 0 $'errors: 0, warnings: 0\n' lint --only unread-bytes latin.bib
 # findings of an earlier run
 "$program" lint one.bib >known
 run 'accepted findings' 0 $'errors: 0, warnings: 0\n' lint --baseline known one.bib
@@ -262,8 +255,9 @@ printf '@book{a, author={}, title={T}, year=2001, issn={0378-5954}}\n@misc{, tit
 run 'a required field that is empty, a wrong ISSN and an empty key' 1 $'empty.bib:1:10: warning: a: empty author [missing-field]\nempty.bib:1:43: warning: a: wrong length or check digit in `issn` [wrong-issn]\nempty.bib:2:7: warning: an entry without a key; Biber skips it [empty-key]\nerrors: 0, warnings: 3\n' lint --only missing-field,empty-field,wrong-isbn,wrong-issn,empty-key empty.bib
 run 'findings that are information' 0 $'infos.bib:1:34: info: a: malformed volume: invalid number [not-a-number]\ninfos.bib:1:48: info: field owner of another program, 1 time [foreign-field]\nerrors: 0, warnings: 0, info: 2\n' lint infos.bib
 printf '@misc{a, title={<i>E. coli</i> & salt}, note={{A &amp; B}, $x<b>y$}, year={2000}}\n' >html.bib
-run 'a tag and a character reference' 1 $'html.bib:1:10: warning: a: HTML `<i>` in `title`; LaTeX prints it as text [html]\nhtml.bib:1:41: warning: a: HTML `&amp;` in `note`; LaTeX stops at `&` [html]\nerrors: 0, warnings: 2\n' lint html.bib
-run 'a field with a tag is not tested for special characters' 0 $'errors: 0, warnings: 0\n' lint --ignore html html.bib
+beside=$'html.bib:1:10: warning: a: `&` in `title` needs a backslash before it [special-character]\n'
+run 'a tag and a character reference' 1 $'html.bib:1:10: warning: a: HTML `<i>` in `title`; LaTeX prints it as text [html]\n'"$beside"$'html.bib:1:41: warning: a: HTML `&amp;` in `note`; LaTeX stops at `&` [html]\nerrors: 0, warnings: 3\n' lint html.bib
+run 'special characters are reported beside a tag, and not beside a character reference' 1 "$beside"$'errors: 0, warnings: 1\n' lint --ignore html html.bib
 "$program" lint --format json infos.bib >output
 holds 'information in JSON' python3 -c 'import json, sys; found = json.load(open("output")); sys.exit([it["severity"] for it in found] != ["info", "info"])'
 

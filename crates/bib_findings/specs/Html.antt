@@ -1,8 +1,8 @@
 -- Meaning: words of public contracts.
--- The findings of printed fields: HTML, or else a special character. Exports of publishers and of Crossref contain tags such as `<i>` and
+-- The findings of printed fields: HTML and special characters. Exports of publishers and of Crossref contain tags such as `<i>` and
 -- character references such as `&amp;`. LaTeX prints a tag as text, and stops at the `&` of a reference. Texts are compared as bytes: a
 -- character beyond ASCII occurs in no tag or reference, and begins and ends no math.
-use Rattle.std.specs.Prelude.{ℕ, Bool, false, not, ◌==◌, ◌&&◌, ◌||◌, List, [], ◌∷◌, ◌++◌, codes, length, slice_get, Option, Some, None, if◌then◌else◌}
+use Rattle.std.specs.Prelude.{ℕ, Bool, false, not, ◌==◌, ◌&&◌, ◌||◌, List, [], ◌∷◌, ◌++◌, codes, length, nat_lt, slice_get, Option, Some, None, if◌then◌else◌}
 use Rattle.std.specs.Char.{is_ascii_alphanumeric, is_ascii_digit, is_ascii_hexdigit, is_ascii_whitespace}
 use Rattle.std.specs.List.{flat_map, list_all, list_any, take_while}
 use Rattle.std.specs.Option.{option_map_or, option_or}
@@ -54,14 +54,15 @@ tag_prefixes = fields "jats: mml:"
 abbrev pub is_tag_name : List ℕ → Bool
 is_tag_name name = is_known_name tag_names name || list_any (λ prefix. begins_in_any_case prefix name) tag_prefixes
 
--- whether a byte ends the name of a tag: `>`, `/` or white space
-abbrev pub ends_tag_name : ℕ → Bool
-ends_tag_name b = b == char.greater || b == char.slash || is_ascii_whitespace b
+-- whether a byte ends the name of a tag with this many bytes: `>` or `/`, or white space after more than two bytes. After a shorter name, a
+-- space more often belongs to a comparison, as in `n <p and q <a`
+abbrev pub ends_tag_name : ℕ → ℕ → Bool
+ends_tag_name size b = b == char.greater || b == char.slash || (nat_lt 2 size && is_ascii_whitespace b)
 
 -- the tag that consists of `start` and a name, if the text after `start` begins with a name of a tag and the end of the name
 abbrev pub tag_from : List ℕ → List ℕ → Option Markup
 tag_from start text =
-    if is_tag_name (html_name_at text) && name_ends_by ends_tag_name text
+    if is_tag_name (html_name_at text) && name_ends_by (ends_tag_name (length (html_name_at text))) text
     then Some (Markup.tag (start ++ (html_name_at text ++ codes ">")))
     else None
 
@@ -72,7 +73,11 @@ tag_after_less (b ∷ rest) = if b == char.slash then tag_from (codes "</") rest
 
 -- the names of the character references that are reported, in any ASCII case
 abbrev pub character_reference_names : Names
-character_reference_names = fields "amp apos gt hellip ldquo lsquo lt mdash nbsp ndash quot rdquo rsquo"
+character_reference_names =
+    fields "aacute acirc agrave alpha amp apos aring atilde auml beta ccedil deg delta eacute ecirc egrave euml gamma"
+    ++ fields "gt hellip iacute icirc igrave iuml lambda ldquo lsquo lt mdash middot minus mu nbsp ndash ntilde oacute"
+    ++ fields "ocirc ograve omega oslash otilde ouml pi quot rdquo rsquo sigma szlig times uacute ucirc ugrave uuml"
+    ++ fields "yacute"
 
 -- whether a byte is an `x`, in any case
 abbrev pub is_x : ℕ → Bool
@@ -134,13 +139,20 @@ html_finding key f html =
     finding_at Html (part_range f.name)
     (named_message key (codes "HTML `" ++ (markup_text html ++ codes "` in ")) f.name.text (markup_reading html))
 
--- the finding of a field of the entry with this key, if it is printed: that of HTML if its value is one literal that contains some, and
--- otherwise that of a special character. Text in braces is also tested for HTML. A field with HTML has no finding of a special character,
--- because it would follow from the HTML, and its advice would be wrong: `\&amp;` prints `&amp;`
+-- the findings of a special character in a field whose first HTML is this. There is none beside a character reference: it would often be
+-- the `&` of the reference, and the advice would be wrong, because `\&amp;` prints `&amp;`
+abbrev pub specials_beside : List ℕ → FieldReading → Markup → List Finding
+specials_beside key f (Markup.tag text) = specials_of key f
+specials_beside key f (Markup.reference text) = []
+
+-- the findings of a field of the entry with this key, if it is printed and its value is one literal: that of HTML, if the text contains
+-- some, and that of a special character. Text in braces is also tested for HTML
 abbrev pub printed_finding : List ℕ → FieldReading → List Finding
 printed_finding key f =
     if is_printed f.name.text
-    then option_map_or (λ html. html_finding key f html ∷ []) (first_html InText (literal_text f.value.pieces)) (specials_of key f)
+    then option_map_or
+    (λ html. html_finding key f html ∷ specials_beside key f html)
+    (first_html InText (literal_text f.value.pieces)) (specials_of key f)
     else []
 
 -- the findings of the printed fields of an entry

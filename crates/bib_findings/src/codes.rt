@@ -30,8 +30,7 @@ impl Severity {
 /// The code of a finding: the problem that it reports.
 #[derive(Debug, Clone, Copy, PartialEq, Eq)]
 pub enum Code {
-    /// The first byte that isn't UTF-8; the whole file was decoded as Windows-1252. Or the first Japanese text in ISO-2022-JP, which isn't
-    /// decoded.
+    /// The first byte that isn't UTF-8; the whole file was decoded as Windows-1252.
     UnreadBytes,
     /// A block that can't be parsed. It is skipped; only its complete parts are kept.
     Syntax,
@@ -97,7 +96,7 @@ pub enum Code {
     EarlyParent,
     /// An abbreviation that `@string` defines again with another value.
     RepeatedDefinition,
-    /// An abbreviation that `@string` defines, and that no field of an entry and no other definition uses.
+    /// An abbreviation that `@string` defines, and that no field of an entry and no definition of another abbreviation uses.
     UnusedDefinition,
     /// A key that a document cites and no entry of the files has, as its key or in its field `ids`.
     MissingEntry,
@@ -254,7 +253,7 @@ impl Code {
     pub fn explanation(self) -> &'static str {
         match self {
             Self::UnreadBytes =>
-                "From this byte on the file isn't UTF-8, so all of it was decoded as Windows-1252. Or it is ISO-2022-JP, which isn't decoded. Save the file as UTF-8.",
+                "From this byte on the file isn't UTF-8, so all of it was decoded as Windows-1252. Save the file as UTF-8.",
             Self::Syntax =>
                 "A block can't be parsed as an entry, a preamble, abbreviations or a comment. It is skipped, up to the next at sign that begins a line; only its complete parts are kept. Most often a comma, a brace or a quote is missing at the reported position, or before it.",
             Self::UnreadField =>
@@ -302,7 +301,7 @@ impl Code {
             Self::SpecialCharacter =>
                 "LaTeX reads the character `&`, `%`, `#`, `_` or `^` as a command, and stops or leaves out the rest of the line. Write a backslash before it, `\\textasciicircum{}` for `^`, or put math between dollar signs. Characters in braces, in math and in verbatim fields such as `url` aren't reported.",
             Self::Html =>
-                "The field contains an HTML or XML tag such as `<i>`, or a character reference such as `&amp;`, as exports of publishers and of Crossref do. LaTeX prints a tag as text, and stops at the `&` of a reference. Write a command such as \\emph or \\textsubscript for the tag, and the character itself for the reference. Only the first tag or reference of a field is reported. Math isn't tested.",
+                "The field contains an HTML or XML tag such as `<i>`, or a character reference such as `&amp;`, as exports of publishers and of Crossref do. LaTeX prints a tag as text, and stops at the `&` of a reference. Write a command such as `\\emph` or `\\textsubscript` for the tag, and the character itself for the reference. Only the first tag or reference of a field is reported. Math isn't tested.",
             Self::TwoYears =>
                 "The field `date` begins with another year than the field `year` has. Biber takes the year of `date`, and BibTeX that of `year`. Remove one of the two.",
             Self::EmptyKey =>
@@ -320,7 +319,7 @@ impl Code {
             Self::RepeatedDefinition =>
                 "An earlier `@string` defines the same abbreviation, in any case, with another value. BibTeX and Biber use the last definition before an entry, so the entries between the two have the earlier value. For all entries, this program uses the last definition whose name is written as in the entry. Remove one of the two definitions, or rename one of them.",
             Self::UnusedDefinition =>
-                "No field of an entry and no other definition uses this abbreviation, in any case. Remove the definition if it isn't needed. A file without entries and a file with a skipped block aren't tested. If several files are read as one database, no definition is tested.",
+                "No field of an entry and no definition of another abbreviation uses this one, in any case. Remove the definition if it isn't needed. A file without entries and a file with a skipped block aren't tested. If several files are read as one database, no definition is tested.",
             Self::MissingEntry =>
                 "A document cites a key that no entry of the files has as its key or in its field `ids`. Correct the key, or add the entry.",
             Self::UnusedEntry =>

@@ -1,4 +1,4 @@
-//! Findings of printed fields: HTML, or else a special character.
+//! Findings of printed fields: HTML and special characters.
 
 ghost use Rattle.std.specs.Prelude.{◌≡◌, ◌==◌, ◌++◌, false, map, option_map, slice_get, IfOk, OnOk};
 ghost use Rattle.std.specs.Char.{is_ascii_digit, is_ascii_hexdigit};
@@ -43,9 +43,13 @@ static TAG_NAMES: [&str; 19] = [
 static TAG_PREFIXES: [&str; 2] = ["jats:", "mml:"];
 
 // The names of the character references.
-static REFERENCE_NAMES: [&str; 13] = [
-    "amp", "apos", "gt", "hellip", "ldquo", "lsquo", "lt", "mdash", "nbsp", "ndash", "quot",
-    "rdquo", "rsquo",
+static REFERENCE_NAMES: [&str; 54] = [
+    "aacute", "acirc", "agrave", "alpha", "amp", "apos", "aring", "atilde", "auml", "beta",
+    "ccedil", "deg", "delta", "eacute", "ecirc", "egrave", "euml", "gamma", "gt", "hellip",
+    "iacute", "icirc", "igrave", "iuml", "lambda", "ldquo", "lsquo", "lt", "mdash", "middot",
+    "minus", "mu", "nbsp", "ndash", "ntilde", "oacute", "ocirc", "ograve", "omega", "oslash",
+    "otilde", "ouml", "pi", "quot", "rdquo", "rsquo", "sigma", "szlig", "times", "uacute", "ucirc",
+    "ugrave", "uuml", "yacute",
 ];
 
 // Returns whether a byte may occur in the name of a tag or of a character reference: an ASCII letter or digit, `-` or `:`.
@@ -84,19 +88,19 @@ fn is_tag_name(name: &str) -> bool
     is_among(&TAG_NAMES, name) || begins_with_any(&TAG_PREFIXES, name)
 }
 
-// Returns whether a byte is `>`, `/` or ASCII white space. One of these ends the name of a tag.
-fn ends_tag_name(b: u8) -> bool
-    ensures { result ≡ spec.ends_tag_name b }
+// Returns whether a byte ends the name of a tag with `size` bytes: `>` or `/`, or ASCII white space after more than two bytes.
+fn ends_tag_name(size: usize, b: u8) -> bool
+    ensures { result ≡ spec.ends_tag_name size b }
 {
-    b == b'>' || b == b'/' || b.is_ascii_whitespace()
+    b == b'>' || b == b'/' || (size > 2 && b.is_ascii_whitespace())
 }
 
-// Returns whether there is a byte at an index, and it ends the name of a tag.
-fn is_tag_name_ended(bytes: &[u8], index: usize) -> bool
-    ensures { result ≡ option_map_or spec.ends_tag_name (slice_get bytes.now index) false }
+// Returns whether the byte after the first `size` bytes ends the name of a tag, which these are.
+fn is_tag_name_ended(bytes: &[u8], size: usize) -> bool
+    ensures { result ≡ option_map_or (spec.ends_tag_name size) (slice_get bytes.now size) false }
 {
-    match bytes.get(index) {
-        Some(b) => ends_tag_name(*b),
+    match bytes.get(size) {
+        Some(b) => ends_tag_name(size, *b),
         None => false,
     }
 }
@@ -266,8 +270,8 @@ fn html_finding(
     })
 }
 
-// Appends the finding of HTML in a field of the entry with this key if the field is printed and its value is one literal, or else that of
-// a special character.
+// Appends the findings of HTML and of a special character in a field of the entry with this key, if the field is printed and its value is
+// one literal. Beside a character reference, no special character is reported.
 fn add_printed(
     alloc: Global,
     found: &mut Vec<Finding>,
@@ -283,10 +287,13 @@ fn add_printed(
         return add_special(alloc, found, key, field);
     };
     found.push(html_finding(alloc, key, field, html)?)?;
-    Ok(())
+    match html {
+        HtmlPart::Tag(_, _) => add_special(alloc, found, key, field),
+        HtmlPart::Reference(_, _) => Ok(()),
+    }
 }
 
-// Appends, for each of these fields of the entry with this key that is printed, the finding of HTML, or else that of a special character.
+// Appends the findings of HTML and of special characters in each of these fields of the entry with this key.
 fn add_printed_among(
     alloc: Global,
     found: &mut Vec<Finding>,
@@ -301,7 +308,7 @@ fn add_printed_among(
     Ok(())
 }
 
-/// Appends a finding for each field of an entry that is printed and contains HTML, or else a special character.
+/// Appends the findings of HTML and of special characters in the printed fields of an entry.
 pub(crate) fn add_printed_fields(
     alloc: Global,
     found: &mut Vec<Finding>,

@@ -96,7 +96,7 @@ pub struct Words<'a> {
 // Returns the first of these words that is no rule, or `None` if all are.
 fn wrong_rule_among<'a>(alloc: Global, words: &[&'a str]) -> Result<Option<&'a str>, AllocError> {
     'words: for word in words {
-        if Rule::parse(alloc, word)?.is_none() {
+        if Rule::parse(alloc, word.trim())?.is_none() {
             return Ok(Some(*word));
         }
     }
@@ -117,7 +117,7 @@ fn wrong_rule<'a>(alloc: Global, matches: &ArgMatches<'a>) -> Result<Option<&'a 
 fn rules_among(alloc: Global, words: &[&str]) -> Result<Vec<Rule>, AllocError> {
     let mut rules = Vec::new(alloc);
     'words: for word in words {
-        if let Some(rule) = Rule::parse(alloc, word)? {
+        if let Some(rule) = Rule::parse(alloc, word.trim())? {
             rules.push(rule)?;
         }
     }

@@ -106,13 +106,37 @@ fn lint_of<'a>(
     Ok(lint)
 }
 
-// Returns the texts of the findings in the file with this name, if there is a name.
+// Returns whether a line is one of the output of `lint` in the format `text`: a finding, or the counts of no errors and warnings.
+fn is_line_of_lint(line: &str) -> bool {
+    line.starts_with("errors: 0, warnings: 0")
+        || line.contains(": error: ")
+        || line.contains(": warning: ")
+        || line.contains(": info: ")
+}
+
+// Returns whether a text can be the output of `lint` in the format `text`: it is empty, or has such a line.
+fn is_output_of_lint(text: &str) -> bool {
+    text.is_empty() || text.lines().any(|line| is_line_of_lint(line))
+}
+
+// Returns the message for a file that isn't the output of `lint`, with status 2.
+fn other_output_stop(alloc: Global, name: &str) -> Result<Stop, AllocError> {
+    let said = format!(in alloc;
+        "bibkit: {name}: it isn't the output of `lint` with `--format text` and without colours\n"
+    )?;
+    Ok(Stop::Said(said, 2))
+}
+
+// Returns the texts of the findings in the file with this name, if there is a name. Fails if the file isn't the output of `lint`.
 fn accepted_by(rt: &HostRuntime, name: Option<&str>) -> Result<Option<BTreeSet<String>>, Stop> {
     let Some(name) = name else {
         return Ok(None);
     };
     let bytes = bytes_of(rt, name)?;
     let output = decode(rt.alloc(), &bytes)?;
+    if !is_output_of_lint(&output.text) {
+        return Err(other_output_stop(rt.alloc(), name)?);
+    }
     Ok(Some(accepted_texts(rt.alloc(), &output.text)?))
 }
 
@@ -260,11 +284,11 @@ fn refuse_words(rt: &HostRuntime, reason: &str) -> u8 {
     2
 }
 
-// Returns the names of all codes, with a space before each.
+// Returns the names of all codes, with a space before each and commas between them.
 fn code_list(alloc: Global) -> Result<String, AllocError> {
     let mut list = String::new(alloc);
     'names: for name in code_names() {
-        list.push(' ')?;
+        list.push_str(if list.is_empty() { " " } else { ", " })?;
         list.push_str(name)?;
     }
     Ok(list)

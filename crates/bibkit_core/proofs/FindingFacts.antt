@@ -21,7 +21,7 @@ use Rattle.bib_findings.specs.Findings.{AreFindings}
 use Rattle.bibkit_core.specs.declared.request.Lint.{Lint}
 use Rattle.bibkit_core.specs.OwnNames.{without_own}
 use Rattle.bibkit_core.specs.declared.rules.Rule.{Rule}
-use Rattle.bibkit_core.specs.Linted.{IsPrintedKept, AreShown, ArePrinted, IsPrintedFile, japanese_findings, off_in, tally_after, unread_findings}
+use Rattle.bibkit_core.specs.Linted.{IsPrintedKept, AreShown, ArePrinted, IsPrintedFile, off_in, tally_after, unread_findings}
 use Rattle.bibkit_core.specs.Linted.AreShown.{none, next}
 use Rattle.bibkit_core.specs.Regions.{region_at}
 use Rattle.bibkit_core.specs.Printed.{IsShown, has_no_finding, one_more}
@@ -132,39 +132,27 @@ step_passed {style} {name} {bytes} s off xs more f {a} {b} {d} grows isnt before
     (subst (λ ys. IsAdded (ArePrinted style name bytes ys) a b) (sym (ap (selected_findings s off) grows ∙ asked_same s off xs f isnt))
     before)
 
--- the outputs for the finding that a file isn't UTF-8, for the one that it is ISO-2022-JP, and for the findings of its text, one after
--- another, are that for the file
-pub kept_added : {lint : Lint} {name bytes : List ℕ} {decoded : Decoded} (kept : List Finding) {a b c d : Printed}
+-- the output for the finding that a file isn't UTF-8, followed by the output for the findings of its text, is that for the file
+pub kept_added : {lint : Lint} {name bytes : List ℕ} {decoded : Decoded} (kept : List Finding) {a b c : Printed}
     → IsAdded
     (ArePrinted lint.style name bytes
     (selected_findings lint.selection (off_in lint (string_bytes decoded.text))
     (findings_of_no_entry lint.conditions.items (unread_findings decoded.invalid)))) a b
     → IsAdded
     (ArePrinted lint.style name (string_bytes decoded.text)
-    (selected_findings lint.selection (off_in lint (string_bytes decoded.text))
-    (findings_of_no_entry lint.conditions.items (japanese_findings (string_bytes decoded.text))))) b c
-    → IsAdded
-    (ArePrinted lint.style name (string_bytes decoded.text)
-    (selected_findings lint.selection (off_in lint (string_bytes decoded.text)) kept)) c d
-    → IsAdded (IsPrintedKept lint name bytes decoded kept) a d
-kept_added kept {a} {b} {c} {d} first second third = record {
-  text = first.text ++ (second.text ++ third.text);
+    (selected_findings lint.selection (off_in lint (string_bytes decoded.text)) kept)) b c
+    → IsAdded (IsPrintedKept lint name bytes decoded kept) a c
+kept_added kept {a} {b} {c} first second = record {
+  text = first.text ++ second.text;
   are = record {
     between = b.tally;
-    later = c.tally;
     first = first.text;
     second = second.text;
-    third = third.text;
     unread = first.are;
-    japanese = second.are;
-    of_text = third.are;
+    of_text = second.are;
     is = refl;
   };
-  printed =
-      third.printed
-      ∙ ap (λ t. t ++ third.text) (second.printed ∙ ap (λ t. t ++ second.text) first.printed)
-      ∙ append_assoc (string_bytes a.text ++ first.text) second.text third.text
-      ∙ append_assoc (string_bytes a.text) first.text (second.text ++ third.text);
+  printed = second.printed ∙ ap (λ t. t ++ second.text) first.printed ∙ append_assoc (string_bytes a.text) first.text second.text;
 }
 
 -- the output for the reported findings of a file is that for the file

@@ -14,7 +14,8 @@ abbrev pub has_none : List Rule → Bool
 has_none [] = true
 has_none (rule ∷ rest) = false
 
--- whether the rules of a selection choose a finding: there are none in `only`, or one of them means it, and none in `ignored` means it
+-- whether the rules of a selection choose a finding: `only` is empty or has a rule that means the finding, and no rule in `ignored` means
+-- it
 abbrev pub is_chosen : Selection → Finding → Bool
 is_chosen selection f = (has_none selection.only.items || mean selection.only.items f) && not (mean selection.ignored.items f)
 

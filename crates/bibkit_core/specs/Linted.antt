@@ -1,14 +1,11 @@
 -- Meaning: words of public contracts.
 -- The output for the findings of a file.
-use Rattle.std.specs.Prelude.{◌≡◌, ℕ, ◌-◌, Bool, false, List, [], ◌∷◌, ◌++◌, Option, Some, None, codes, fold, if◌then◌else◌, length, string_bytes}
-use Rattle.std.specs.Option.{option_map_or}
-use Rattle.bib_text.specs.Characters as char
+use Rattle.std.specs.Prelude.{◌≡◌, ℕ, Bool, false, List, [], ◌∷◌, ◌++◌, Option, Some, None, codes, fold, if◌then◌else◌, string_bytes}
 use Rattle.bib_findings.specs.Codes.{severity_of}
 use Rattle.bib_source.specs.declared.decoding.Decoded.{Decoded}
 use Rattle.bib_findings.specs.Findings.{AreFindings}
 use Rattle.bib_findings.specs.declared.codes.Code.TheVariants.{UnreadBytes}
 use Rattle.bib_findings.specs.declared.finding.Finding.{Finding}
-use Rattle.bib_queries.specs.Elements.{text_after_part}
 use Rattle.bibkit_core.specs.Asked.{selected_findings}
 use Rattle.bibkit_core.specs.Regions.{region_at}
 use Rattle.bibkit_core.specs.Conditions.{AreReportedFindings, findings_of_no_entry}
@@ -51,47 +48,24 @@ abbrev pub unread_findings : Option ℕ → List Finding
 unread_findings None = []
 unread_findings (Some at) = unread_finding at ∷ []
 
--- the characters with which ISO-2022-JP begins Japanese text (RFC 1468)
-abbrev pub japanese_start : List ℕ
-japanese_start = char.escape ∷ char.dollar ∷ []
-
--- the finding that Japanese text in ISO-2022-JP begins at this offset
-abbrev pub japanese_finding : ℕ → Finding
-japanese_finding at = record {
-  code = UnreadBytes;
-  span = record { start = at; end = at };
-  message = codes "ISO-2022-JP from here on, which isn't decoded; convert the file to UTF-8";
-}
-
--- the finding that a text contains Japanese text in ISO-2022-JP, at the first one, or no finding
-abbrev pub japanese_findings : List ℕ → List Finding
-japanese_findings text =
-    option_map_or (λ rest. japanese_finding (length text - length rest - 2) ∷ []) (text_after_part japanese_start text) []
-
 -- the rules that the lines of a text switch off, if the request has switches
 abbrev pub off_in : Lint → List ℕ → List Rule
 off_in lint text = if lint.has_switches then switched_off text else []
 
 -- `text` is the output for a file with the reported findings `kept` of its decoded text, with the counts before and after them. If the file
--- isn't UTF-8 and there are no conditions, the finding that says so comes first, at its position in the bytes. The one that it is
--- ISO-2022-JP, and the selected findings among `kept`, follow, at their positions in the decoded text. Findings that the file switches off
--- are left out.
+-- isn't UTF-8 and there are no conditions, the finding that says so comes first, at its position in the bytes. The selected findings among
+-- `kept` follow, at their positions in the decoded text. Findings that the file switches off are left out.
 pub record IsPrintedKept (lint : Lint) (name bytes : List ℕ) (decoded : Decoded) (kept : List Finding) (before : Tally)
     (text : List ℕ) (after : Tally) : Type 0 where
   pub between : Tally
-  pub later : Tally
   pub first : List ℕ
   pub second : List ℕ
-  pub third : List ℕ
   pub unread : ArePrinted lint.style name bytes
       (selected_findings lint.selection (off_in lint (string_bytes decoded.text))
       (findings_of_no_entry lint.conditions.items (unread_findings decoded.invalid))) before first between
-  pub japanese : ArePrinted lint.style name (string_bytes decoded.text)
-      (selected_findings lint.selection (off_in lint (string_bytes decoded.text))
-      (findings_of_no_entry lint.conditions.items (japanese_findings (string_bytes decoded.text)))) between second later
   pub of_text : ArePrinted lint.style name (string_bytes decoded.text)
-      (selected_findings lint.selection (off_in lint (string_bytes decoded.text)) kept) later third after
-  pub is : text ≡ first ++ (second ++ third)
+      (selected_findings lint.selection (off_in lint (string_bytes decoded.text)) kept) between second after
+  pub is : text ≡ first ++ second
 
 -- `text` is the output for the selected findings of a file, with the counts before and after them. Findings that report a name of the
 -- project as unknown are left out.

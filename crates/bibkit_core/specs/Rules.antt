@@ -1,5 +1,6 @@
 -- Meaning: words of public contracts.
--- Rules that select findings: a code, alone or with the name of a field. The lines of a file can switch off rules.
+-- Rules that select findings: a code, alone or with the name of a field, which is a word of the message. The lines of a file can switch off
+-- rules.
 use Rattle.std.specs.Prelude.{◌==◌, ◌||◌, ◌&&◌, ℕ, Bool, true, not, if◌then◌else◌, List, [], codes, length, bytes_eq, Option, Some, None, option_and_then, option_to_list}
 use Rattle.std.specs.Char.{is_ascii_alphanumeric}
 use Rattle.std.specs.List.{before_first, flat_map, list_any, slice_split}
@@ -19,21 +20,25 @@ use Rattle.bibkit_core.specs.declared.rules.Rule.{Rule}
 abbrev pub before_colon : List ℕ → List ℕ
 before_colon text = before_first (λ b. b == char.colon) text
 
--- the rule with this code and this name of a field, if there is one; no rule if the name is empty
-abbrev pub rule_with : Code → Option (List ℕ) → Option Rule
-rule_with code None = Some (record { code = code; field = None })
-rule_with code (Some field) = if length field == 0 then None else Some (record { code = code; field = Some field })
-
--- the rule with this name: that of a code, with the field whose name follows the first colon, if there is one. `None` if no code has the
--- name before the colon, or if nothing follows the colon
-abbrev pub rule_named : List ℕ → Option Rule
-rule_named text = option_and_then (λ code. rule_with code (text_after_part (codes ":") text)) (code_named (before_colon text))
-
 -- whether a byte ends a word of a message: it is no ASCII letter or digit, hyphen, underscore or plus sign
 abbrev pub ends_word : ℕ → Bool
 ends_word b = not (is_ascii_alphanumeric b || (b == char.hyphen || (b == char.underscore || b == char.plus)))
 
--- the text of a message after the key of its entry, or all of it if it begins with no key. No key contains a space
+-- whether a text can be a word of a message: it is not empty, and no byte of it ends a word
+abbrev pub is_word_of_message : List ℕ → Bool
+is_word_of_message text = not (length text == 0) && not (list_any ends_word text)
+
+-- the rule with this code and this name of a field, if there is one; no rule if the name can't be a word of a message
+abbrev pub rule_with : Code → Option (List ℕ) → Option Rule
+rule_with code None = Some (record { code = code; field = None })
+rule_with code (Some field) = if is_word_of_message field then Some (record { code = code; field = Some field }) else None
+
+-- the rule with this name: that of a code, with the field whose name follows the first colon, if there is one. `None` if no code has the
+-- name before the colon, or if the text after the colon can't be a word of a message
+abbrev pub rule_named : List ℕ → Option Rule
+rule_named text = option_and_then (λ code. rule_with code (text_after_part (codes ":") text)) (code_named (before_colon text))
+
+-- the text of a message after the first colon with a space after it, which ends the name of the entry; all of it without one
 abbrev pub after_key : List ℕ → List ℕ
 after_key message = unwrap_or (text_after_part (codes ": ") message) message
 
@@ -45,11 +50,11 @@ is_field_name field word = is_word word field
 abbrev pub names_field : List ℕ → List ℕ → Bool
 names_field field message = list_any (is_field_name field) (slice_split ends_word (after_key message))
 
--- whether a message is about the field of a rule, or the rule has none
+-- whether a message contains the name of the field of a rule as a word, or the rule has none
 abbrev pub is_of_field : Option (List ℕ) → List ℕ → Bool
 is_of_field field message = option_map_or (λ name. names_field name message) field true
 
--- whether a rule means a finding: it has the code of the rule, and is about the field of the rule, if the rule has one
+-- whether a rule means a finding: it has the code of the rule. If the rule has a field, the message contains its name as a word
 abbrev pub means : Finding → Rule → Bool
 means f rule = bytes_eq (code_name rule.code) (code_name f.code) && is_of_field rule.field f.message
 

@@ -20,7 +20,8 @@ fn insert_text(alloc: Global, texts: &mut BTreeSet<String>, line: &str) -> Resul
     Ok(())
 }
 
-/// Returns the texts of the findings in the output of an earlier `lint` in lines, `FILE:LINE:COLUMN: TEXT`. The only error is out of memory.
+/// Returns the texts of the findings in the output of an earlier `lint` in lines, `FILE:LINE:COLUMN: TEXT`. The only error is out of
+/// memory.
 pub fn accepted_texts(alloc: Global, output: &str) -> Result<BTreeSet<String>, AllocError>
     ensures { IfOk result (λ texts. (text : List ℕ) → contains_text texts text ≡ is_listed (spec.accepted_texts output.now) text) }
 {

@@ -5,8 +5,8 @@
 //! `counting` prints counts, and `comparing` prints findings and checks the citations of a document with `cited`. `database` prints the
 //! findings of several files together. `run` reads the files in turn and prints those texts. `lint_run` chooses the task for `lint`.
 //!
-//! `selection` selects findings by their codes, and `conditions` by the conditions that entries meet. `own_names` leaves out findings that
-//! report names of a project as unknown. `decoding` decodes a file. `lint` prints the selected findings, and counts them (`tally`). It
+//! `selection` selects findings by `rules` and by the findings of an earlier run (`baseline`), and `conditions` by the conditions that entries
+//! meet. `own_names` leaves out findings that report names of a project as unknown. `decoding` decodes a file. `lint` prints the selected findings, and counts them (`tally`). It
 //! prints each as a line (`lines`), as a line in colours (`frames`), as a JSON object (`objects`), as a workflow command of GitHub Actions
 //! (`commands`), as an element for Checkstyle (`checkstyle`) or as a result of SARIF (`sarif`). `regions` finds the lines and columns of
 //! findings, and `escapes` and `uris` escape texts. `tables` prints counts. `messages` prints messages and progress, and

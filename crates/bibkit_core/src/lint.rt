@@ -12,7 +12,7 @@ ghost use Rattle.bibkit_core.specs.Printed as spec;
 
 use crate::checkstyle::error_element;
 use crate::commands::finding_command;
-use crate::conditions::{findings_of_no_entry, reported_findings, text_after};
+use crate::conditions::{findings_of_no_entry, reported_findings};
 use crate::frames::framed_finding;
 use crate::lines::finding_line;
 use crate::objects::{object_element, object_line};
@@ -155,52 +155,6 @@ fn print_unread(
     print_findings(alloc, printed, lint, off, origin, &kept)
 }
 
-// Returns the finding that Japanese text in ISO-2022-JP begins at the byte offset `start`.
-fn japanese_finding(alloc: Global, start: usize) -> Result<Finding, AllocError>
-    ensures { IfOk result (λ finding. finding ≡ linted.japanese_finding start) }
-{
-    Ok(Finding {
-        code: Code::UnreadBytes,
-        span: start..start,
-        message: Text::from_str(
-            alloc,
-            "ISO-2022-JP from here on, which isn't decoded; convert the file to UTF-8",
-        )?,
-    })
-}
-
-// Returns the finding that a text contains Japanese text in ISO-2022-JP, at the first one, or no finding. An escape character and a dollar
-// sign begin such a text.
-fn japanese_findings(alloc: Global, text: &str) -> Result<Vec<Finding>, AllocError>
-    ensures { IfOk result (λ found. found.items ≡ linted.japanese_findings text.now) }
-{
-    let mut found = Vec::new(alloc);
-    if let Some(rest) = text_after(text, "\u{1B}$") {
-        let at = text.len().saturating_sub(rest.len()).saturating_sub(2);
-        found.push(japanese_finding(alloc, at)?)?;
-    }
-    Ok(found)
-}
-
-// Appends the finding that the text of a file is in ISO-2022-JP, and counts it, if it is, the finding is selected, no rule in `off` means it,
-// and there are no conditions.
-fn print_japanese(
-    alloc: Global,
-    printed: &mut Printed,
-    lint: &Lint<'_>,
-    off: &[Rule],
-    origin: &Origin<'_>,
-    text: &str,
-) -> Result<(), AllocError>
-    ensures { OnOk result (IsAdded (ArePrinted lint.now.style origin.now.name.now origin.now.bytes.now
-        (selected_findings lint.now.selection off.now
-        (findings_of_no_entry lint.now.conditions.items (linted.japanese_findings text.now)))) printed.old printed.new) }
-{
-    let japanese = japanese_findings(alloc, text)?;
-    let kept = findings_of_no_entry(alloc, &lint.conditions, japanese);
-    print_findings(alloc, printed, lint, off, origin, &kept)
-}
-
 /// Returns the rules that the lines of a text switch off, if the request has switches. The only error is out of memory.
 pub fn off_in(alloc: Global, lint: &Lint<'_>, text: &str) -> Result<Vec<Rule>, AllocError>
     ensures { IfOk result (λ off. off.items ≡ linted.off_in lint.now text.now) }
@@ -212,8 +166,8 @@ pub fn off_in(alloc: Global, lint: &Lint<'_>, text: &str) -> Result<Vec<Rule>, A
 }
 
 /// Appends the selected findings among `kept` to `printed`, and counts them. `kept` are the reported findings of the file's decoded text. If
-/// the file isn't UTF-8 and there are no conditions, a finding says so first, with its position in the file's bytes. If it is ISO-2022-JP,
-/// a finding says so next. Findings that the file switches off are left out.
+/// the file isn't UTF-8 and there are no conditions, a finding says so first, with its position in the file's bytes. Findings that the file
+/// switches off are left out.
 pub fn print_kept(
     alloc: Global,
     printed: &mut Printed,
@@ -231,7 +185,6 @@ pub fn print_kept(
         name: origin.name,
         bytes: decoded.text.as_bytes(),
     };
-    print_japanese(alloc, printed, lint, &off, &text, &decoded.text)?;
     print_findings(alloc, printed, lint, &off, &text, kept)?;
     Ok(())
 }

@@ -1,6 +1,7 @@
-//! Rules that select findings: a code, alone or with the name of a field.
+//! Rules that select findings: a code, alone or with the name of a field, which is a word of the message.
 
 ghost use Rattle.std.specs.Prelude.{◌≡◌, ◌++◌, codes, IfOk, OnOk};
+ghost use Rattle.std.specs.List.{list_any};
 ghost use Rattle.std.specs.Option.{option_map};
 ghost use Rattle.bib_queries.specs.Lines.{text_after_prefix};
 ghost use Rattle.bibkit_core.specs.Rules as spec;
@@ -12,8 +13,8 @@ use bib_findings::finding::Finding;
 use bib_text::text::Text;
 use std::alloc::{AllocError, Global};
 
-/// A code of findings, alone or with the name of a field. Such as `missing-field` for all missing fields, and `missing-field:publisher` for
-/// missing publishers.
+/// A code of findings, alone or with the name of a field. For example, `missing-field` means all missing fields, and
+/// `missing-field:publisher` missing publishers.
 #[derive(Debug, Drop)]
 pub struct Rule {
     /// The code.
@@ -32,28 +33,42 @@ fn before_colon(text: &str) -> &str
     }
 }
 
-// Returns the rule with this code and this name of a field, if there is one. Returns `None` if the name is empty.
+// Returns whether one of these bytes ends a word of a message.
+fn have_word_end(bytes: &[u8]) -> bool
+    ensures { result ≡ list_any spec.ends_word bytes.now }
+{
+    bytes.iter().any(|b| ends_word(*b))
+}
+
+// Returns whether a text can be a word of a message: it is not empty, and no byte of it ends a word.
+fn is_word_of_message(text: &str) -> bool
+    ensures { result ≡ spec.is_word_of_message text.now }
+{
+    !text.is_empty() && !have_word_end(text.as_bytes())
+}
+
+// Returns the rule with this code and this name of a field, if there is one. Returns `None` if the name can't be a word of a message.
 fn rule_with(alloc: Global, code: Code, field: Option<&str>) -> Result<Option<Rule>, AllocError>
     ensures { IfOk result (λ rule. rule ≡ spec.rule_with code (option_map (λ name. name.now) field.entry)) }
 {
     match field {
-        Some(name) if name.is_empty() => Ok(None),
-        Some(name) => {
+        Some(name) if is_word_of_message(name) => {
             let field = Some(Text::from_str(alloc, name)?);
             Ok(Some(Rule { code, field }))
         }
+        Some(_) => Ok(None),
         None => Ok(Some(Rule { code, field: None })),
     }
 }
 
-// Returns whether a byte ends a word of a message: it occurs in no name of a field.
+// Returns whether a byte ends a word of a message: it is no ASCII letter or digit, hyphen, underscore or plus sign.
 fn ends_word(b: u8) -> bool
     ensures { result ≡ spec.ends_word b }
 {
     !(b.is_ascii_alphanumeric() || matches!(b, b'-' | b'_' | b'+'))
 }
 
-// Returns the text of a message after the key of its entry, or all of it if it begins with no key.
+// Returns the text of a message after the first colon with a space after it, which ends the name of the entry, or all of it without one.
 fn after_key(message: &str) -> &str
     ensures { result.now ≡ spec.after_key message.now }
 {
@@ -79,8 +94,8 @@ fn names_field(message: &str, field: &str) -> bool
 }
 
 impl Rule {
-    /// Parses a rule: the name of a code, alone or with a colon and the name of a field after it. Returns `None` if no code has this name,
-    /// or if nothing follows the colon. The only error is out of memory.
+    /// Parses a rule: the name of a code, alone or with a colon and the name of a field after it. The name of a field consists of ASCII
+    /// letters, digits, hyphens, underscores and plus signs. Returns `None` for any other text. The only error is out of memory.
     pub fn parse(alloc: Global, text: &str) -> Result<Option<Rule>, AllocError>
         ensures { IfOk result (λ rule. rule ≡ rule_named text.now) }
     {
@@ -90,7 +105,7 @@ impl Rule {
         rule_with(alloc, code, text_after(text, ":"))
     }
 
-    // Returns whether a finding is about the field of this rule, or the rule has none.
+    // Returns whether the message of a finding contains the field of this rule as a word, or the rule has none.
     fn is_of_field(&self, finding: &Finding) -> bool
         ensures { result ≡ spec.is_of_field self.now.field finding.now.message }
     {
@@ -116,7 +131,7 @@ pub fn mean(rules: &[Rule], finding: &Finding) -> bool
     rules.iter().any(|rule| rule.means(finding))
 }
 
-// Appends the rule with this name, without the white space around it. Appends none if no code has the name.
+// Appends the rule with this name, without the white space around it. Appends nothing if the name is no rule.
 fn push_named(alloc: Global, rules: &mut Vec<Rule>, name: &str) -> Result<(), AllocError>
     ensures { OnOk result (rules.new.items ≡ rules.old.items ++ spec.rules_named name.now) }
 {
@@ -154,7 +169,7 @@ fn push_switched(alloc: Global, rules: &mut Vec<Rule>, line: &str) -> Result<(),
 }
 
 /// Returns the rules that lines of a file switch off: those that begin with `% bibkit: off ` and list rules, separated by commas. A name
-/// that is no code is passed over. The only error is out of memory.
+/// that is no rule is passed over. The only error is out of memory.
 pub fn switched_off(alloc: Global, text: &str) -> Result<Vec<Rule>, AllocError>
     ensures { IfOk result (λ rules. rules.items ≡ spec.switched_off text.now) }
 {

@@ -1,4 +1,4 @@
-//! Selects findings by their codes, by the fields that they are about, and by the findings of an earlier run.
+//! Selects findings by their codes, by the words of their messages, and by the findings of an earlier run.
 
 ghost use Rattle.std.specs.Prelude.{◌≡◌, [], None, IfOk};
 ghost use Rattle.bibkit_core.specs.Asked as asked;
@@ -9,7 +9,7 @@ use bib_findings::finding::Finding;
 use std::alloc::{AllocError, Global};
 use std::collections::BTreeSet;
 
-/// The findings to report. A finding that rules in `only` and in `ignored` mean isn't reported.
+/// The findings to report. `ignored` takes precedence over `only`.
 #[derive(Debug, Drop)]
 pub struct Selection {
     /// The findings to report. If there are no rules, all findings except the ignored ones are reported.

@@ -410,8 +410,8 @@ fn settings_in<R: Files + AllocGlobal>(
 // The number of folders that are searched if the path of the first one can't be resolved.
 const FOLDERS: usize = 100;
 
-// Returns the settings in the nearest of a folder and those above it that has a file `bibkit.toml`. Searches no more than `FOLDERS` folders,
-// because the path of a folder, and so the last one above it, may not be known: it may not be UTF-8.
+// Returns the settings in the nearest of a folder and those above it that has a file `bibkit.toml`. Searches no more than `FOLDERS` folders.
+// The path may not be UTF-8, so the root can't be recognized.
 fn settings_above<R: Files + AllocGlobal>(
     rt: &R,
     reader: Reader,

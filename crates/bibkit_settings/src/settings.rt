@@ -208,7 +208,7 @@ impl Settings {
     /// reported.
     /// If `color` is `Auto` or isn't set, `are_colors_shown` says whether lines are printed in colours. Only lines have colours. If
     /// `fail_on` isn't set, the status is 1 for errors and warnings. `is_each` says whether each of several files is a database of its own.
-    /// The request has switches, and neither conditions, own names nor accepted findings.
+    /// Lines of a file can switch off rules. There are no conditions, no own names and no accepted findings.
     pub fn lint<'a>(
         self,
         alloc: Global,

@@ -12,7 +12,8 @@ use Rattle.bibkit_core.proofs.baseline.insert_text.Goals as goal
 pub returns-in_ok-insert : goal.returns-in_ok-insert
 returns-in_ok-insert c = λ text.
     let old = contains_text c.args.texts.now text in
-    btree_set_updates_text (string_bytes c.in_ok-from_str.field-0) c.args.texts.now c.insert.new.self true c.in_ok-insert.ensures.updates text
+    btree_set_updates_text (string_bytes c.in_ok-from_str.field-0) c.args.texts.now c.insert.new.self true
+    c.in_ok-insert.ensures.updates text
     ∙ ap (λ l. cond (bytes_eq l text) true old) c.in_ok-from_str.ensures.ok
     ∙ sym (one_listed c.in-Some.text.now text old)
     ∙ ap (λ l. is_listed (option_to_list l) text || old)

@@ -22,7 +22,8 @@ findings-preserved c =
             (take (i + 1) c.args.found.now) f w.region_at-region.result grows
             (sym c.in_ok-asks_for.ensures ∙ w.if-branch.true) w.region_at-region.ensures
             c.findings.invariant.added w.in_ok-print_finding.ensures w.printed-is
-        | else-branch w ↦ step_passed c.args.lint.now.selection c.args.off.now (take i c.args.found.now) (take (i + 1) c.args.found.now) f grows
+        | else-branch w ↦ step_passed c.args.lint.now.selection c.args.off.now (take i c.args.found.now)
+            (take (i + 1) c.args.found.now) f grows
             (sym c.in_ok-asks_for.ensures ∙ w.if-branch.false) c.findings.invariant.added w.printed-is
       ];
     }

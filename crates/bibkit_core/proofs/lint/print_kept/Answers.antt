@@ -3,7 +3,7 @@ use Rattle.std.specs.String.{string_bytes}
 use Rattle.bibkit_core.specs.Adding.{IsAdded}
 use Rattle.bibkit_core.specs.Asked.{selected_findings}
 use Rattle.bibkit_core.specs.Conditions.{findings_of_no_entry}
-use Rattle.bibkit_core.specs.Linted.{ArePrinted, japanese_findings, off_in, unread_findings}
+use Rattle.bibkit_core.specs.Linted.{ArePrinted, off_in, unread_findings}
 use Rattle.bibkit_core.proofs.FindingFacts.{kept_added}
 use Rattle.bibkit_core.proofs.lint.print_kept.Goals as goal
 
@@ -21,43 +21,17 @@ returns c =
     (selected_findings lint.selection o (findings_of_no_entry conditions (unread_findings c.args.decoded.now.invalid))))
     c.args.printed.now c.print_unread.new.printed)
     (c.deref-2.ensures.value ∙ off) c.in_ok-print_unread.ensures in
-    let japanese_at =
-    subst
-    (λ b.
-    IsAdded
-    (ArePrinted lint.style name b
-    (selected_findings lint.selection c.deref-3.result.now
-    (findings_of_no_entry conditions (japanese_findings c.deref-4.result.now))))
-    c.print_unread.new.printed c.print_japanese.new.printed)
-    c.as_bytes.ensures.value c.in_ok-print_japanese.ensures in
-    let japanese_in =
-    subst
-    (λ t.
-    IsAdded
-    (ArePrinted lint.style name (string_bytes c.args.decoded.now.text)
-    (selected_findings lint.selection c.deref-3.result.now (findings_of_no_entry conditions (japanese_findings t))))
-    c.print_unread.new.printed c.print_japanese.new.printed)
-    c.deref-4.ensures japanese_at in
-    let japanese =
-    subst
-    (λ o.
-    IsAdded
-    (ArePrinted lint.style name (string_bytes c.args.decoded.now.text)
-    (selected_findings lint.selection o
-    (findings_of_no_entry conditions (japanese_findings (string_bytes c.args.decoded.now.text)))))
-    c.print_unread.new.printed c.print_japanese.new.printed)
-    (c.deref-3.ensures.value ∙ off) japanese_in in
     let placed =
     subst
     (λ b.
-    IsAdded (ArePrinted lint.style name b (selected_findings lint.selection c.deref-5.result.now c.args.kept.now))
-    c.print_japanese.new.printed c.print_findings.new.printed)
+    IsAdded (ArePrinted lint.style name b (selected_findings lint.selection c.deref-3.result.now c.args.kept.now))
+    c.print_unread.new.printed c.print_findings.new.printed)
     c.as_bytes.ensures.value c.in_ok-print_findings.ensures in
     let of_text =
     subst
     (λ o.
     IsAdded
     (ArePrinted lint.style name (string_bytes c.args.decoded.now.text) (selected_findings lint.selection o c.args.kept.now))
-    c.print_japanese.new.printed c.print_findings.new.printed)
-    (c.deref-5.ensures.value ∙ off) placed in
-    kept_added c.args.kept.now unread japanese of_text
+    c.print_unread.new.printed c.print_findings.new.printed)
+    (c.deref-3.ensures.value ∙ off) placed in
+    kept_added c.args.kept.now unread of_text
