@@ -11,6 +11,9 @@ above it, has the settings of a project: ignore, only, color, format, fail-on an
 Several files are one database. A file can use the definitions and the entries of the others. An entry is a duplicate if an entry of an
 earlier file has its key. With --each, each file is a database of its own.
 
+A code can have a field: missing-field:year means the findings whose text contains the word year. A line of a file that begins with
+`% bibkit: off ` lists codes that aren't reported for it, separated by commas.
+
 --where leaves out findings that are about no entry, such as bytes that aren't UTF-8. It keeps a finding about two entries, such as a
 duplicate, if one of them meets the conditions. `bibkit help select` has the conditions.
 
