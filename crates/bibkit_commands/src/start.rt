@@ -17,6 +17,7 @@ use bib_source::decoding::decode;
 use bibkit_core::baseline::accepted_texts;
 use bibkit_core::request::{Call, Cited, Lint, Request, Selected};
 use bibkit_core::run::run;
+use bibkit_core::selection::Selection as FindingSelection;
 use bibkit_settings::configuration::{ConfigurationError, Project, Reader, project_settings};
 use bibkit_settings::settings::{Settings, code_names};
 use bibkit_settings::style_settings::StyleSettings;
@@ -26,7 +27,7 @@ use edit_orders::order::OrderError;
 use std::alloc::{AllocError, Global};
 use std::collections::BTreeSet;
 use std::io::IsTerminal;
-use std::{env, io};
+use std::{env, io, mem};
 
 // Returns the words of the command line, including the name of the program.
 fn words(rt: &HostRuntime) -> io::Result<Vec<String>> {
@@ -87,11 +88,26 @@ struct LintWords<'a> {
     baseline: Option<&'a str>,
 }
 
-// Returns the findings to print, with the settings of the command line and of the project of the first file, and these conditions.
+// Returns a selection of findings with these accepted findings.
+fn with_accepted(
+    selection: FindingSelection,
+    accepted: Option<BTreeSet<String>>,
+) -> FindingSelection {
+    let FindingSelection { only, ignored, .. } = selection;
+    FindingSelection {
+        only,
+        ignored,
+        accepted,
+    }
+}
+
+// Returns the findings to print, with the settings of the command line and of the project of the first file, these conditions and these
+// accepted findings.
 fn lint_of<'a>(
     rt: &HostRuntime,
     words: LintWords<'a>,
     conditions: Vec<Selection>,
+    accepted: Option<BTreeSet<String>>,
     names: &[&str],
 ) -> Result<Lint<'a>, ConfigurationError> {
     let project = project_settings(rt, Reader::Lint, first(names))?;
@@ -101,6 +117,8 @@ fn lint_of<'a>(
         words.cited,
         words.is_each,
     );
+    let selection = mem::replace(&mut lint.selection, FindingSelection::all(rt.alloc()));
+    lint.selection = with_accepted(selection, accepted);
     lint.conditions = conditions;
     lint.own = project.own;
     Ok(lint)
@@ -176,15 +194,11 @@ fn run_lint<'a>(rt: &HostRuntime, words: LintWords<'a>, names: Vec<&'a str>, inp
         Err(stop) => return say(rt, &stop),
     };
     let fix = words.fix;
-    match lint_of(rt, words, conditions, &names) {
-        Ok(lint) => {
-            let mut lint = lint;
-            lint.selection.accepted = accepted;
-            match fix {
-                Some(mode) => run_fix(rt, &lint, mode, &names, input),
-                None => run_request(rt, Request::Lint(lint), names, input),
-            }
-        }
+    match lint_of(rt, words, conditions, accepted, &names) {
+        Ok(lint) => match fix {
+            Some(mode) => run_fix(rt, &lint, mode, &names, input),
+            None => run_request(rt, Request::Lint(lint), names, input),
+        },
         Err(error) => refuse_settings(rt, error),
     }
 }
