@@ -196,6 +196,10 @@ run 'accepted findings of several files' 1 $'other.bib:1:10: warning: other: mis
 run 'an empty file of accepted findings' 1 "$lines_of_one"$'errors: 0, warnings: 3\n' lint --baseline /dev/null one.bib
 run 'no file of accepted findings' 2 '' lint --baseline none.txt one.bib
 holds 'the missing file is named' messages_have 'bibkit: none.txt: '
+"$program" lint --format json one.bib >known.json
+run 'accepted findings in another format' 2 '' lint --baseline known.json one.bib
+holds 'the other format is named' messages_have 'bibkit: known.json: it isn'
+run 'white space around codes' 1 "$missing_year"$'errors: 0, warnings: 1\n' lint --ignore ' missing-field:title , missing-field:journaltitle ' one.bib
 "$program" lint on6.bib >known6.txt
 run 'an accepted finding is not mended' 0 "$(cat on6.bib)"$'\n' lint --fix --baseline known6.txt on6.bib
 run 'two files' 1 $'broken.bib:1:7: warning: a: missing year [missing-field]\nbroken.bib:3:1: error: c: expected comma [syntax]\n'"$lines_of_one"$'errors: 1, warnings: 4\n' lint broken.bib one.bib
