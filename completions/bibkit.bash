@@ -1,8 +1,8 @@
 # Completions of bibkit for bash: source this file, or put it into the folder of bash-completion.
 _bibkit() {
     local current=${COMP_WORDS[COMP_CWORD]} previous=${COMP_WORDS[COMP_CWORD - 1]} command=${COMP_WORDS[1]-}
-    local codes='unread-bytes syntax unread-field unknown-abbreviation circular-abbreviation duplicate-key circular-reference
-        unread-date unknown-type missing-field superfluous-field malformed-field not-a-number malformed-date unknown-field foreign-field
+    local codes='unread-bytes escape-sequence syntax unread-field unknown-abbreviation circular-abbreviation duplicate-key
+        circular-reference unread-date unknown-type missing-field superfluous-field malformed-field not-a-number malformed-date unknown-field foreign-field
         repeated-field empty-field wrong-isbn wrong-issn doi-address url-scheme malformed-name special-character html two-years empty-key
         stray-field unknown-reference likely-duplicate key-case early-parent repeated-definition unused-definition missing-entry unused-entry'
     local fields='author editor title subtitle booktitle journaltitle journal series edition volume number pages publisher location address

@@ -1,8 +1,8 @@
 # Completions of bibkit for fish: put this file into ~/.config/fish/completions.
 set -l commands lint keys get select grep cited stats fmt convert resolve set unset rename rekey edit remove add strings recode help
 set -l edits set unset rename rekey edit remove add strings
-set -l codes unread-bytes syntax unread-field unknown-abbreviation circular-abbreviation duplicate-key circular-reference \
-    unread-date unknown-type missing-field superfluous-field malformed-field not-a-number malformed-date unknown-field foreign-field \
+set -l codes unread-bytes escape-sequence syntax unread-field unknown-abbreviation circular-abbreviation duplicate-key \
+    circular-reference unread-date unknown-type missing-field superfluous-field malformed-field not-a-number malformed-date unknown-field foreign-field \
     repeated-field empty-field wrong-isbn wrong-issn doi-address url-scheme malformed-name special-character html two-years empty-key \
     stray-field unknown-reference likely-duplicate key-case early-parent repeated-definition unused-definition missing-entry unused-entry
 set -l fields author editor title subtitle booktitle journaltitle journal series edition volume number pages publisher location address \

@@ -132,7 +132,7 @@ run 'another command' 2 '' nothing
 run 'a wrong option' 2 '' lint --nothing
 holds 'a wrong option is named' messages_have --nothing
 run 'a wrong code' 2 '' lint --only no-code
-holds 'a wrong code is named' messages_have 'bibkit: `no-code` isn'"'"'t a code, alone or with a field as in `missing-field:publisher`. The codes are: unread-bytes, syntax, '
+holds 'a wrong code is named' messages_have 'bibkit: `no-code` isn'"'"'t a code, alone or with a field as in `missing-field:publisher`. The codes are: unread-bytes, escape-sequence, syntax, '
 run 'a wrong code with a field' 2 '' lint --ignore syntax,no-code:title
 holds 'a wrong code with a field is named' messages_have 'bibkit: `no-code:title` isn'
 run 'a code with an empty field' 2 '' lint --ignore missing-field:
@@ -233,7 +233,7 @@ holds 'quotes and backslashes in JSON' python3 -c 'import json, sys; found = jso
 for code in unread-bytes syntax unread-field circular-abbreviation duplicate-key circular-reference missing-entry; do
     run_start "the meaning of $code" 0 "$code (error): " lint --explain $code no-file.bib
 done
-for code in unknown-abbreviation unread-date unknown-type missing-field superfluous-field malformed-field malformed-date unknown-field repeated-field \
+for code in escape-sequence unknown-abbreviation unread-date unknown-type missing-field superfluous-field malformed-field malformed-date unknown-field repeated-field \
     wrong-isbn wrong-issn doi-address url-scheme malformed-name special-character html two-years empty-key stray-field unknown-reference likely-duplicate \
     key-case repeated-definition unused-entry; do
     run_start "the meaning of $code" 0 "$code (warning): " lint --explain $code no-file.bib
@@ -250,6 +250,23 @@ printf '@misc{a, title={\xe9t\xe9}}\n' >latin.bib
 run 'bytes that are not UTF-8' 1 $'latin.bib:1:17: error: not UTF-8 from here on, so the file is read as Windows-1252 [unread-bytes]\nerrors: 1, warnings: 0\n' lint --ignore missing-field latin.bib
 run 'they are the first finding' 1 $'latin.bib:1:17: error: not UTF-8 from here on, so the file is read as Windows-1252 [unread-bytes]\nlatin.bib:1:7: warning: a: missing year [missing-field]\nerrors: 1, warnings: 1\n' lint latin.bib
 run 'entries of them' 0 $'@misc{a, title={\xc3\xa9t\xc3\xa9}}\n' get a latin.bib
+printf '@misc{a, title={\xcf\xf2\xe8\xe2\xe5\xf2}, year={2000}}\n' >cyrillic.bib
+run 'four bytes in a row that are not ASCII' 1 $'cyrillic.bib:1:17: error: not UTF-8 from here on; the file is read as Windows-1252, but is unlikely to be in it [unread-bytes]\nerrors: 1, warnings: 0\n' lint cyrillic.bib
+printf '@misc{a, title={\x81}, year={2000}}\n' >unassigned.bib
+run_start 'a byte without a character' 1 'unassigned.bib:1:17: error: not UTF-8 from here on; the file is read as Windows-1252, but is unlikely' lint unassigned.bib
+printf '@misc{a, title={\xc5\x81\xc3\xb3d\xc5\xba \xe9}, year={2000}}\n' >mixed.bib
+run_start 'letters of UTF-8 before a byte that is not UTF-8' 1 'mixed.bib:1:22: error: not UTF-8 from here on, so the file is read as Windows-1252 [' lint mixed.bib
+printf '@misc{a, title={\xe9\xe8\xea \xe9}, year={2000}}\n' >three.bib
+run_start 'three bytes in a row that are not ASCII' 1 'three.bib:1:17: error: not UTF-8 from here on, so the file is read as Windows-1252 [' lint three.bib
+printf '@misc{a, title={\e$B4A;z\e(B}, note={\e$B4A;z\e(B}, year={2000}}\n' >escapes.bib
+run 'escape sequences' 1 $'escapes.bib:1:17: warning: an escape sequence, as in ISO-2022-JP; the characters after it aren\'t decoded [escape-sequence]\nerrors: 0, warnings: 1\n' lint --only escape-sequence escapes.bib
+run 'escape sequences and conditions' 0 $'errors: 0, warnings: 0\n' lint --only escape-sequence --where 'key = a' escapes.bib
+printf '@misc{a, title={\e(B$}, year={2000}}\n' >escapes.bib
+run 'another escape sequence' 0 $'errors: 0, warnings: 0\n' lint --only escape-sequence escapes.bib
+printf '%% bibkit: off escape-sequence\n@misc{a, title={\e$B4A;z\e(B}, year={2000}}\n' >escapes.bib
+run 'an escape sequence that is switched off' 0 $'errors: 0, warnings: 0\n' lint --only escape-sequence escapes.bib
+printf '@misc{a, title={\e$B4A;z\e(B \xe9}, year={2000}}\n' >escapes.bib
+run 'an escape sequence and bytes that are not UTF-8' 1 $'escapes.bib:1:28: error: not UTF-8 from here on, so the file is read as Windows-1252 [unread-bytes]\nescapes.bib:1:17: warning: an escape sequence, as in ISO-2022-JP; the characters after it aren\'t decoded [escape-sequence]\nerrors: 1, warnings: 1\n' lint --only unread-bytes,escape-sequence escapes.bib
 printf '@misc{a,\n title={\xc3\xa9}, author={\xc3\xa9 \xc3\xa9}, nofield={x}, year={2000}}\n' >columns.bib
 run 'columns are characters' 1 $'columns.bib:2:27: warning: a: unknown field `nofield` [unknown-field]\nerrors: 0, warnings: 1\n' lint columns.bib
 printf '@misc{a, title={A}, year={2000}, volume={12A}, owner={me}}\n' >infos.bib

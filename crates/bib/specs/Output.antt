@@ -42,7 +42,7 @@ pub record IsQuotingLine (said : List ℕ × List ℕ) (span : Range ℕ) (text 
   pub is : text ≡ codes "error: " ++ (said.0 ++ (quoted ++ (codes ": " ++ (decimal span.start ++ (codes "-" ++ line (decimal span.end))))))
 
 -- `text` is the line of an error. If the kind of the error contains a name, the line quotes it. Otherwise the line has the
--- text of the error; if that text isn't specified, any line is allowed
+-- text of the error; if that text isn't specified, any `text` is allowed
 abbrev pub ShowsError : ParseError → List ℕ → Type 0
 ShowsError e text =
     MatchOption (words_and_name e.kind) (IfSome (error_text e) (λ listed. text ≡ error_line listed))

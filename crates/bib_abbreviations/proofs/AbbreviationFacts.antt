@@ -142,14 +142,14 @@ pub record Leads (definitions : Definitions) (field : List Piece) (name : List �
   pub reached : Reaches definitions field name
   pub leads : (next : List ℕ) → HoldsName pieces next → Reaches definitions definition next
 
--- these pieces occur in the expansion of a field that can be parsed, while the names of `path` are being expanded
+-- a field reaches each name in these pieces, each name in `path` leads to them (`Leads`), and their literals can be parsed
 pub record IsMet (definitions : Definitions) (is_verbatim : Bool) (field : List Piece) (path : List (List ℕ))
     (pieces : List Piece) : Type 0 where
   pub names : (name : List ℕ) → HoldsName pieces name → Reaches definitions field name
   pub texts : AreRead is_verbatim pieces
   pub on_path : (name : List ℕ) → IsOnPath path name → Leads definitions field name pieces
 
--- if `met` occurs in `rest`, each name on the path extended by `met` leads to the names in the definition of `met`
+-- if each name on a path leads to `rest`, in which `met` occurs, each one on the path extended by `met` leads to the definition of `met`
 leads_inside : {definitions : Definitions} {field rest definition : List Piece} (name met : List ℕ)
     (path : List (List ℕ)) → definitions met ≡ Some definition
     → Reaches definitions field met → ((other : List ℕ) → IsOnPath path other → Leads definitions field other rest) → HoldsName rest met

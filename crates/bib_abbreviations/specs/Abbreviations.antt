@@ -1,6 +1,6 @@
 -- Meaning: words of public contracts.
--- Abbreviations: the styled text of a field in which each name is replaced by its definition. Names and texts are lists
--- of their bytes.
+-- Abbreviations: the styled text of a field in which each name is replaced by its definition or by a month. Names and texts are
+-- lists of their bytes.
 use Rattle.std.specs.Prelude.{◌≡◌, ◌+◌, ◌<◌, ◌^◌, ℕ, Bool, List, [], ◌∷◌, ◌++◌, length, map, ◌⊎◌, ◌||◌, Option, Some, None, is_some, bytes_eq}
 use Rattle.std.specs.Option.{option_map}
 use Rattle.std.specs.Borrow.{Bor}

@@ -198,7 +198,7 @@ impl<'m, 'f, 's> Expansion<'m, 'f, 's> {
         self.expand_name(memo, out, piece)
     }
 
-    // Appends the chunks of a name to `out`. Chunks that the memo contained before are not kept twice.
+    // Appends the chunks of a name to `out`. If the memo already has the name, it keeps no second copy of the chunks.
     fn expand_name(
         self,
         memo: &mut Memo<'s>,

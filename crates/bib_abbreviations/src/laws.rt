@@ -1,4 +1,4 @@
-//! Laws of abbreviations. The functions have empty bodies: each contract is a theorem about the definitions that it
+//! Laws of abbreviations. The functions have empty bodies: each clause is a theorem about the definitions that it
 //! names.
 
 ghost use Rattle.std.specs.Prelude.{◌≡◌, Bool, List, []};

@@ -1,4 +1,4 @@
-//! The contents of fields: each literal is parsed by itself, and each abbreviation is replaced by its definition.
+//! The contents of fields: each literal is parsed by itself, and each abbreviation is replaced by its definition or by a month.
 //!
 //! A field consists of pieces: literals and names of abbreviations. `contents` of `bib_contents` parses each literal.
 //! `abbreviations` expands names without recursion. It has a stack of frames, each with the remaining pieces of a

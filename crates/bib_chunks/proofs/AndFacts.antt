@@ -107,8 +107,8 @@ ands_some space (a ∷ n ∷ d ∷ rest) =
 prepend_none : (space : Bool) (cs : List ℕ) → prepend [] (between_ands space cs) ≡ between_ands space cs
 prepend_none space cs = let some = ands_some space cs in rw some.2 refl
 
--- the characters `cs` before the byte offset `at` contain no such word; `space` says whether white space comes right
--- before it
+-- no word `and` with white space right before and after it begins in `cs`, the characters before the byte offset `at`;
+-- `space` is the flag of `between_ands` for the rest
 pub record IsSearchedTo (text : List ℕ) (at : ℕ) (space : Bool) : Type 0 where
   pub cs : List ℕ
   pub passed : MovesPast (place text 0) cs (place text at)
@@ -122,7 +122,7 @@ searched_none text utf8 = record {
   texts = sym (prepend_none false (chars text));
 }
 
--- the search goes on after a character at which no such word begins
+-- the search goes on after a character at which no word `and` between white space begins
 pub searched_char : (text : List ℕ) (at next c : ℕ) (space : Bool) → IsSearchedTo text at space
     → CharAt (place text at) c (place text next) → word_here space (chars (drop at text)) ≡ false
     → IsSearchedTo text next (is_whitespace c)
@@ -161,7 +161,7 @@ searched_word text at before following so_far leading_run prefix_utf8 word =
       utf8 = letters.1;
     }
 
--- at the end of the text the search has found no such word
+-- a search that reached the end of the text has found no word `and` between white space
 pub searched_all : (text : List ℕ) (at : ℕ) (space : Bool) → IsSearchedTo text at space → drop at text ≡ []
     → between_ands false (chars text) ≡ chars text ∷ []
 searched_all text at space so_far nothing =

@@ -1,4 +1,4 @@
--- A list of verbatim chunks with `and` between them is cut into these chunks.
+-- The parts of a list of verbatim chunks with `and` between them format to the texts of these chunks.
 use Rattle.std.proofs.Common.{◌≡◌, ℕ, ◌-◌, ◌^◌, Bool, true, false, List, [], ◌∷◌, ◌++◌, map, refl, ap, ◌∙◌}
 use Rattle.std.specs.Prelude.{codes}
 use Rattle.std.specs.Char.{encode_utf8}

@@ -38,7 +38,7 @@ parts_slash_end slash end (hidden {w = z} {c = d} other next rest) =
     absurd (no_char_at_end end (subst (λ p. CharAt p d z) (same_char other slash).1 next))
 parts_slash_end slash end (nested other inner close rest) = absurd (omega (arith, (same_char slash other).0))
 
--- parts from an opening brace are empty, or have a pair of braces first
+-- parts that begin at an opening brace are empty, or begin with a pair of braces
 parts_open : {u v x : Place} → CharAt u 123 v → Parts u x → (u ≡ x) ⊎ ((w : Place) × (y : Place) × Parts v w × CharAt w 125 y × Parts y x)
 parts_open char none = inl refl
 parts_open char (plain other also rest) = absurd (both_ways _ refl (rw (sym (same_char char other).0) at also))

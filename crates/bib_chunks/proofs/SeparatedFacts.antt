@@ -1,4 +1,4 @@
--- A list of whole chunks with a separator between them is cut into these chunks.
+-- The parts of a list of whole chunks with a separator between them format to the texts of these chunks.
 use Rattle.std.proofs.Common.{◌≡◌, ℕ, ◌-◌, ◌^◌, Bool, false, List, [], ◌∷◌, ◌++◌, map, ap, ◌∙◌, append-nil, refl}
 use Rattle.std.specs.List.{flat_map, AllByRecursion}
 use Rattle.std.specs.Str.{chars}

@@ -51,7 +51,7 @@ no_dollar (c ∷ cs) rest all =
     let parts = and_parts (not (c == 36)) (list_all (λ d. not (d == 36)) cs) all in
     rw (not-true (c == 36) parts.0) (no_dollar cs rest parts.1)
 
--- the text contains a dollar sign exactly if the longest run without one isn't the whole text
+-- the characters ahead contain a dollar sign exactly if the longest run without one doesn't end at the end of the text
 pub dollar_found : {u w : Place} (x : Place) (r : Option ℕ) (found : Bool) → Longest (λ c. not (c == 36)) u w
     → IsUtf8 (ahead u) → MatchOption r (AtEnd w × (x ≡ w)) (λ c. CharAt w c x) → found ≡ is_some r
     → found ≡ list_any (λ c. c == 36) (chars (ahead u))

@@ -1,5 +1,5 @@
 -- Meaning: words of public contracts.
--- Chunks as the parser returns them: neighbours that are both normal or both verbatim are merged, and spans are in order.
+-- Chunks as the parser returns them for one literal: neighbours that are both normal or both verbatim are merged, and spans are in order.
 use Rattle.std.specs.Prelude.{◌≡◌, ℕ, ◌≤◌, false, List, [], ◌∷◌, ◌++◌, Option, Some, None}
 use Rattle.bib_chunks.specs.declared.chunk.Chunk.{Chunk}
 use Rattle.bib_text.specs.declared.spanned.Spanned.{Spanned}

@@ -1,4 +1,4 @@
-//! Laws of lists. The functions have empty bodies: each contract is a theorem about the definitions that it names.
+//! Laws of lists. The functions have empty bodies: each clause is a theorem about the definitions that it names.
 
 ghost use Rattle.std.specs.Prelude.{◌≡◌, List, map};
 ghost use Rattle.std.specs.List.{AllByRecursion};

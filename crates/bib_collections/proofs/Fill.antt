@@ -13,7 +13,7 @@ pub record IsReadyTo (missing ready : List ℕ) (index : ℕ) : Type 0 where
   pub before : (p : ℕ) → p < index → times p ready ≡ cond (eqb (missing_at missing p) 0) 1 0
   pub after : (p : ℕ) → index ≤ p → times p ready ≡ 0
 
--- `index` is appended if it has no missing references, and otherwise nothing changes
+-- `IsReadyTo` up to the next index: `index` is appended if it has no missing references, and otherwise nothing changes
 pub ready_step : (missing ready ready' : List ℕ) (index : ℕ)
     → ((missing_at missing index ≡ 0) × (ready' ≡ ready ++ index ∷ []))
     ⊎ ((1 ≤ missing_at missing index) × (ready' ≡ ready)) → IsReadyTo missing ready index

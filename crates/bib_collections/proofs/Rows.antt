@@ -23,7 +23,7 @@ pub edge_at : (refs : List (Vec ℕ Global)) (index : ℕ) (row : Vec ℕ Global
 edge_at refs index row items i within e is below =
     subst (λ l. Contains l (get_or items i 0)) (is ∙ sym (row_at refs index row within e)) (Contains-get_or items i 0 below)
 
--- each element of the vector at an index is less than the number of vectors
+-- if the graph is in range, each element of the vector at an index is less than the number of vectors
 pub row_in : (refs : List (Vec ℕ Global)) (index : ℕ) (row : Vec ℕ Global) → IsInRange (rows refs) → index < length refs
     → row ≡ get_or refs index row → All (λ r. r < length refs) row.items
 row_in refs index row in_range within e =

@@ -50,7 +50,7 @@ none_closed graph n p d = absurd (false≢true (sym (none_marked n p) ∙ d))
 abbrev pub IsFound : List Bool → ℕ → ℕ → Type 0
 IsFound marks start index = (index ≡ start) ⊎ (is_marked marks index ≡ true)
 
--- a found index is less than the number of indices
+-- a found index is less than the number of indices if `start` is
 pub found_below : (marks : List Bool) (n start p : ℕ) → length marks ≡ n → start < n → IsFound marks start p → p < n
 found_below marks n start p len within (inl e) = omega arith
 found_below marks n start p len within (inr h) =
@@ -132,7 +132,7 @@ module _ (graph : List (List ℕ)) (start : ℕ) (old : List Bool) where
         ];
       }
 
-  -- the reference at `i` has no mark: it is marked and waits
+  -- the reference at `i` is in range and has no mark: it is marked and waits
   pub looking_more : (index : ℕ) (refs : List ℕ) (i bound : ℕ) (marks marks' : List Bool) (pending pending' : List ℕ)
       → get_or refs i 0 < length graph → Contains (refs_of graph index) (get_or refs i 0)
       → is_marked marks (get_or refs i 0) ≡ false → marks' ≡ set marks (get_or refs i 0) true

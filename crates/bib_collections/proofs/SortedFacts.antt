@@ -223,7 +223,7 @@ module _ {V : Type 0} (m : ByText V) (es : List (List ℕ × V)) (is : from_sort
   pub len_is : map.len m ≡ length es
   len_is = len-entries m ∙ ap length entries_are
 
--- the result of searching the sorted pairs of a map for a name, and the map after an edit at the found index
+-- the value of a name in the map of sorted pairs, and the map after an edit at the name's index or gap
 module _ {V : Type 0} (m : ByText V) (es : List (List ℕ × V)) (is : from_sorted es ≡ m) (sorted : IsSorted es) (k : List ℕ) where
   h : T (is_sorted by_bytes es)
   h = holds _ sorted

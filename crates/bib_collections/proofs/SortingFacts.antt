@@ -1,4 +1,4 @@
--- Facts about sorting pairs once and keeping the first pair of each name.
+-- A stable sort of pairs that keeps the first pair of each name keeps the value of each name.
 use Rattle.std.proofs.Common.{◌≡◌, ℕ, Bool, true, false, cond, not, ◌&&◌, T, List, [], ◌∷◌, reverse, Option, Some, None, refl, sym, ap, subst, ◌∙◌, Ordering, Less, Equal, Greater, is_lt, is_eq, filter, IsSortedBy}
 use Rattle.std.specs.List.{dedup, dedup_from, AllByRecursion}
 use Rattle.std.specs.List.Sorted.{ties, IsStableBy, IsStrictlySortedBy}

@@ -1,5 +1,5 @@
--- Walks in a graph. Without cycles, no walk has as many references as the graph has entries, so the equation has exactly one
--- solution.
+-- Walks in a graph in range. Without cycles, no walk from an entry has as many references as the graph has entries, so the equation
+-- has exactly one solution.
 use Rattle.std.proofs.Common.{◌≡◌, ℕ, zero, suc, ◌+◌, ◌<◌, ◌≤◌, List, [], ◌∷◌, false, eqb, length, get_or, map, refl, sym, ap, ◌∙◌, subst, arith, inl, inr}
 use Rattle.std.specs.List.{All, AllByRecursion, Contains, IsDistinct, range_with_len}
 use Rattle.std.proofs.lemmas.List.{length-map, ext_get_or, get_or-map}
@@ -61,7 +61,7 @@ module _ (graph : List (List ℕ)) (in_range : IsInRange graph) (none : HasNoCyc
       All-contains (λ v. v < length graph) visited q (All-from_recursion (λ v. v < length graph) visited below)
       (Contains-from_any eqb-true q visited h))
 
-  -- If distinct visited indices lead to `a`, and the graph has no cycle, no walk of `k` references begins at `a`, where `k` is
+  -- If distinct visited indices lead to `a`, in a graph in range without cycles, no walk of `k` references begins at `a`, where `k` is
   -- the number of the other indices.
   no_walk_from : (k : ℕ) (visited : List ℕ) (a : ℕ) → length visited + k ≡ length graph
       → AllByRecursion (λ v. v < length graph) visited → IsDistinct eqb visited
@@ -73,7 +73,7 @@ module _ (graph : List (List ℕ)) (in_range : IsInRange graph) (none : HasNoCyc
       no_walk_from k (a ∷ visited) b (omega arith) (within, below) (apart a visited within r, distinct)
       (one e, all_further a b visited e r) (below_from_edge graph a b in_range within e) w
 
-  -- without cycles, no walk of as many references as there are entries begins at an entry
+  -- in a graph in range without cycles, no walk of as many references as there are entries begins at an entry
   pub no_long_walk : (a : ℕ) → a < length graph → HasWalk graph (length graph) a → ⊥
   unfolding IsDistinct
   no_long_walk a within w = no_walk_from (length graph) [] a (omega arith) tt tt tt within w

@@ -100,7 +100,7 @@ times_more p i xs within =
       | inr t ↦ omega (arith, count_by_more_no (λ r. eqb r p) xs i 0 within t.0, as_one _ false t.0)
     ]
 
--- an entry has a missing reference before it is released
+-- an entry that waits at most as often as references are missing has a missing one before it is released
 pub released_some : (missing waiting ready : List ℕ) (i : ℕ) (missing' ready' : List ℕ) → i < length waiting
     → get_or waiting i 0 < length missing → times (get_or waiting i 0) waiting ≤ missing_at missing (get_or waiting i 0)
     → IsReleased missing waiting ready i missing' ready' → 1 ≤ missing_at missing' (get_or waiting i 0)
@@ -217,7 +217,7 @@ none_undone order (x ∷ xs) h =
     go (is_among order x) refl
 
 module _ (graph : List (List ℕ)) where
-  -- if no index is ready, walks of any length begin at each index with a missing reference
+  -- in a graph in range, if no index is ready, walks of any length begin at each index with a missing reference
   stuck : IsInRange graph → (order missing : List ℕ) → IsWork graph order missing [] → (k e : ℕ) → e < length graph
       → 0 < missing_at missing e → HasWalk graph k e
   stuck in_range order missing h zero e within misses = tt
@@ -229,7 +229,7 @@ module _ (graph : List (List ℕ)) where
       ] in
       (r.0, r.1, stuck in_range order missing h k r.0 (below_from_edge graph e r.0 in_range within r.1) some)
 
-  -- if no index is ready, but one has a missing reference, the graph has a cycle
+  -- if no index is ready, but one has a missing reference, a graph in range has a cycle
   pub cycle_from_stuck : IsInRange graph → (order missing : List ℕ) → IsWork graph order missing [] → (e : ℕ)
       → e < length graph → 0 < missing_at missing e → HasNoCycle graph → ⊥
   cycle_from_stuck in_range order missing h e within misses none =

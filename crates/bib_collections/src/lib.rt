@@ -1,9 +1,10 @@
 //! Sorted maps by text, names that point to the indices of entries, and a topological order of references.
 //!
 //! A `TextMap` is a sorted vector of names and values, and `Names` of names and indices of entries. For the few fields of an
-//! entry, a vector takes half the memory of a tree. `sorted` contains the look-ups in both. `TextMap::get` compares the names
-//! one by one if there are at most 16, because most differ in length. Other look-ups are binary searches. `Claims` is a tree,
-//! because a sorted vector would on average move half of its names for each key of a file that is loaded.
+//! entry, a vector takes less memory than a tree. `sorted` contains the look-ups in both. `TextMap::get` and the
+//! functions that call it compare the names one by one if there are at most 16, because most differ in length. Other look-ups are
+//! binary searches. `Claims` is a tree, because a sorted vector would on average move half of its names for each key of a file
+//! whose keys are in random order.
 //!
 //! `worklist` orders entries such that each comes after all that it refers to. For each entry, it counts the references to
 //! entries that aren't done, and lists the entries that wait for it. An entry with a count of 0 is done, and lowers the

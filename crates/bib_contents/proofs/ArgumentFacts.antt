@@ -1,4 +1,4 @@
--- Facts about the units that a cursor consumes.
+-- Facts about the hyphens, the math and the arguments in braces that a cursor consumes.
 use Rattle.std.proofs.Common.{◌≡◌, ℕ, suc, ◌+◌, ◌-◌, ◌<◌, ◌≤◌, Bool, true, false, not, ◌&&◌, if◌then◌else◌, List, [], ◌∷◌, ◌++◌, length, drop, replicate, refl, sym, ap, ◌∙◌, subst, arith, append_assoc, length-append, length-drop, take, ◌^◌, inl, inr, add-one, Option, None, Some, MatchOption}
 use Rattle.std.specs.Prelude.{◌==◌, nat_lt, encode_utf8_all}
 use Rattle.std.specs.List.{list_all, list_any}

@@ -46,7 +46,7 @@ plain_flat_map f each (c ∷ cs) all =
     let parts = and_parts (is_unbroken c) (list_all is_unbroken cs) all in
     list_all-append is_unbroken (f c) (flat_map f cs) (each c parts.0) (plain_flat_map f each cs parts.1)
 
--- the text of a character or, if it has none, the character itself has no line break
+-- `or_itself` has no line break if neither the character nor its text has one
 plain_itself : (c : ℕ) (cs : List ℕ) → is_unbroken c ≡ true → list_all is_unbroken cs ≡ true → list_all is_unbroken (or_itself c cs) ≡ true
 plain_itself c [] plain all = and_from _ _ plain refl
 plain_itself c (d ∷ cs) plain all = all

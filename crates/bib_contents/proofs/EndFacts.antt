@@ -1,4 +1,4 @@
--- The byte offsets of closing braces: each one is stored at its opening brace.
+-- The byte offsets of closing braces, stored at their opening braces.
 use Rattle.std.proofs.Common.{◌≡◌, ℕ, zero, suc, ◌+◌, ◌-◌, ◌<◌, ◌≤◌, true, false, List, [], ◌∷◌, ◌++◌, length, drop, refl, sym, ap, subst, ◌∙◌, arith, inl, inr, reverse, replicate}
 use Rattle.std.specs.Prelude.{encode_utf8_all, slice_index, nat_lt}
 use Rattle.std.specs.List.{list_all}
@@ -86,7 +86,7 @@ noted_more start begin end places text noted closes after within index some insi
       rw is (noted index (rw is at some) (rw is at inside))
 ]
 
--- braces were read up to `s`: the ends of the closed ones are in `places`, the open ones in `waits`
+-- braces were read up to `s`: each end in `places` belongs to the brace at its index, and the braces in `waits` are open
 pub record AreReadTo (text : List ℕ) (start : ℕ) (s : Place) (places waits : List ℕ) : Type 0 where
   pub same : s.text ≡ text
   pub following : start ≤ s.at

@@ -157,7 +157,7 @@ flowing_marked mark (c ∷ cs) plain last =
     ∙ ap (λ xs. flowing false split.0 ++ xs) (flowing_plain false (nfc (letter split.1 ∷ mark ∷ [])) composed)
     ∙ sym (with_mark-push mark (flowing false split.0) split.1) ∙ sym (ap (with_mark mark) whole)
 
--- a text that neither begins nor ends with a line break doesn't do so with a mark on its last character, if that isn't a line break
+-- a text that neither begins nor ends with a line break doesn't do so with a mark that isn't one on its last character
 capped_marked : (mark : ℕ) (cs : List ℕ) → is_unbroken mark ≡ true → IsCapped cs → IsCapped (with_mark mark cs)
 capped_marked mark [] plain capped = capped_plain (bare mark) (bare_plain mark plain)
 capped_marked mark (c ∷ cs) plain capped =

@@ -67,7 +67,7 @@ pub begins_not : (test : ℕ → Bool) (u : Place) (cs : List ℕ) → IsUtf8 (a
 begins_not test u [] utf8 is stops = refl
 begins_not test u (c ∷ cs) utf8 is stops = let here = stands u c cs utf8 is in stops c here.0 here.1
 
--- eating a character if it is `c` passes it, or the text doesn't begin with it
+-- eating a character if it is `c` passes it, or the characters left don't begin with it
 pub taken_if : (u v : Place) (c : ℕ) (found : Bool) → IsUtf8 (ahead u)
     → MatchBool found (CharAt u c v) ((v ≡ u) × ((w : Place) → CharAt u c w → ⊥))
     → MatchBool found (Passes u (c ∷ []) v) ((v ≡ u) × (begins (λ d. d == c) (left u) ≡ false))

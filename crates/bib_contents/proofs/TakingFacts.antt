@@ -171,7 +171,7 @@ braced_wide name space text =
     let whole = sizes (92 ∷ []) (name ++ (space ++ 123 ∷ (text ++ 125 ∷ []))) in
     omega (arith, one, two, three, closed, opened, spaced, named, whole)
 
--- the next chunk begins after the last one
+-- chunks placed up to an offset are placed up to the start of the next chunk, which is that offset or a later one
 pub placed_after : (low end following start : ℕ) (out : List (Spanned Chunk)) → ArePlaced low end out → end ≤ following
     → start ≡ following → ArePlaced low start out × (start ≤ following)
 placed_after low end following start out placed wider is =

@@ -1,5 +1,6 @@
 -- Meaning: words of public contracts.
--- The text of a LaTeX command, as the Rust crate `biblatex` has it. A text is a list of its characters.
+-- The text of a LaTeX command, as the Rust crate `biblatex` has it, except for an accent on an accented letter. A text is a list of
+-- its characters.
 use Rattle.std.specs.Prelude.{ℕ, List, [], ◌∷◌, ◌++◌, Option, Some, None, codes, bytes_eq, if◌then◌else◌, ◌==◌}
 use Prim.Native.String.{String}
 use Rattle.bib_text.specs.Enums.{value_named}
@@ -52,7 +53,7 @@ symbols =
     symbol "dots" "…" ∷ symbol "textellipsis" "…" ∷ symbol "pounds" "£" ∷
     symbol "-" "" ∷ []
 
--- the letter that a mark is put on: a dotless i or j, which LaTeX requires there, becomes the letter with a dot
+-- the letter that a mark is put on: a dotless i or j becomes the letter with a dot
 abbrev pub letter : ℕ → ℕ
 letter c = if c == 0x131 then 0x69 else if c == 0x237 then 0x6A else c
 
@@ -72,7 +73,8 @@ accent_text mark None = mark ∷ []
 accent_text mark (Some argument) = with_mark mark argument
 
 -- the text of a command that is neither an accent nor a symbol. `o` and `copyright` depend on whether there is an
--- argument. An unknown command is kept. (`bytes_eq` compares two lists of numbers, here code points.)
+-- argument. An unknown command is kept, with a space or its argument in braces after it. (`bytes_eq` compares two lists of
+-- numbers, here code points.)
 abbrev pub other : List ℕ → Option (List ℕ) → List ℕ
 other name None =
     if bytes_eq name (codes "o") then codes "ø"

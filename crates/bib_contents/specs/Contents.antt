@@ -1,6 +1,6 @@
 -- Meaning: words of public contracts.
 -- The contents of a field: how the text of a piece is cut into units, and the meaning of each unit. Contents are LaTeX
--- source, as the Rust crate `biblatex` parses it. A text is a list of its characters.
+-- source, as the Rust crate `biblatex` parses it, except for an accent on an accented letter. A text is a list of its characters.
 use Rattle.std.specs.Prelude.{◌≡◌, ◌≤◌, ℕ, zero, suc, ◌-◌, ◌/◌, ◌%◌, ◌^◌, min, Bool, true, false, not, ◌&&◌, ◌||◌, ◌==◌, nat_lt, ◌⊎◌, if◌then◌else◌, List, [], ◌∷◌, ◌++◌, map, replicate, Option, None, Some}
 use Rattle.std.specs.Char.{is_whitespace, is_control}
 use Rattle.std.specs.List.{list_any, list_all}

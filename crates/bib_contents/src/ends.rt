@@ -7,8 +7,8 @@ use crate::characters::Characters;
 use std::alloc::{AllocError, Global};
 
 // The byte offsets of the closing braces in a text. `places[i]` belongs to the opening brace right before byte
-// `start + i`; it is 0 if there is no such brace or it isn't closed. The text is scanned once, however deep its braces
-// are nested.
+// `start + i`; it is 0 if there is no such brace or it isn't closed. The text is scanned at most twice, however deep
+// its braces are nested.
 #[derive(Drop)]
 pub(crate) struct Ends {
     start: usize,

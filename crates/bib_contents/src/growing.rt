@@ -32,7 +32,7 @@ fn chunk_of(depth: usize, text: String) -> Chunk
     Chunk::Verbatim(Text::from_string(text))
 }
 
-// Shrinks the text if more than 15 bytes are unused. Up to 15 unused bytes are kept, since an allocator doesn't reuse so few.
+// Shrinks the text if more than 15 bytes are unused. Up to 15 unused bytes are kept, since most allocators don't reuse so few.
 fn shrink(mut text: String) -> String
     ensures { string_bytes result ≡ string_bytes text }
 {

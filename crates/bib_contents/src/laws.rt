@@ -1,4 +1,4 @@
-//! Laws of contents. The functions have empty bodies: each contract is a theorem about the definitions that it names.
+//! Laws of contents. The functions have empty bodies: each clause is a theorem about the definitions that it names.
 
 ghost use Rattle.std.specs.Prelude.{◌≡◌, ℕ, Bool, List};
 ghost use Rattle.bib_chunks.specs.Styled.{Atom};

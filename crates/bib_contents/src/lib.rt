@@ -1,8 +1,8 @@
 //! The contents of a text in a field: how it is cut into units, and the meaning of units, commands and accents.
 //!
-//! A piece of a value is cut into *units*: hyphens, white space, braces, escaped characters, math, commands with arguments,
+//! A piece of a value is cut into *units*: hyphens, white space, braces, escaped characters, math, commands with any argument,
 //! other backslashes, and single characters. `characters` is a cursor whose contracts speak of the characters
-//! that are left. So only that file deals with UTF-8: units consist of characters, and spans are in bytes. `units`
+//! that are left. So other files rarely deal with UTF-8: units consist of characters, and spans are in bytes. `units`
 //! parses one unit and does not allocate. `contents` goes from unit to unit and appends the text of each to the open
 //! chunk (`growing`), which a brace or math finishes. Plain characters are written in whole runs (`plain`), without a
 //! unit for each. `commands` is the table of commands, and `accents` that of accents.

@@ -16,7 +16,7 @@ pub both : (p : ℕ → Bool) (c : ℕ) (cs : List ℕ) → list_all p (encodes 
     → (list_all p (encode c) ≡ true) × (list_all p (encodes cs) ≡ true)
 both p c cs h = and_parts (list_all p (encode c)) (list_all p (encodes cs)) (sym (list_all-append p (encode c) (encodes cs)) ∙ h)
 
--- whether one of six tests passes doesn't depend on how they are joined
+-- six tests joined from the left pass exactly if they do joined from the right
 any_of_six : (a b c d e f : Bool) → (((((a || b) || c) || d) || e) || f) ≡ (a || (b || (c || (d || (e || (f || false))))))
 any_of_six true b c d e f = refl
 any_of_six false true c d e f = refl

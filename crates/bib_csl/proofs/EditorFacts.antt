@@ -38,7 +38,7 @@ none_under v entry first second third fourth =
     (ap₂ (λ a b. a ++ b) (none_listed v entry (codes "editorb") (codes "editorbtype") third)
     (none_listed v entry (codes "editorc") (codes "editorctype") fourth)))
 
--- if they list nobody, the item has no variable of editors
+-- a variable without names isn't given; by the next lemma, an item has no variable of editors if the four fields list nobody
 nothing_given : (v : Variable) (names : List Name) → names ≡ [] → given_people v names ≡ []
 unfolding given_people
 nothing_given v names none = rw none refl

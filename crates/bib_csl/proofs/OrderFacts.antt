@@ -170,7 +170,8 @@ all_in_order kind entry =
     joins (work_in_order kind entry)
     (joins (details_in_order kind entry) (joins (people_fields_in_order kind entry) (date_fields_in_order entry)))
 
--- adding variables doesn't change the member of a name that is before all of them in the order, or after all of them
+-- adding variables doesn't change the member of a name that is before all of them in the order; the next lemma states this for a name
+-- after all of them
 kept_before : (q : List ℕ) {lo hi : ℕ} {fs : List Field} (ms : Members) → place q order < lo → IsBetween lo hi fs
     → get_member q (with_variables fs ms) ≡ get_member q ms
 unfolding with_variable
@@ -214,7 +215,7 @@ variables_found entry = found _ (all_in_order (type_of_entry entry) entry)
 id_is_not_type : codes "id" ≡ codes "type" → ⊥
 id_is_not_type same = let lengths : 2 ≡ 4 = ap length same in absurd (omega (arith, lengths))
 
--- `id` and `type` are no variables, so their members are the key and the type of the entry
+-- the member `id` is the key of the entry, because `id` is no variable; the next lemma states this for `type`
 pub key_found : (entry : Entry)
     → get_member (codes "id") (with_variables (item_of_entry entry).fields (head_members (item_of_entry entry)))
     ≡ Some (string entry.key)

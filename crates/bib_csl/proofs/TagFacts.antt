@@ -79,7 +79,7 @@ ended_step has_tags out more total tag old new is wrote before =
     ∙ append_assoc out (unwrap_or (closing_tag has_tags tag) []) (all_ended has_tags (reverse new))
     ∙ ap (λ l. out ++ all_ended has_tags l) (sym (ap reverse is ∙ reverse-append new (tag ∷ []))) ∙ before
 
--- a character whose bytes are no backslash, brace or tilde is none of these
+-- the test `is_unmarked` fails for the backslash; the next lemmas state this for the braces and the tilde
 no_backslash : list_all is_unmarked (encode 92) ≡ false
 unfolding encode
 no_backslash = refl
@@ -96,7 +96,7 @@ no_tilde : list_all is_unmarked (encode 126) ≡ false
 unfolding encode
 no_tilde = refl
 
--- such a character is written unchanged
+-- a character whose bytes all pass this test is unchanged by `untie`
 untie_same : (c : ℕ) → list_all is_unmarked (encode c) ≡ true → untie c ≡ encode c
 unfolding untie
 untie_same c good = rw (not_this is_unmarked 126 c no_tilde good) refl
@@ -131,7 +131,7 @@ marked_same has_tags (c ∷ cs) h =
     ap₂ (λ a b. a ++ b) (said_same has_tags c p.0)
     (ap₂ (λ t n. marked_from has_tags t n cs) (open_same c p.0) (name_same c p.0) ∙ marked_same has_tags cs p.1)
 
--- a text without such bytes is unchanged
+-- a text whose bytes all pass this test is unchanged by `loosened`
 pub loosened_stays : (bs : List ℕ) → IsUtf8 bs → list_all is_unmarked bs ≡ true → bs ≡ loosened (chars bs)
 loosened_stays bs utf8 h =
     let spelt = encodes-chars bs utf8 in sym (loosened_same (chars bs) (ap (list_all is_unmarked) spelt ∙ h) ∙ spelt)

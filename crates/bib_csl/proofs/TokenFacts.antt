@@ -33,7 +33,7 @@ array_tokens element xs = ap (λ ts. begin_array ∷ ts) (each element xs) where
   each element [] = refl
   each element (x ∷ xs) = append_assoc (tokens_of (element x)) _ _ ∙ ap (λ ts. tokens_of (element x) ++ ts) (each element xs)
 
--- the tokens of an object are those of its members in turn, between braces
+-- the tokens of an object after its opening brace are those of its members in turn, and the closing brace
 each_member : (ms : List (Bor (List ℕ) × Held))
     → flat_map (λ m. member_tokens m.0.now m.1) ms ++ end_object ∷ []
     ≡ members_tokens (members_outline (members_held ms))

@@ -68,7 +68,7 @@ unfoldable pub is_season_text : List ℕ → Bool
 is_season_text text =
     (length text == 7) && (list_all is_ascii_digit (take 4 text) && ((slice_index text 4 == char.hyphen) && (digit text 5 == 2)))
 
--- the season with the number 20 + n in ISO 8601-2
+-- the season with the number 20 + n in ISO 8601-2, from 21 to 24; `None` for another number
 abbrev pub season_numbered : ℕ → Option Season
 season_numbered n =
     if n == 1 then Some Spring else if n == 2 then Some Summer else if n == 3 then Some Autumn else if n == 4 then Some Winter else None
@@ -91,7 +91,7 @@ season_of text = if is_season_text text then option_map (season_item (first_year
 unfoldable pub unread : List ℕ → Option ItemDate
 unread text = if length text == 0 then None else Some (unwrap_or (season_of text) (literal_item text))
 
--- the date of an item: the parsed date, or else the season that the text is, or else the text as an unparsed one
+-- the date of an item: the parsed date, or else that of `unread`
 unfoldable pub read_or_unread : Option Date → List ℕ → Option ItemDate
 read_or_unread (Some date) text = Some (date_item date)
 read_or_unread None text = unread text

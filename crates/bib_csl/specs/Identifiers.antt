@@ -74,8 +74,8 @@ abbrev pub from_ten : List ℕ → Option (List ℕ)
 from_ten [] = None
 from_ten (b ∷ rest) = if starts_with eqb (b ∷ rest) (codes "10.") then Some (b ∷ rest) else from_ten rest
 
--- the DOI in a text. Each DOI begins with `10.` (ISO 26324), so an address or a scheme before it is no part of it. A text without `10.`
--- stays.
+-- the DOI in a text: the text from the first `10.` on. Each DOI begins with `10.` (ISO 26324), so an address or a scheme before it is no
+-- part of it. A text without `10.` stays.
 unfoldable pub bare_doi : List ℕ → List ℕ
 bare_doi text = unwrap_or (from_ten text) text
 

@@ -33,7 +33,7 @@ sign_named name =
     else if bytes_eq name (codes "MF") then Some (codes "METAFONT")
     else None
 
--- whether a command changes the font up to the end of its group, or has no output at all
+-- whether a command is left out: `\relax`, or one of these that change the font up to the end of the group
 unfoldable pub is_silent : List ℕ → Bool
 is_silent name =
     list_any (bytes_eq name) (words (codes "bf bfseries em it itshape relax rm rmfamily sc scshape sf sffamily sl slshape tt ttfamily"))
@@ -104,7 +104,7 @@ is_space_name name = bytes_eq name (codes " ")
 
 -- ---- accents
 
--- whether a character is a combining accent
+-- whether a character is a combining accent: one of U+0300 to U+036F
 unfoldable pub is_accent : ℕ → Bool
 is_accent c = not (nat_lt c 768) && nat_lt c 880
 

@@ -79,12 +79,11 @@ unfoldable pub is_way_printed : Entry → Bool
 is_way_printed entry =
     if begins_with_address (way_of entry) then is_way_address entry else length (named_publisher entry) == 0
 
--- the field `howpublished`, unless it is the address or the publisher of the item
+-- the field `howpublished`, unless it is the address of the item, or is printed as its publisher because the item has no other
 unfoldable pub way_in_note : Entry → List ℕ
 way_in_note entry = if is_way_printed entry then [] else way_of entry
 
--- the fields `note` and `addendum`, and `howpublished` if it is neither the publisher nor the address; between them are full stops, as by
--- `joined_by_mark`
+-- the fields `note` and `addendum`, and `way_in_note`; between them are full stops, as by `joined_by_mark`
 unfoldable pub note_of : Entry → List ℕ
 note_of entry =
     joined_by_mark (codes ".") (joined_by_mark (codes ".") (rich_text entry (codes "note")) (rich_text entry (codes "addendum")))

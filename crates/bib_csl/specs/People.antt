@@ -85,7 +85,7 @@ unfoldable pub names_said : Bool → Option Value → List Name
 names_said uses_prefix None = []
 names_said uses_prefix (Some chunks) = names_listed uses_prefix chunks
 
--- whether an option of an entry says that prefixes are part of family names
+-- whether an option of an entry is one of these three texts, which say that prefixes are part of family names
 unfoldable pub is_prefix_option : List ℕ → Bool
 is_prefix_option option = list_any (bytes_eq option) (codes "useprefix" ∷ codes "useprefix=true" ∷ codes "useprefix = true" ∷ [])
 

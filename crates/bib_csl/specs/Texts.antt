@@ -33,13 +33,13 @@ tagged has_tags (Normal whole) text = marked_text has_tags (chars text)
 tagged has_tags (Verbatim whole) text = marked_text has_tags (chars text)
 tagged has_tags (Math whole) text = text
 
--- whether the text of a chunk is one character beyond ASCII that is written by a command, such as `{\'e}`: its place in the file is longer
--- than the text
+-- whether the text of a chunk is one character beyond ASCII, and its place in the file is longer than the text. An accented letter that
+-- is written by a command, such as `{\'e}`, has such a place
 unfoldable pub is_letter_of_command : Spanned Chunk → List ℕ → Bool
 is_letter_of_command c text =
     (length (chars text) == 1) && (nat_lt 1 (length text) && nat_lt (length text) (c.span.end - c.span.start))
 
--- the text of a chunk in braces in a title: in a tag that keeps its case, unless the braces only hold a letter that is written by a command
+-- the text of a chunk in braces in a title: in a tag that keeps its case, unless it is empty or `is_letter_of_command` holds
 unfoldable pub braced_in_title : Spanned Chunk → List ℕ → List ℕ
 braced_in_title c text = if is_letter_of_command c text then text else keeping_case text
 

@@ -37,7 +37,8 @@ journal_title entry =
 unfoldable pub title_of_whole : Entry → List ℕ
 title_of_whole entry = either (own_title entry) (title_of_book entry)
 
--- the title of the item; for a book or a periodical that is a volume of a work, this is the title of the work
+-- the title of the item: of the work itself. For a book or a periodical, it is the title of the work of several volumes, or else that of
+-- `title_of_whole`
 unfoldable pub item_title : ItemType → Entry → List ℕ
 item_title kind entry = if is_volume kind then either (title_of_work entry) (title_of_whole entry) else own_title entry
 

@@ -73,7 +73,7 @@ item_type_of Set subtype has_event = item_type.Document
 item_type_of XData subtype has_event = item_type.Document
 item_type_of (Unknown name) subtype has_event = item_type_named name
 
--- whether the item is an article or a review
+-- whether the item is an article of a journal, a magazine or a newspaper, or a review
 abbrev pub is_article : ItemType → Bool
 is_article item_type.ArticleJournal = true
 is_article item_type.ArticleMagazine = true

@@ -10,7 +10,7 @@ pub(crate) fn is_space_name(name: &str) -> bool
     name == " "
 }
 
-// Returns whether a character is a combining accent.
+// Returns whether a character is a combining accent: one of U+0300 to U+036F.
 #[tactic(auto, unfolding(crate::specs::Markup::is_accent))]
 fn is_accent(c: char) -> bool
     ensures { result ≡ spec.is_accent c }

@@ -137,7 +137,7 @@ fn are_digits(text: &[u8]) -> bool
     text.iter().all(|byte| byte.is_ascii_digit())
 }
 
-// Returns whether a text is four digits, `-2` and one more byte: ISO 8601-2 has the seasons 21 to 24 there.
+// Returns whether a text is four ASCII digits, `-2` and one more byte: ISO 8601-2 has the seasons 21 to 24 there.
 #[tactic(auto, unfolding(crate::specs::Dates::is_season_text))]
 fn is_season_text(text: &[u8]) -> bool
     ensures value { result ≡ spec.is_season_text text.now }

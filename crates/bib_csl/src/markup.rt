@@ -33,8 +33,8 @@ fn characters(text: &str) -> usize
     text.chars().count()
 }
 
-// Returns whether the text of a chunk is one character beyond ASCII, and its place in the file is longer than the text. The character is
-// written by a command then.
+// Returns whether the text of a chunk is one character beyond ASCII, and its place in the file is longer than the text. An
+// accented letter that is written by a command has such a place.
 #[tactic(auto, unfolding(crate::specs::Texts::is_letter_of_command))]
 fn is_letter_of_command(chunk: &Spanned<Chunk>, text: &str) -> bool
     ensures { result ≡ is_letter_of_command chunk.now text.now }
@@ -43,8 +43,8 @@ fn is_letter_of_command(chunk: &Spanned<Chunk>, text: &str) -> bool
     characters(text) == 1 && 1 < text.len() && text.len() < place
 }
 
-// Returns the text of a chunk in braces in a title. It is in a tag that keeps its case, unless it is empty or only a letter that is
-// written by a command.
+// Returns the text of a chunk in braces in a title. It is in a tag that keeps its case, unless it is empty or
+// `is_letter_of_command` holds.
 #[tactic(auto, unfolding(crate::specs::Texts::braced_in_title))]
 fn braced_in_title(alloc: Global, chunk: &Spanned<Chunk>, text: Text) -> Result<Text, AllocError>
     ensures { IfOk result (λ kept. kept ≡ braced_in_title chunk.now text) }

@@ -105,8 +105,7 @@ pub fn language_value(entry: &Entry) -> Option<ChunksRef<'_>>
     }
 }
 
-// Returns the fields `note` and `addendum`, and `howpublished` if it is neither the publisher nor the address. Between them are full
-// stops, as by `joined_by_mark`.
+// Returns the fields `note` and `addendum`, and `way_in_note`. Between them are full stops, as by `joined_by_mark`.
 #[tactic(auto, unfolding(crate::specs::Notes::note_of))]
 fn note_of(alloc: Global, entry: &Entry) -> Result<Text, AllocError>
     ensures { IfOk result (λ text. text ≡ spec.note_of entry.now) }

@@ -42,8 +42,8 @@ pub fn plain_text(alloc: Global, entry: &Entry, name: &str) -> Result<Text, Allo
     shown_field(alloc, entry.get(name))
 }
 
-// Returns the text of the field `name`, a title, with HTML tags. Verbatim text is in a tag that keeps its case, unless it is only a
-// letter that is written by a command.
+// Returns the text of the field `name`, a title, with HTML tags. Verbatim text is in a tag that keeps its case, with the
+// exceptions of `markup`.
 #[tactic(auto, unfolding(crate::specs::Texts::title_text))]
 pub(crate) fn title_text(alloc: Global, entry: &Entry, name: &str) -> Result<Text, AllocError>
     ensures { IfOk result (λ shown. shown ≡ title_text entry.now name.now) }

@@ -74,7 +74,8 @@ fn title_of_whole(alloc: Global, entry: &Entry) -> Result<Text, AllocError>
     Ok(either(own_title(alloc, entry)?, title_of_book(alloc, entry)?))
 }
 
-// Returns the title of the item. For a book or a periodical that is a volume of a work, this is the title of the work.
+// Returns the title of the item: of the work itself. For a book or a periodical, it is the title of the work of several volumes, or else
+// that of `title_of_whole`.
 #[tactic(auto, unfolding(crate::specs::Titles::item_title))]
 fn item_title(alloc: Global, kind: ItemType, entry: &Entry) -> Result<Text, AllocError>
     ensures { IfOk result (λ text. text ≡ spec.item_title kind entry.now) }

@@ -88,7 +88,7 @@ pub(crate) fn item_type_of(entry_type: &EntryType, subtype: &str, has_event: boo
     }
 }
 
-// Returns whether the item is an article or a review.
+// Returns whether the item is an article of a journal, a magazine or a newspaper, or a review.
 pub(crate) fn is_article(kind: ItemType) -> bool
     ensures { result ≡ is_article kind }
 {

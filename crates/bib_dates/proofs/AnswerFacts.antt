@@ -1,4 +1,4 @@
--- An error of a part is an error of the whole.
+-- An error of a part is an error of the whole, and the values of all parts are the value of the whole.
 use Rattle.std.proofs.Common.{◌≡◌, ℕ, List, Result, Ok, Err, Option, Some, inl, inr, refl, sym, ap, subst, ◌∙◌}
 use Rattle.std.specs.Borrow.{Bor}
 use Rattle.std.specs.Prelude.{ℤ}
@@ -11,7 +11,7 @@ use Rattle.bib_dates.specs.Readings.Reading.{says, error, unread}
 use Rattle.bib_dates.specs.Code.{reading, part_reading}
 use Rattle.bib_dates.specs.ThreeFields.{month_field, day_of, month_with_day, year_field, month_and_day, on_day, three_fields_of}
 
--- parsing returned this error
+-- the error `e` is out of memory, or one that parsing with the result `r` may return
 abbrev pub Refused : {A : Type 0} → Reading A → TypeError → Type 0
 Refused r e = IsRefusal (readable_value r) (MayRefuse r) e
 
@@ -21,7 +21,7 @@ said (says b) a e = let x : b ≡ a = cc in ap (λ y. says y) x
 said (error kind) a e = cc
 said unread a e = cc
 
--- an error of the first step is the error of both
+-- an error of the first step is an error of both steps
 passed : {A B : Type 0} (r : Reading A) (next : A → Reading B) (e : TypeError) → Refused r e → Refused (r >>= next) e
 passed (says a) next e (inl h) = inl h
 passed (says a) next e (inr (other, none, never)) = absurd never
@@ -30,7 +30,7 @@ passed (error kind) next e (inr (other, none, is)) = inr (other, refl, is)
 passed unread next e (inl h) = inl h
 passed unread next e (inr (other, none, is)) = inr (other, refl, is)
 
--- an error of a result is the error of the part
+-- an error of a result is an error of the part
 part_refused : {A : Type 0} (r : Result (A × Bor (List ℕ)) ReadError) (e : TypeError) → Refused (reading r) e → Refused (part_reading r) e
 part_refused (Ok p) e (inl h) = inl h
 part_refused (Ok p) e (inr (other, none, never)) = absurd never
@@ -48,7 +48,7 @@ part_said (Err (Unspecified reason)) p e = cc
 
 -- ---- a month, and the day after it or in its own field
 
--- an error of the month is the error of month and day
+-- an error of the month is an error of month and day
 pub month_refused : (text : List ℕ) (day : Option (List ℕ)) (r : Result (Option ℕ × Bor (List ℕ)) ReadError) (e : TypeError)
     → part_reading r ≡ month_field text → Refused (reading r) e → Refused (month_with_day text day) e
 unfolding month_with_day
@@ -81,7 +81,7 @@ month_and_day_read text day r p read d is found same h =
 
 -- ---- three fields
 
--- an error of the year is the error of three fields
+-- an error of the year is an error of the three fields
 pub year_refused : (year : List ℕ) (month day : Option (List ℕ)) (e : TypeError) → Refused (year_field year) e
     → Refused (three_fields_of year month day) e
 unfolding three_fields_of

@@ -253,7 +253,7 @@ not_uncertain b h = grind (arith, nat_tests)
 not_approximate : (b : ℕ) → (is_value_byte b || b == 0) ≡ true → is_approximate b ≡ false
 not_approximate b h = grind (arith, nat_tests)
 
--- the last byte of such a text is no mark
+-- the last byte of a text whose bytes all pass `is_value_byte` is no mark
 last_bare : (text : List ℕ) → list_all is_value_byte text ≡ true → (is_uncertain (last text) ≡ false) × (is_approximate (last text) ≡ false)
 last_bare text h =
     let k =

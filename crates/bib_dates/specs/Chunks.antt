@@ -62,6 +62,6 @@ abbrev pub year_error_place : Value → Option Value → Option Value → Readin
 year_error_place year month day (says read) = parts_error_place (whole_span year) month day
 year_error_place year month day other = whole_span year
 
--- the span of an error of three fields: that of the first one that can't be parsed
+-- the span of an error of three fields: that of the first one that can't be parsed, or of a day after the month (`day_place`)
 abbrev pub three_fields_place : Value → Option Value → Option Value → Range ℕ
 three_fields_place year month day = year_error_place year month day (year_field (text year))

@@ -1,6 +1,6 @@
 -- Meaning: words of public contracts.
 -- Dates as texts, after levels 0 and 1 of the Extended Date/Time Format as in the BibLaTeX manual, and as the Rust crate
--- `biblatex` parses them. White space may come before and after hyphens.
+-- `biblatex` parses them, with the exceptions that docs/DIFFERENCES.md lists. White space may come before and after hyphens.
 use Rattle.std.specs.Prelude.{ℕ, ◌+◌, ◌-◌, ◌*◌, Bool, ◌&&◌, ◌||◌, ◌==◌, nat_lt, not, if◌then◌else◌, ℤ, pos, List, [], length, take, slice_index, codes, Option, Some, None, bytes_eq}
 use Rattle.std.specs.List.{prefix_len, before_first, after_first, list_any}
 use Rattle.std.specs.Char.{is_ascii_digit}

@@ -1,6 +1,6 @@
 -- Meaning: words of public contracts.
--- Times, and the orders of times and of dates, as in the Rust crate `biblatex`. One rule differs: two unequal times of the
--- same moment are not comparable.
+-- Times, and the orders of times and of dates, as in the Rust crate `biblatex`. Two rules differ. Two unequal times of the
+-- same moment are not comparable. Dates that both lack a part are ordered by the parts after it.
 use Rattle.std.specs.Prelude.{ℕ, ◌+◌, ◌*◌, ℤ, pos, ◌-ℤ◌, unsigned_abs, Bool, true, false, not, ◌&&◌, nat_lt, if◌then◌else◌, Option, Some, None, is_some, nat_eq}
 use Rattle.std.specs.Int.{is_negative}
 use Rattle.std.specs.Option.{option_eq}

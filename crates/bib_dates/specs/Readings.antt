@@ -1,6 +1,5 @@
 -- Meaning: words of public contracts.
--- Results of parsing a text. Some kinds of errors are specified and others aren't, as for the dates of the Rust crate
--- `biblatex`.
+-- Results of parsing a text. Some kinds of errors are specified and others aren't.
 use Rattle.std.specs.Prelude.{◌≡◌, ℕ, List, Option, Some, None, ⊤}
 use Rattle.bib_tables.specs.declared.type_error.TypeErrorKind.{TypeErrorKind}
 use Rattle.bib_tables.specs.declared.type_error.TypeErrorKind.TheVariants.{UndefinedRange, DayOutOfRange, MonthOutOfRange, InvalidNumber, MissingNumber, WrongNumberOfDigits, InvalidFormat, YearZeroCE}

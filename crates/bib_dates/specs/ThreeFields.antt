@@ -1,7 +1,8 @@
 -- Meaning: words of public contracts.
 -- Dates in three fields: a year with an era, a month by number or name, and a day in a field of its own or after the
 -- month. The rules are those of the BibLaTeX manual and of BibTeX's fields `year`, `month` and `day`, as the Rust crate
--- `biblatex` parses them. The eras and the names of months are ASCII; the texts are not put into upper case.
+-- `biblatex` parses them, with the exceptions that docs/DIFFERENCES.md lists. The eras and the names of months are ASCII; the texts
+-- are not put into upper case.
 use Rattle.std.specs.Prelude.{ℕ, ◌-◌, Bool, true, false, ◌&&◌, ◌||◌, ◌==◌, nat_lt, not, if◌then◌else◌, ℤ, pos, ◌-ℤ◌, List, [], ◌∷◌, length, drop, codes, encode_utf8_all, Option, Some, None}
 use Rattle.std.specs.List.{prefix_len}
 use Rattle.std.specs.declared.ops.Range.{Range}

@@ -1,5 +1,6 @@
 -- Meaning: words of public contracts.
--- The time after a day, as in level 0 of the Extended Date/Time Format, and as the Rust crate `biblatex` parses it.
+-- The time after a day, as in level 0 of the Extended Date/Time Format, and as the Rust crate `biblatex` parses it, except that only
+-- ASCII digits are digits.
 use Rattle.std.specs.Prelude.{ℕ, Bool, true, false, ◌==◌, if◌then◌else◌, List, [], length, drop, Option, Some, None}
 use Rattle.std.specs.Str.{trim_start}
 use Rattle.bib_tables.specs.declared.type_error.TypeErrorKind.TheVariants.{InvalidNumber}

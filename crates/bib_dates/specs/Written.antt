@@ -1,5 +1,5 @@
 -- Meaning: words of public contracts.
--- How dates are written, as the Rust crate `biblatex` writes them.
+-- How dates are written, as the Rust crate `biblatex` writes them, except for a month or a day of 255, which overflows there.
 use Rattle.std.specs.Prelude.{ℕ, ◌+◌, ◌-◌, Bool, true, false, if◌then◌else◌, ℤ, unsigned_abs, replicate, List, [], ◌∷◌, ◌++◌, length, codes, Option, Some, None}
 use Rattle.std.specs.Option.{option_map}
 use Rattle.std.specs.Fmt.{decimal}

@@ -1,5 +1,5 @@
-// The parser of a date in three fields. A function parses one part at the start of a text. If another part may come
-// after it, the function returns the rest too.
+// The parser of a date in three fields. A function that parses one part at the start of a text also returns the rest, if
+// its caller parses another part there.
 
 ghost use Rattle.std.specs.Prelude.{◌≡◌, ◌<◌, ◌&&◌, ◌==◌, not, nat_lt, length, is_some, IfSome, drop, codes};
 ghost use Rattle.std.specs.List.{prefix_len};

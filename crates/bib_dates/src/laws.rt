@@ -1,4 +1,4 @@
-//! Laws of dates and times. The functions have empty bodies: each contract is a theorem about the definitions that it
+//! Laws of dates and times. The functions have empty bodies: each clause is a theorem about the definitions that it
 //! names.
 
 ghost use Rattle.std.specs.Prelude.{◌≡◌, ◌↔◌, ◌≢◌, ◌⊎◌, ◌<ℤ◌, ℕ, List, Option, Some, None, is_some};

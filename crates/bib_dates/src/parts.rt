@@ -1,4 +1,4 @@
-// The parts of dates: each function parses one at the start of a text, and returns it with the rest of the text.
+// The parts of dates. Most functions parse one at the start of a text, and return the rest of the text, too.
 
 ghost use Rattle.std.specs.Prelude.{◌≡◌, ◌<◌, ◌≤◌, pos, neg_ℤ, ◌≤ℤ◌, ◌==◌, IfOk, IfSome, is_some, length, drop};
 ghost use Rattle.std.specs.List.{prefix_len};

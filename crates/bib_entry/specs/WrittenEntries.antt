@@ -1,6 +1,6 @@
 -- Meaning: words of public contracts.
--- The text of entries in BibLaTeX's or BibTeX's types and fields, as the Rust crate `biblatex` writes them. Texts are lists
--- of bytes.
+-- The text of entries in BibLaTeX's or BibTeX's types and fields, as the Rust crate `biblatex` writes them, with the exceptions
+-- that docs/DIFFERENCES.md lists. Texts are lists of bytes.
 use Rattle.std.specs.Prelude.{ℕ, List, [], ◌∷◌, ◌++◌, codes, encode_utf8_all, bytes_eq, if◌then◌else◌, Option, Some, None}
 use Rattle.std.specs.FinMap.{entries}
 use Rattle.std.specs.List.{flat_map}

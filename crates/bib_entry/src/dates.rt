@@ -126,7 +126,7 @@ impl Entry {
 
     /// Returns the date of publication: the field `date`, or else the date in `year`, `month` and `day`. If the field `date`
     /// can't be parsed, its chunks are returned. If the three fields can't be parsed, the error is a `TypeError`. If `date`
-    /// and `year` are missing, the error is `Missing` with the name `year`.
+    /// and `year` are missing, the error is `Missing` with the name `year`. Any result may be out of memory instead.
     pub fn date(&self, alloc: Global) -> Result<PermissiveType<Date>, RetrievalError>
         ensures { GetsDate ⟦<PermissiveType<Date> as Type>⟧ (codes "") self.now result }
     {
@@ -145,6 +145,7 @@ impl Entry {
     /// Returns the date of the conference: the field `eventdate`, or else the date in `eventyear`, `eventmonth` and
     /// `eventday`. If the field `eventdate` can't be parsed, its chunks are returned. If the three fields can't be parsed,
     /// the error is a `TypeError`. If `eventdate` and `eventyear` are missing, the error is `Missing` with the name `year`.
+    /// Any result may be out of memory instead.
     pub fn event_date(&self, alloc: Global) -> Result<PermissiveType<Date>, RetrievalError>
         ensures { GetsDate ⟦<PermissiveType<Date> as Type>⟧ (codes "event") self.now result }
     {
@@ -163,7 +164,8 @@ impl Entry {
 
     /// Returns the date of the original: the field `origdate`, or else the date in `origyear`, `origmonth` and `origday`. If
     /// the field `origdate` can't be parsed, its chunks are returned. If the three fields can't be parsed, the error is a
-    /// `TypeError`. If `origdate` and `origyear` are missing, the error is `Missing` with the name `year`.
+    /// `TypeError`. If `origdate` and `origyear` are missing, the error is `Missing` with the name `year`. Any result may be
+    /// out of memory instead.
     pub fn orig_date(&self, alloc: Global) -> Result<PermissiveType<Date>, RetrievalError>
         ensures { GetsDate ⟦<PermissiveType<Date> as Type>⟧ (codes "orig") self.now result }
     {
@@ -182,7 +184,8 @@ impl Entry {
 
     /// Returns the date when the address was visited: the field `urldate`, or else the date in `urlyear`, `urlmonth` and
     /// `urlday`. If the field `urldate` can't be parsed, its chunks are returned. If the three fields can't be parsed, the
-    /// error is a `TypeError`. If `urldate` and `urlyear` are missing, the error is `Missing` with the name `year`.
+    /// error is a `TypeError`. If `urldate` and `urlyear` are missing, the error is `Missing` with the name `year`. Any result
+    /// may be out of memory instead.
     pub fn url_date(&self, alloc: Global) -> Result<PermissiveType<Date>, RetrievalError>
         ensures { GetsDate ⟦<PermissiveType<Date> as Type>⟧ (codes "url") self.now result }
     {

@@ -74,7 +74,7 @@ fn write_side(
     write_part(out, prefix, "day", side.day_text(alloc)?)
 }
 
-// Appends a date in separate fields, without times and marks.
+// Appends a date in separate fields, without times and marks. A range that is open on one side becomes the date of its other side.
 fn write_date(alloc: Global, out: &mut String, date: &Date) -> Result<(), AllocError>
     ensures { OnOk result (string_bytes out.new ≡ string_bytes out.old ++ date_lines date.now) }
 {

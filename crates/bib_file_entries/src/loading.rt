@@ -94,8 +94,8 @@ pub(crate) fn read_field<'f, 's>(
     Ok((Text::from_string(name), shrink_chunks(chunks)))
 }
 
-// Returns the same chunks without spare capacity. Most fields have one chunk, and a list that has grown has capacity for
-// four.
+// Returns the same chunks without spare capacity. Most fields have one chunk, and a list that has grown has capacity for at
+// least four.
 fn shrink_chunks(chunks: Chunks) -> Chunks
     ensures { result ≡ chunks }
 {

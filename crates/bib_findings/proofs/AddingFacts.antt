@@ -193,7 +193,7 @@ added_in_order none one two three new a b c d empty first second third fourth =
     let start : one ≡ a = first ∙ ap (λ l. l ++ a) empty in
     added_thrice one two three new b c d second third fourth ∙ ap (λ l. l ++ (b ++ (c ++ d))) start
 
--- the concatenation of seven lists doesn't depend on the order in which they are joined
+-- appending three lists in turn to the concatenation of four lists makes the concatenation of all seven
 joined_in_order : (a b c d e f g : List Finding)
     → (((a ++ (b ++ (c ++ d))) ++ e) ++ f) ++ g ≡ a ++ (b ++ (c ++ (d ++ (e ++ (f ++ g)))))
 joined_in_order a b c d e f g = simp append_assoc

@@ -14,7 +14,7 @@ use Rattle.bib_findings.specs.Counted.{count_of, counts, lowercase_name, one_fie
 use Rattle.bib_findings.specs.Foreign.{have_one_name, if_first, most_counted}
 use Rattle.bib_findings.proofs.ListFacts.{any_of_map}
 
--- the first fields with each name after some earlier ones
+-- the first field with each name that none of some earlier fields has
 abbrev firsts_after : List FieldReading → List FieldReading → List FieldReading
 firsts_after = each_after if_first
 

@@ -133,7 +133,7 @@ indices_more index_of new_index names name count indices none size updates = rec
   longer : length (names ++ name ∷ []) ≡ length names + 1
   longer = length-append names (name ∷ [])
 
-  -- a name with an index is another one
+  -- a name with an index differs from `name`
   differs : (other : List ℕ) (k : ℕ) → index_of other ≡ Some k → bytes_eq name other ≡ false
   differs other k at = of (bytes_eq name other) refl where
     of : (test : Bool) → bytes_eq name other ≡ test → bytes_eq name other ≡ false
@@ -164,7 +164,7 @@ indices_more index_of new_index names name count indices none size updates = rec
       let found = indices.only other i (sym (ap (λ b. cond b (Some count) (index_of other)) is) ∙ sym (updates other) ∙ at) in
       (omega (arith, longer, found.0), get_or_append_left names (name ∷ []) [] i found.0 ∙ found.1)
 
--- no name has an index if there are no names
+-- if no name has an index, these are the indices of the names of an empty list
 pub indices_none : (index_of : List ℕ → Option ℕ) → ((name : List ℕ) → index_of name ≡ None) → HasIndices index_of []
 indices_none index_of none = record {
   each = λ i within. absurd (omega (arith, within));

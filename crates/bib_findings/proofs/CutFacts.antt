@@ -1,4 +1,4 @@
--- Entries that aren't cut, and the keys of entries by their starts.
+-- Entries that aren't cut.
 use Rattle.std.proofs.Common.{◌≡◌, ℕ, Bool, true, false, not, List, [], ◌∷◌, ◌++◌, ◌+◌, ◌<◌, length, get_or, take, map, sym, ap, ◌∙◌, append-nil, cond}
 use Rattle.std.specs.List.{All}
 use Rattle.std.proofs.lemmas.List.Elements.{All-get_or, filter-append}
@@ -11,12 +11,12 @@ use Rattle.bib_findings.specs.Cuts.{is_cut, whole_among}
 use Rattle.bib_findings.specs.Duplicates.{entries_at}
 use Rattle.bib_findings.proofs.SeenFacts.{entries_more, entries_next}
 
--- the entries among some entries and one more that aren't cut
+-- with one more entry, the entries that aren't cut are those before, and then this one if it isn't cut
 whole_more : (skipped : List SkippedBlock) (entries : List EntryReading) (one : EntryReading)
     → whole_among skipped (entries ++ one ∷ []) ≡ whole_among skipped entries ++ cond (not (is_cut skipped one)) (one ∷ []) []
 whole_more skipped entries one = filter-append (λ said. not (is_cut skipped said)) entries (one ∷ [])
 
--- the entries at the first indices and the next one that aren't cut
+-- the same for the entries at the first indices and at the next one
 whole_next : (skipped : List SkippedBlock) (said : List (Spanned RawEntry)) (origins : List ℕ) (index : ℕ) (item : Spanned RawEntry)
     (cut : Bool) → All (λ i. i < length said) origins → index < length origins → item ≡ get_or said (get_or origins index 0) item
     → cut ≡ is_cut skipped (entry_reading_of item)

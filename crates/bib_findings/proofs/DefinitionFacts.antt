@@ -53,7 +53,7 @@ pieces_differ one other index d e within within' so_far differ =
     sym so_far ∙ pieces_next one other index d e within within'
     ∙ ap (λ b. b && are_equal_pieces (map piece_of (drop (index + 1) one)) (map piece_of (drop (index + 1) other))) differ
 
--- if the pieces at an index are the same, the values have the same pieces if those after the index are the same
+-- if the pieces from an index on decide whether values have the same pieces, and those at the index are the same, the ones after it decide
 pub pieces_same : (one other : List (Spanned RawChunk)) (index : ℕ) (d e : Spanned RawChunk) → index < length one
     → index < length other
     → are_equal_pieces (map piece_of (drop index one)) (map piece_of (drop index other))
@@ -67,7 +67,7 @@ pieces_same one other index d e within within' so_far equal =
     ∙ ap (λ b. b && are_equal_pieces (map piece_of (drop (index + 1) one)) (map piece_of (drop (index + 1) other))) equal)
     ∙ so_far
 
--- values have the same pieces if all their pieces were compared
+-- if the pieces from an index on decide whether values have the same pieces, and there are none, the values have the same pieces
 pub pieces_end : (one other : List (Spanned RawChunk)) (index : ℕ) → length one ≤ index → length other ≤ index
     → are_equal_pieces (map piece_of (drop index one)) (map piece_of (drop index other))
     ≡ are_equal_pieces (map piece_of one) (map piece_of other)

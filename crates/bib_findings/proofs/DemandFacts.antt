@@ -16,7 +16,7 @@ unmet-append said entry demands others =
     ap (map (demanded_field said)) (filter-append unmet demands others)
     ∙ map-append (demanded_field said) (filter unmet demands) (filter unmet others)
 
--- the fields for all requirements are those for the requirements of the type and then that for a date
+-- the fields for the unmet requirements are those for the unmet ones of the type, and then those for the unmet ones of a date
 pub unmet_in_turn : (said : EntryReading) (entry : Entry) (none first all : Names) (demands dates : List Names)
     → none ≡ [] → first ≡ none ++ unmet_fields said entry demands → all ≡ first ++ unmet_fields said entry dates
     → demands ≡ demands_of said.kind.text → dates ≡ date_demand said.kind.text → all ≡ missing_fields said entry

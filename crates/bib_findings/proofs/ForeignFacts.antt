@@ -40,7 +40,7 @@ foreign_next fields index field within is =
     (map_more field_of fields index field within ∙ ap (λ one. map field_of (take index fields) ++ field_of one ∷ []) (sym is))
     ∙ filter-append (λ f. is_foreign f.name.text) (map field_of (take index fields)) (field_of field ∷ [])
 
--- counting the next field, which other programs write, counts those among the fields up to it
+-- if such fields before the next field are counted, and then this field, which other programs write, those up to it are counted
 pub counted_next : (fields : List Pair) (index : ℕ) (field : Pair) (old mid new : List Counted) → index < length fields
     → field ≡ get_or fields index field → is_foreign (field_of field).name.text ≡ true
     → CountsMore (foreign_of (map field_of (take index fields))) old mid → CountsMore (field_of field ∷ []) mid new
@@ -51,7 +51,7 @@ counted_next fields index field old mid new within is foreign before later =
     (sym (foreign_next fields index field within is ∙ ap (λ l. foreign_of (map field_of (take index fields)) ++ l) one))
     (counts_both (foreign_of (map field_of (take index fields))) (field_of field ∷ []) old mid new before later)
 
--- without counting the next field, which other programs don't write, those among the fields up to it are counted
+-- if such fields before the next field are counted, and other programs don't write this field, those up to it are counted
 pub counted_same : (fields : List Pair) (index : ℕ) (field : Pair) (old new : List Counted) → index < length fields
     → field ≡ get_or fields index field → is_foreign (field_of field).name.text ≡ false
     → CountsMore (foreign_of (map field_of (take index fields))) old new
@@ -93,7 +93,7 @@ among_next said origins index one there within is =
     ∙ ap foreign_among (given_more (slice_get readings) (take index origins) at (entry_reading_of one) here)
     ∙ among_more (entries_at readings (take index origins)) (entry_reading_of one)
 
--- counting the fields of the entry at the next index counts those of the entries up to it
+-- if such fields of the first entries are counted, and then those of the next one, those of the entries up to it are counted
 pub entry_counted : (said : List (Spanned RawEntry)) (origins : List ℕ) (index : ℕ) (one : Spanned RawEntry) (old new : List Counted)
     → All (λ i. i < length said) origins → index < length origins → one ≡ get_or said (get_or origins index 0) one
     → AreFieldsCounted old (foreign_among (entries_at (map entry_reading_of said) (take index origins)))
@@ -120,7 +120,7 @@ pub findings_of_counts : (entries : List EntryReading) (counted : List Counted) 
 findings_of_counts entries counted are =
     pairs_found counted ∙ ap (map counted_finding) are ∙ counts_found (foreign_among entries) (first_fields (foreign_among entries))
 
--- appending the finding of the next count appends those of the counts up to it
+-- appending the finding of the next count extends the findings of the counts before it
 pub finding_next : (counted : List Counted) (index : ℕ) (one : Counted) (old mid new : List Finding) (finding : Finding)
     → index < length counted → one ≡ get_or counted index one → mid ≡ old ++ map (λ c. counted_finding (counted_of c)) (take index counted)
     → new ≡ mid ++ finding ∷ [] → finding ≡ counted_finding (counted_of one)

@@ -36,7 +36,7 @@ prefix_here text prefixes index prefix rest within before strips =
     ∙ ap (λ b. cond b (drop (length p) text) (without_prefixes text (spelled (drop (index + 1) prefixes)))) begins
     ∙ sym (ap (without_prefixes text) (from_index prefixes index prefix within)) ∙ sym before
 
--- if the text doesn't begin with the prefix at `index`, the result is determined by the prefixes after it
+-- if the text begins neither with the prefix at `index` nor with one before it, the result is determined by the prefixes after it
 pub prefix_gone : (text : List ℕ) (prefixes : List (Bor (List ℕ))) (index : ℕ) (prefix : Bor (List ℕ)) → index < length prefixes
     → without_prefixes text (spelled prefixes) ≡ without_prefixes text (spelled (drop index prefixes))
     → FindsTextPrefix (get_or prefixes index prefix).now text None
@@ -47,7 +47,7 @@ prefix_gone text prefixes index prefix within before lacks =
     before ∙ ap (without_prefixes text) (from_index prefixes index prefix within)
     ∙ sym (ap (λ b. cond b (drop (length p) text) (without_prefixes text (spelled (drop (index + 1) prefixes)))) begins)
 
--- if the text at `index` doesn't pass, it depends on those after it whether one passes
+-- if the text at `index` doesn't pass, one from `index` on passes exactly if one after it does
 pub any_gone : (test : List ℕ → Bool) (texts : List (Bor (List ℕ))) (index : ℕ) (text : Bor (List ℕ)) (whole : Bool)
     → index < length texts → whole ≡ list_any test (spelled (drop index texts)) → test (get_or texts index text).now ≡ false
     → whole ≡ list_any test (spelled (drop (index + 1) texts))
@@ -55,7 +55,7 @@ any_gone test texts index text whole within so_far fails =
     so_far ∙ ap (list_any test) (from_index texts index text within)
     ∙ ap (λ b. b || list_any test (spelled (drop (index + 1) texts))) fails
 
--- if the text at `index` passes, one passes
+-- if the text at `index` passes, one from `index` on passes
 pub any_here : (test : List ℕ → Bool) (texts : List (Bor (List ℕ))) (index : ℕ) (text : Bor (List ℕ)) (whole : Bool)
     → index < length texts → whole ≡ list_any test (spelled (drop index texts)) → test (get_or texts index text).now ≡ true → whole ≡ true
 any_here test texts index text whole within so_far passes =

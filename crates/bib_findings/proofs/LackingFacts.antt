@@ -41,7 +41,7 @@ passed_next test indices indices' next passes more so i = (
   ]),
 )
 
--- it stays one if the next index doesn't pass
+-- such a list is also one of those below the next number if the next index doesn't pass
 pub failed_next : (test : ℕ → Bool) (indices indices' : List ℕ) (next : ℕ) → test next ≡ false → indices' ≡ indices
     → ((i : ℕ) → Contains indices i ↔ ((i < next) × (test i ≡ true)))
     → (i : ℕ) → Contains indices' i ↔ ((i < next + 1) × (test i ≡ true))
@@ -58,7 +58,7 @@ some_cut : {graph : Graph} {is_cut : ℕ → Bool} {index : ℕ} → MayLack gra
 some_cut {index = index} (MayLack.cut is) = (index, is)
 some_cut (MayLack.refers edge lacks) = some_cut lacks
 
--- if no entry is cut, no fields are lost
+-- if no entry is cut, there is no entry of which fields may be lost
 pub none_lacking : (graph : Graph) (is_cut : ℕ → Bool) (count : ℕ) → ((k : ℕ) → is_cut k ≡ true → ⊥)
     → AreMarks (MayLack graph is_cut) count (replicate count false)
 none_lacking graph is_cut count none = record {
@@ -101,7 +101,7 @@ parents_below names own index entry below within is =
     (All-get_or (λ refs. All (λ r. r < length graph) refs) graph index [] (omega (arith, within, length-map own row))
     (graph_in_range names own below)))
 
--- the references of the first entries, reversed, become those of one entry more
+-- adding the next entry to the lists of its parents reverses the references of one entry more
 pub children_next : (names : ByText ℕ) (own : List Entry) (index : ℕ) (entry : Entry) (parents : List ℕ) (lists lists' : Graph)
     → index < length own → entry ≡ get_or own index entry → parents ≡ references names (fields_of entry.fields)
     → HasReferrers (graph_by names (take index own)) lists

@@ -215,6 +215,6 @@ kept_duplicates all earlier (said ∷ rest) is =
         (All-weaker (Covers all said) (λ one. HasOneOf (identities said) one → true ≡ false)
         (λ one c shares. sym (c shares).1 ∙ left) earlier cover)))
 
--- the findings of the entries that may share an identity are those of all entries
+-- the findings of likely duplicates among the entries that may share an identity are those among all entries
 pub alike : (entries : List EntryReading) → duplicates (may_share entries) ≡ duplicates entries
 alike entries = kept_duplicates (listed_all entries) [] entries refl

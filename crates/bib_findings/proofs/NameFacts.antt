@@ -94,7 +94,7 @@ names_none noted none name is found = absurd (let clash : None ≡ Some is = sym
 pub unknown_by : (name : List ℕ) → is_known_field name ≡ false → is_foreign name ≡ false → is_unknown_field name ≡ true
 unknown_by name known foreign = ap (λ b. not b && not (is_foreign name)) known ∙ ap not foreign
 
--- the part of a name before a plus sign is the name without its mark if an annotation mark follows
+-- the part of a name before its first plus sign is the annotated name if an annotation mark follows the sign
 pub annotated_with : (name field mark : List ℕ) → field ≡ before_first (λ b. b == char.plus) name
     → mark ≡ after_first (λ b. b == char.plus) name → is_annotation_mark mark ≡ true → field ≡ annotated_name name
 annotated_with name field mark field_is mark_is marks =

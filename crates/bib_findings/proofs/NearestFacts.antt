@@ -87,7 +87,7 @@ first_stays seen name best known first far = record {
   as_far = All-push (λ other. distance name best ≤ distance name other) first.after known first.as_far far;
 }
 
--- a plausible name that is nearer than the nearest one so far is the nearest one, at its distance
+-- a plausible name with fewer edits than the least number so far is the nearest one, at its distance
 pub nearer_next : (seen : Names) (name known : List ℕ) (nearest : Option (List ℕ)) (least edits most : ℕ)
     → IsNearest seen name nearest → least ≡ least_edits most name nearest → edits ≡ unwrap_or (plausible_distance name known) most
     → least ≤ most → edits < least

@@ -42,7 +42,7 @@ chosen_more all (first ∷ marks) (other ∷ indices) one index same =
     ++ cond (has_repeated all one) (index ∷ []) [])
     [ true ↦ refl | false ↦ refl ]
 
--- the entries at the selected indices are the selected entries
+-- the entries at the selected indices are those of the entries that have a mark that occurs more than once
 pub chosen_entries : (all : List ℕ) (said : List EntryReading) (indices : List ℕ) → All (λ index. index < length said) indices
     → entries_at said (chosen all (map marks_of (entries_at said indices)) indices)
     ≡ filter (λ one. has_repeated all (marks_of one)) (entries_at said indices)
@@ -211,7 +211,7 @@ noted_next met new all index other within adds noted =
     ∙ ap (λ l. flat_map listed (take index all) ++ l) (append-nil (listed (get_or all index other)))))
     (adds (flat_map listed (take index all)) noted)
 
--- there are as many entries as indices
+-- there are as many entries at indices in range as indices
 pub as_many_entries : (said : List EntryReading) (indices : List ℕ) → All (λ index. index < length said) indices
     → length (entries_at said indices) ≡ length indices
 as_many_entries said [] there = refl

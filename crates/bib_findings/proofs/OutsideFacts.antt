@@ -6,7 +6,8 @@ use Rattle.std.proofs.lemmas.Str.{encodes-append}
 use Rattle.bib_text.proofs.ListFacts.{drop_is}
 use Rattle.bib_findings.specs.Outside.{open_braces_after, outside, shown}
 
--- the text is that of the characters so far, and `depth` braces are open after them
+-- whether `text` and then the text of the characters after the first `count`, if `depth` braces are open there, are the text outside
+-- braces; `depth` is at most `count`
 pub record IsOutside (characters : List ℕ) (count depth : ℕ) (text : List ℕ) : Type 0 where
   pub small : depth ≤ count
   pub left : encode_utf8_all (outside 0 characters) ≡ text ++ encode_utf8_all (outside depth (drop count characters))

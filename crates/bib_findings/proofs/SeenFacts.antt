@@ -34,7 +34,7 @@ entries_more said indices index other within =
     given_more (slice_get (map entry_reading_of said)) indices index (entry_reading_of (get_or said index other))
     (get_mapped entry_reading_of said index other within)
 
--- the entries at the first indices and the next one are those at the first indices and the entry at the next one
+-- the entries at the first `index + 1` indices are those at the first `index` ones, and then the entry at the next one
 pub entries_next : (said : List (Spanned RawEntry)) (indices : List ℕ) (index : ℕ) (item : Spanned RawEntry)
     → All (λ i. i < length said) indices → index < length indices
     → item ≡ get_or said (get_or indices index 0) item
@@ -51,7 +51,7 @@ pub entry_at : (said : List (Spanned RawEntry)) (index : ℕ) (item : Spanned Ra
     → slice_get (map entry_reading_of said) index ≡ Some (entry_reading_of item)
 entry_at said index item within is = get_mapped entry_reading_of said index item within ∙ ap (λ e. Some (entry_reading_of e)) (sym is)
 
--- there are as many entries as indices
+-- there are as many entries at indices in range as indices
 pub as_many : (said : List (Spanned RawEntry)) (other : Spanned RawEntry) (indices : List ℕ) → All (λ index. index < length said) indices
     → length (entries_at (map entry_reading_of said) indices) ≡ length indices
 as_many said other [] there = refl
@@ -78,19 +78,19 @@ entries_from said indices at item there within is =
     ∙ ap (λ o. cons_option o later)
     (entry_at said (get_or indices at 0) item (All-get_or (λ i. i < length said) indices at 0 within there) is)
 
--- if the next item passes, it is the first one that passes
+-- if the next item passes and none before it does, it is the first one that passes
 pub find_here : {A : Type 0} (test : A → Bool) (whole left later : List A) (item : A) → find test whole ≡ find test left
     → left ≡ item ∷ later → test item ≡ true → find test whole ≡ Some item
 find_here test whole left later item so_far is passes =
     so_far ∙ ap (find test) is ∙ ap (λ b. cond b (Some item) (find test later)) passes
 
--- if the next item doesn't pass, the first one that passes is among those after it
+-- if neither the next item nor one before it passes, the first one that passes is the first such one after it
 pub find_past : {A : Type 0} (test : A → Bool) (whole left later : List A) (item : A) → find test whole ≡ find test left
     → left ≡ item ∷ later → test item ≡ false → find test whole ≡ find test later
 find_past test whole left later item so_far is fails =
     so_far ∙ ap (find test) is ∙ ap (λ b. cond b (Some item) (find test later)) fails
 
--- if no field tells the next entry apart, it is the first such entry
+-- if no field tells the next entry apart, but one tells each entry before it apart, it is the first that no field tells apart
 pub alike_here : (said : List (Spanned RawEntry)) (indices : List ℕ) (at : ℕ) (one : EntryReading) (item : Spanned RawEntry) (told : Bool)
     → All (λ i. i < length said) indices → at < length indices → item ≡ get_or said (get_or indices at 0) item
     → first_alike one (entries_at (map entry_reading_of said) indices)
@@ -104,7 +104,7 @@ alike_here said indices at one item told there within is so_far tells alike =
     (entries_at (map entry_reading_of said) (drop at indices)) (entries_at (map entry_reading_of said) (drop (at + 1) indices))
     (entry_reading_of item) so_far (entries_from said indices at item there within is) (ap not (sym tells ∙ alike)))
 
--- if a field tells the next entry apart, the first such entry is among those after it
+-- if a field tells the next entry and each before it apart, the first that no field tells apart is the first such one after it
 pub alike_past : (said : List (Spanned RawEntry)) (indices : List ℕ) (at : ℕ) (one : EntryReading) (item : Spanned RawEntry) (told : Bool)
     → All (λ i. i < length said) indices → at < length indices → item ≡ get_or said (get_or indices at 0) item
     → first_alike one (entries_at (map entry_reading_of said) indices)
@@ -135,21 +135,21 @@ same_at said one first index item some within is =
 abbrev pub first_given : {A B : Type 0} → (A → Option B) → List A → Option B
 first_given given items = slice_get (filter_map given items) 0
 
--- if a value is given for the next item, it is the first one
+-- if a value is given for the next item and for none before it, it is the first one
 pub given_here : {A B : Type 0} (given : A → Option B) (whole left later : List A) (item : A) (value : B)
     → first_given given whole ≡ first_given given left → left ≡ item ∷ later → given item ≡ Some value
     → first_given given whole ≡ Some value
 given_here given whole left later item value so_far is some =
     so_far ∙ ap (first_given given) is ∙ ap (λ o. slice_get (cons_option o (filter_map given later)) 0) some
 
--- if no value is given for the next item, the first one is given for an item after it
+-- if no value is given for the next item or one before it, the first one is the first that is given for an item after it
 pub given_past : {A B : Type 0} (given : A → Option B) (whole left later : List A) (item : A)
     → first_given given whole ≡ first_given given left → left ≡ item ∷ later → given item ≡ None
     → first_given given whole ≡ first_given given later
 given_past given whole left later item so_far is none =
     so_far ∙ ap (first_given given) is ∙ ap (λ o. slice_get (cons_option o (filter_map given later)) 0) none
 
--- if a value is given for the next identity, it is the first one
+-- if a value is given for the next identity and for none before it, it is the first one
 pub among_here : (given : List ℕ → Option EntryReading) (ids : List (String Global)) (at : ℕ) (id : String Global)
     (found : Option EntryReading) → at < length ids → id ≡ get_or ids at id
     → first_given given (map string_bytes ids) ≡ first_given given (map string_bytes (drop at ids))
@@ -171,13 +171,13 @@ given_agree given other (item ∷ items) same =
     ap (λ o. cons_option o (filter_map given items)) (same item)
     ∙ ap (cons_option (other item)) (given_agree given other items same)
 
--- the indices that are lent for an identity, which are empty if it had none
+-- the indices that are lent for an identity are those that are stored for it
 lent_items : (had : Option (Vec ℕ Global)) (lent : Vec ℕ Global)
     → UnwrapsOrElse had (λ indices. (indices.items ≡ []) × (vec_len indices ≡ 0)) lent → lent.items ≡ stored_indices had
 lent_items None lent is = is.0
 lent_items (Some indices) lent is = ap (λ v. v.items) is
 
--- if one more index is written to the indices of an identity, it is stored for this identity
+-- if the indices of one identity are changed by `with_entry_index`, the stored indices are those of `remembered` for this identity
 pub stored_one : (old new : List ℕ → Option (Vec ℕ Global)) (key : List ℕ) (had : Option (Vec ℕ Global)) (lent kept : Vec ℕ Global)
     (index : ℕ) → had ≡ old key → UnwrapsOrElse had (λ indices. (indices.items ≡ []) × (vec_len indices ≡ 0)) lent
     → kept.items ≡ with_entry_index lent.items index → ((id : List ℕ) → new id ≡ update bytes_eq old key (Some kept) id)
@@ -203,7 +203,7 @@ pub remembered_both : (ids more : Names) (index : ℕ) (id : List ℕ) (had : Li
 remembered_both [] more index id had = refl
 remembered_both (one ∷ ids) more index id had = remembered_both ids more index id (cond (bytes_eq id one) (with_entry_index had index) had)
 
--- storing an index for the identity of a kind changes the indices of this identity by `with_entry_index`
+-- storing an index for the identity of a kind changes the indices of this identity by `with_entry_index`, and those of no other
 remembered_identity : (kind text : List ℕ) (index : ℕ) (id had : List ℕ)
     → remembered (identity kind text) index id had ≡ cond (list_any (bytes_eq id) (identity kind text)) (with_entry_index had index) had
 remembered_identity kind text index id had =
@@ -221,7 +221,7 @@ remembered_identity kind text index id had =
 abbrev IsOfKind : List ℕ → List ℕ → List ℕ → Type 0
 IsOfKind id kind text = list_any (bytes_eq id) (identity kind text) ≡ true
 
--- the identity of a kind begins with the kind
+-- an identity of a kind is the kind, followed by the text
 of_kind : (id kind text : List ℕ) → IsOfKind id kind text → id ≡ kind ++ text
 of_kind id kind text is = (bytes_eq-Decides id (kind ++ text)).0 (in_identity (bytes_eq id) kind text is).0
 
@@ -300,7 +300,7 @@ pub still_there : (old new : List ℕ → Option (Vec ℕ Global)) (count : ℕ)
 still_there old new count ids index there within is id =
     subst (All (λ i. i < count)) (sym (is id)) (remembered_there count ids index id (stored_indices (old id)) within (there id))
 
--- `nat_lt` decides the order of numbers
+-- if `nat_lt` returns true, the first number is less than the second
 less : (one other : ℕ) → nat_lt one other ≡ true → one < other
 less one other is = grind (arith, nat_tests, is)
 

@@ -34,7 +34,7 @@ named_among used earlier f =
     ∙ ap (λ b. is_used_abbreviation used f || b)
     (any_of_map (λ (g : FieldReading). g.name.text) (str_eq_ignore_ascii_case f.name.text) earlier)
 
--- the finding of a definition whose name is new
+-- a definition has a finding exactly if neither the used names nor those of the earlier definitions contain its name
 pub unused_if_new : (used : Names) (earlier : List FieldReading) (f : FieldReading) (is_new : Bool)
     → is_new ≡ not (list_any (str_eq_ignore_ascii_case f.name.text) (used ++ names_of_definitions earlier))
     → unused_after used earlier f ≡ cond is_new (unused_definition_finding f ∷ []) []

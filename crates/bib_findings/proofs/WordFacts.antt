@@ -154,7 +154,7 @@ not_empty word c begun spelt =
     ap length spelt ∙ length-append (encode_utf8 c) (encode_utf8_all begun) in
     grind (arith, nat_tests, long, length-encode c, len_utf8_bounds c)
 
--- the text of a word and the parts after it is that of the word, followed by that of the parts
+-- if the words don't end before a word, the text of it and the parts after it is that of the word, followed by that of the parts
 word_written : (is_first : Bool) (word begun : List ℕ) (parts : List (List ℕ)) → word ≡ encode_utf8_all begun
     → ends_before is_first begun ≡ false
     → spaced_words (words_before is_first (words_among (begun ∷ parts)))

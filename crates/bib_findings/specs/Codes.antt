@@ -2,7 +2,7 @@
 -- Codes of findings: their names and severities.
 use Rattle.std.specs.Prelude.{ℕ, List, [], ◌∷◌, Option, bytes_eq, codes, find}
 use Rattle.bib_findings.specs.declared.codes.Code.{Code}
-use Rattle.bib_findings.specs.declared.codes.Code.TheVariants.{UnreadBytes, Syntax, UnreadField, UnknownAbbreviation, CircularAbbreviation, DuplicateKey, CircularReference, UnreadDate, UnknownType, MissingField, SuperfluousField, MalformedField, NotANumber, MalformedDate, UnknownField, ForeignField, RepeatedField, EmptyField, WrongIsbn, WrongIssn, DoiAddress, UrlScheme, MalformedName, SpecialCharacter, Html, TwoYears, EmptyKey, StrayField, UnknownReference, LikelyDuplicate, KeyCase, EarlyParent, RepeatedDefinition, UnusedDefinition, MissingEntry, UnusedEntry}
+use Rattle.bib_findings.specs.declared.codes.Code.TheVariants.{UnreadBytes, EscapeSequence, Syntax, UnreadField, UnknownAbbreviation, CircularAbbreviation, DuplicateKey, CircularReference, UnreadDate, UnknownType, MissingField, SuperfluousField, MalformedField, NotANumber, MalformedDate, UnknownField, ForeignField, RepeatedField, EmptyField, WrongIsbn, WrongIssn, DoiAddress, UrlScheme, MalformedName, SpecialCharacter, Html, TwoYears, EmptyKey, StrayField, UnknownReference, LikelyDuplicate, KeyCase, EarlyParent, RepeatedDefinition, UnusedDefinition, MissingEntry, UnusedEntry}
 use Rattle.bib_findings.specs.declared.codes.Severity.{Severity}
 use Rattle.bib_findings.specs.declared.codes.Severity.TheVariants.{Error, Warning, Info}
 
@@ -15,6 +15,7 @@ severity_name Info = codes "info"
 -- the name of a code, in output and in options
 abbrev pub code_name : Code → List ℕ
 code_name UnreadBytes = codes "unread-bytes"
+code_name EscapeSequence = codes "escape-sequence"
 code_name Syntax = codes "syntax"
 code_name UnreadField = codes "unread-field"
 code_name UnknownAbbreviation = codes "unknown-abbreviation"
@@ -54,8 +55,8 @@ code_name UnusedEntry = codes "unused-entry"
 -- all codes, in the order in which they are listed
 abbrev pub all_codes : List Code
 all_codes =
-    UnreadBytes ∷ Syntax ∷ UnreadField ∷ UnknownAbbreviation ∷ CircularAbbreviation ∷ DuplicateKey ∷ CircularReference ∷ UnreadDate
-    ∷ UnknownType ∷ MissingField ∷ SuperfluousField ∷ MalformedField ∷ NotANumber ∷ MalformedDate ∷ UnknownField ∷ ForeignField
+    UnreadBytes ∷ EscapeSequence ∷ Syntax ∷ UnreadField ∷ UnknownAbbreviation ∷ CircularAbbreviation ∷ DuplicateKey ∷ CircularReference
+    ∷ UnreadDate ∷ UnknownType ∷ MissingField ∷ SuperfluousField ∷ MalformedField ∷ NotANumber ∷ MalformedDate ∷ UnknownField ∷ ForeignField
     ∷ RepeatedField ∷ EmptyField ∷ WrongIsbn ∷ WrongIssn ∷ DoiAddress ∷ UrlScheme ∷ MalformedName ∷ SpecialCharacter
     ∷ Html ∷ TwoYears ∷ EmptyKey ∷ StrayField ∷ UnknownReference ∷ LikelyDuplicate ∷ KeyCase ∷ EarlyParent ∷ RepeatedDefinition
     ∷ UnusedDefinition ∷ MissingEntry ∷ UnusedEntry ∷ []
@@ -64,8 +65,8 @@ all_codes =
 abbrev pub code_named : List ℕ → Option Code
 code_named name = find (λ code. bytes_eq (code_name code) name) all_codes
 
--- the severity of a code: an error if part of the file isn't parsed as written or a cited entry is missing; information if nothing is
--- wrong for BibLaTeX; a warning otherwise
+-- the severity of a code: an error if the file isn't UTF-8, a block is skipped, an entry or a field is removed, or a cited entry is
+-- missing; information if nothing is wrong for BibLaTeX; a warning otherwise
 abbrev pub severity_of : Code → Severity
 severity_of UnreadBytes = Error
 severity_of Syntax = Error

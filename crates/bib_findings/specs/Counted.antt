@@ -12,7 +12,7 @@ use Rattle.bib_findings.specs.declared.codes.Code.TheVariants.{ForeignField}
 use Rattle.bib_findings.specs.declared.finding.Finding.{Finding}
 use Rattle.bib_findings.specs.declared.foreign.Counted.{Counted}
 
--- the field of a count, and the number of fields with its name
+-- the first field of a count, and the count itself
 abbrev pub counted_of : Counted → FieldReading × ℕ
 counted_of c = (field_of c.first.now, c.count)
 

@@ -14,7 +14,8 @@ use Rattle.bib_findings.specs.Foreign.{have_one_name}
 use Rattle.bib_findings.specs.declared.codes.Code.TheVariants.{RepeatedDefinition}
 use Rattle.bib_findings.specs.declared.finding.Finding.{Finding}
 
--- a text in which each run of white space is one space, as BibTeX reads it. The flag says whether white space is before the text
+-- a text in which each run of ASCII white space is one space, as BibTeX reads it. The flag says whether white space is directly before the
+-- text: then the run that continues at its start is removed
 abbrev pub with_single_spaces : Bool → List ℕ → List ℕ
 with_single_spaces is_after [] = []
 with_single_spaces is_after (b ∷ rest) =
@@ -22,18 +23,18 @@ with_single_spaces is_after (b ∷ rest) =
     then if is_after then with_single_spaces true rest else char.space ∷ with_single_spaces true rest
     else b ∷ with_single_spaces false rest
 
--- whether two texts are the same if each run of white space is one space
+-- whether two texts are the same if each run of ASCII white space is one space
 abbrev pub are_equal_texts : List ℕ → List ℕ → Bool
 are_equal_texts text other = bytes_eq (with_single_spaces false text) (with_single_spaces false other)
 
--- whether two pieces are two literals with the same text, or two abbreviations with the same name
+-- whether two pieces are two literals with equal texts (see `are_equal_texts`), or two abbreviations with the same name
 abbrev pub is_equal_piece : Piece → Piece → Bool
 is_equal_piece (literal p) (literal q) = are_equal_texts p.text q.text
 is_equal_piece (literal p) (abbreviation q) = false
 is_equal_piece (abbreviation p) (literal q) = false
 is_equal_piece (abbreviation p) (abbreviation q) = bytes_eq p.text q.text
 
--- whether two values have the same pieces; it doesn't count whether a literal is in braces or in quotes
+-- whether two values have equal pieces in the same order; it doesn't count whether a literal is in braces or in quotes
 abbrev pub are_equal_pieces : List Piece → List Piece → Bool
 are_equal_pieces [] [] = true
 are_equal_pieces [] (q ∷ others) = false

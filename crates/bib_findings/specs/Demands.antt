@@ -12,7 +12,8 @@ use Rattle.bib_findings.specs.Entries.{is_empty_value, has_own_field, last_named
 use Rattle.bib_findings.specs.Nearest.{is_known_name}
 
 -- The fields of which an entry needs one. A finding names the first that is in the file but empty, or else the first. The others replace
--- the first: BibTeX's names, and for the author of a whole book its editor, whom BibLaTeX prints in the author's place.
+-- the first: those that the data model accepts in its place, BibTeX's names, and for the author of a whole book its editor, whom BibLaTeX
+-- prints in the author's place.
 abbrev pub Demand : Type 0
 Demand = Names
 
@@ -35,7 +36,7 @@ demands_by_type =
     ∷ (fields "set", fields "entryset" ∷ [])
     ∷ []
 
--- the types that require a date
+-- the types that require a date, or a year
 abbrev pub dated_types : Names
 dated_types = fields "article book mvbook inbook bookinbook suppbook booklet collection mvcollection incollection suppcollection manual"
     ++ (fields "misc online electronic www patent periodical suppperiodical proceedings inproceedings conference reference inreference"

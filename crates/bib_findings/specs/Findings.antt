@@ -1,6 +1,6 @@
 -- Meaning: words of public contracts.
--- All findings of the text of a file: those of the skipped blocks and errors of recovery, those of each kept entry, and those between
--- entries. Findings about the bytes of the file or about documents aren't among them.
+-- All findings of the text of a file: those of the skipped blocks and errors of recovery, those of each kept entry, those between entries,
+-- and those of unused abbreviations. Findings about the bytes of the file or about documents aren't among them.
 use Rattle.std.specs.Prelude.{◌≡◌, ℕ, Bool, List, ◌++◌, map}
 use Rattle.std.specs.declared.ops.Range.{Range}
 use Rattle.std.specs.List.Sorted.{IsPermutation, IsSortedByKey, IsStableByKey}

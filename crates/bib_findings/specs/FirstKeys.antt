@@ -16,6 +16,6 @@ AreFirstKeys firsts earlier =
     (name : List ℕ) → option_map (λ key. key.now) (firsts name) ≡
     option_map (λ e. e.key.text) (find (λ e. bytes_eq name (lowercase_key e)) earlier)
 
--- whether the seen keys are exactly those of the earlier entries, in lowercase
+-- whether the seen keys are exactly those of the earlier entries, in ASCII lowercase
 abbrev pub AreKeysSeen : (List ℕ → Bool) → List EntryReading → Type 0
 AreKeysSeen seen earlier = (key : List ℕ) → seen key ≡ list_any (λ e. bytes_eq key (lowercase_key e)) earlier

@@ -42,7 +42,7 @@ html_name_at text = take_while is_html_name_byte text
 abbrev pub name_ends_by : (ℕ → Bool) → List ℕ → Bool
 name_ends_by test text = option_map_or test (slice_get text (length (html_name_at text))) false
 
--- names of tags: those of HTML, and those that publishers use
+-- names of tags: some of HTML, and others that publishers use
 abbrev pub tag_names : Names
 tag_names = fields "a b bold br div em font i inf italic p sc scp span strong sub sup tt u"
 
@@ -54,8 +54,8 @@ tag_prefixes = fields "jats: mml:"
 abbrev pub is_tag_name : List ℕ → Bool
 is_tag_name name = is_known_name tag_names name || list_any (λ prefix. begins_in_any_case prefix name) tag_prefixes
 
--- whether a byte ends the name of a tag with this many bytes: `>` or `/`, or white space after more than two bytes. After a shorter name, a
--- space more often belongs to a comparison, as in `n <p and q <a`
+-- whether a byte ends the name of a tag with this many bytes: `>` or `/`, or ASCII white space after more than two bytes. After a shorter
+-- name, a space more often belongs to a comparison, as in `n <p and q <a`
 abbrev pub ends_tag_name : ℕ → ℕ → Bool
 ends_tag_name size b = b == char.greater || b == char.slash || (nat_lt 2 size && is_ascii_whitespace b)
 
@@ -146,7 +146,7 @@ specials_beside key f (Markup.tag text) = specials_of key f
 specials_beside key f (Markup.reference text) = []
 
 -- the findings of a field of the entry with this key, if it is printed and its value is one literal: that of HTML, if the text contains
--- some, and that of a special character. Text in braces is also tested for HTML
+-- some, and that of a special character (but see `specials_beside`). Text in braces is also tested for HTML
 abbrev pub printed_finding : List ℕ → FieldReading → List Finding
 printed_finding key f =
     if is_printed f.name.text

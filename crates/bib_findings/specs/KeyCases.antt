@@ -24,6 +24,6 @@ case_finding said first =
 abbrev pub case_after : List EntryReading → EntryReading → List Finding
 case_after earlier said = option_map_or (λ first. case_finding said first.key.text ∷ []) (find (have_one_key said) earlier) []
 
--- the findings of the keys of entries that equal the key of an earlier one except for ASCII case; no two keys are the same
+-- the findings of the keys of entries that equal the key of an earlier one except for ASCII case
 abbrev pub case_findings : List EntryReading → List Finding
 case_findings entries = each_after case_after [] entries

@@ -31,7 +31,7 @@ abbrev pub unsigned : List ℕ → List ℕ
 unsigned [] = []
 unsigned (b ∷ rest) = if b == char.hyphen then rest else b ∷ rest
 
--- the numbers in place of a month for seasons, quarters and other divisions of a year
+-- the numbers in place of a month for seasons, quarters and other divisions of a year, each with a hyphen before it
 abbrev pub year_divisions : Names
 year_divisions = fields "-21 -22 -23 -24 -25 -26 -27 -28 -29 -30 -31 -32 -33 -34 -35 -36 -37 -38 -39 -40 -41"
 

@@ -13,28 +13,36 @@ use Rattle.bib_findings.specs.Nearest.{IsNearest, is_known_name, unknown_message
 use Rattle.bib_findings.specs.declared.codes.Code.TheVariants.{UnknownField}
 use Rattle.bib_findings.specs.declared.finding.Finding.{Finding}
 
--- the fields of BibLaTeX's default data model (manual, 2.2), the names that it accepts from BibTeX (2.2.5), and the parts of dates
+-- the fields of BibLaTeX's default data model (manual, 2.2), except the custom ones, the names that it accepts from BibTeX (2.2.5), and the
+-- parts of dates
 abbrev pub known_fields : Names
 known_fields = fields "abstract addendum address afterword annotation annotator annote archiveprefix author authortype bookauthor"
-    ++ (fields "bookpagination booksubtitle booktitle booktitleaddon chapter commentator crossref date day doi edition editor"
-    ++ (fields "editora editoratype editorb editorbtype editorc editorctype editortype eid endday endmonth endyear entryset"
-    ++ (fields "entrysubtype eprint eprintclass eprinttype eventdate eventday eventmonth eventtitle eventtitleaddon eventyear"
-    ++ (fields "execute file foreword gender holder howpublished hyphenation ids indexsorttitle indextitle institution"
-    ++ (fields "introduction isan isbn ismn isrn issn issue issuesubtitle issuetitle issuetitleaddon iswc journal"
-    ++ (fields "journalsubtitle journaltitle journaltitleaddon key keywords label langid langidopts language library lista"
-    ++ (fields "listb listc listd liste listf location mainsubtitle maintitle maintitleaddon month namea nameaddon nameatype"
-    ++ (fields "nameb namebtype namec namectype note number options organization origdate origday origlanguage origlocation"
-    ++ (fields "origmonth origpublisher origtitle origyear pages pagetotal pagination part pdf presort primaryclass publisher"
-    ++ (fields "pubstate related relatedoptions relatedstring relatedtype reprinttitle school series shortauthor shorteditor"
-    ++ (fields "shorthand shorthandintro shortjournal shortseries shorttitle sortkey sortname sortshorthand sorttitle sortyear"
-    ++ (fields "subtitle title titleaddon translator type url urldate urlday urlmonth urlyear usera userb userc userd usere"
-    ++ (fields "userf venue verba verbb verbc version volume volumes xdata xref year"
-    ++ (fields "hour minute second timezone yeardivision endhour endminute endsecond endtimezone endyeardivision"
-    ++ (fields "eventhour eventminute eventsecond eventtimezone eventyeardivision eventendyear eventendmonth eventendday eventendhour"
-    ++ (fields "eventendminute eventendsecond eventendtimezone eventendyeardivision orighour origminute origsecond origtimezone"
-    ++ (fields "origyeardivision origendyear origendmonth origendday origendhour origendminute origendsecond origendtimezone"
-    ++ (fields "origendyeardivision urlhour urlminute urlsecond urltimezone urlyeardivision urlendyear urlendmonth urlendday urlendhour"
-    ++ fields "urlendminute urlendsecond urlendtimezone urlendyeardivision"))))))))))))))))))
+    ++ (fields "bookpagination booksubtitle booktitle booktitleaddon chapter commentator crossref date day doi edition editor editora"
+    ++ (fields "editoratype editorb editorbtype editorc editorctype editortype eid endday endmonth endyear entryset entrysubtype"
+    ++ (fields "eprint eprintclass eprinttype eventdate eventday eventmonth eventtitle eventtitleaddon eventyear execute file foreword"
+    ++ (fields "gender holder howpublished hyphenation ids indexsorttitle indextitle institution introduction isan isbn ismn isrn issn"
+    ++ (fields "issue issuesubtitle issuetitle issuetitleaddon iswc journal journalsubtitle journaltitle journaltitleaddon key"
+    ++ (fields "keywords label langid langidopts language library location mainsubtitle maintitle maintitleaddon month nameaddon note"
+    ++ (fields "number options organization origdate origday origlanguage origlocation origmonth origpublisher origtitle origyear"
+    ++ (fields "pages pagetotal pagination part pdf presort primaryclass publisher pubstate related relatedoptions relatedstring"
+    ++ (fields "relatedtype reprinttitle school series shortauthor shorteditor shorthand shorthandintro shortjournal shortseries"
+    ++ (fields "shorttitle sortkey sortname sortshorthand sorttitle sortyear subtitle title titleaddon translator type url urldate"
+    ++ (fields "urlday urlmonth urlyear venue version volume volumes xdata xref year hour minute second timezone yeardivision endhour"
+    ++ (fields "endminute endsecond endtimezone endyeardivision eventhour eventminute eventsecond eventtimezone eventyeardivision"
+    ++ (fields "eventendyear eventendmonth eventendday eventendhour eventendminute eventendsecond eventendtimezone"
+    ++ (fields "eventendyeardivision orighour origminute origsecond origtimezone origyeardivision origendyear origendmonth origendday"
+    ++ (fields "origendhour origendminute origendsecond origendtimezone origendyeardivision urlhour urlminute urlsecond urltimezone"
+    ++ (fields "urlyeardivision urlendyear urlendmonth urlendday urlendhour urlendminute urlendsecond urlendtimezone"
+    ++ fields "urlendyeardivision"))))))))))))))))
+
+-- the fields of BibLaTeX's data model whose meaning a style chooses (manual, 2.2.4)
+abbrev pub custom_fields : Names
+custom_fields = fields "lista listb listc listd liste listf namea nameatype nameb namebtype namec namectype"
+    ++ fields "usera userb userc userd usere userf verba verbb verbc"
+
+-- whether the data model has a field of this name, in any ASCII case
+abbrev pub is_in_model : List ℕ → Bool
+is_in_model name = is_known_name known_fields name || is_known_name custom_fields name
 
 -- whether the text after a plus sign in a field name marks a data annotation: BibLaTeX's marker `an` in any ASCII case, and maybe a name
 -- after a colon
@@ -48,7 +56,7 @@ annotated_name name =
 
 -- whether BibLaTeX knows a field of this name, in any ASCII case
 abbrev pub is_known_field : List ℕ → Bool
-is_known_field name = is_known_name known_fields (annotated_name name)
+is_known_field name = is_in_model (annotated_name name)
 
 -- whether this is the finding of an unknown field, at its name, with the nearest known name as the suggestion, if one is near enough
 pub record IsOfUnknown (key : List ℕ) (field : FieldReading) (found : Finding) : Type 0 where

@@ -54,7 +54,8 @@ abbrev pub IsNearest : Names → List ℕ → Option (List ℕ) → Type 0
 IsNearest all name (Some known) = IsFirstNearest (filter (is_plausible name) all) name known
 IsNearest all name None = All (λ known. is_plausible name known ≡ false) all
 
--- the message about an unknown name of the entry with this key, such as `unknown field`, with a suggestion if there is one
+-- the message about an unknown name of the entry with this key, with a suggestion if there is one. `wrong` says what is unknown, such as
+-- `unknown field`
 abbrev pub unknown_message : List ℕ → List ℕ → List ℕ → Option (List ℕ) → List ℕ
 unknown_message key wrong name None = entry_name key ++ (codes ": " ++ (wrong ++ (codes " `" ++ (name ++ codes "`"))))
 unknown_message key wrong name (Some known) =

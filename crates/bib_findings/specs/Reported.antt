@@ -1,7 +1,9 @@
 -- Meaning: words of public contracts.
 -- The findings of the report on an entry: missing, superfluous and malformed fields.
-use Rattle.std.specs.Prelude.{◌≡◌, ℕ, Bool, true, false, not, ◌||◌, List, [], ◌++◌, bytes_eq, codes, if◌then◌else◌, map}
-use Rattle.std.specs.List.{filter}
+use Rattle.std.specs.Prelude.{◌≡◌, ℕ, Bool, true, false, not, ◌==◌, ◌&&◌, ◌||◌, List, [], ◌∷◌, ◌++◌, bytes_eq, codes, if◌then◌else◌, map}
+use Rattle.std.specs.Char.{is_ascii_alphanumeric, is_ascii_whitespace}
+use Rattle.std.specs.List.{filter, list_all, list_any}
+use Rattle.std.specs.Option.{option_map_or, option_or}
 use Rattle.std.specs.declared.ops.Range.{Range}
 use Rattle.bib_tables.specs.Requirements.{Names}
 use Rattle.bib_tables.specs.TypeError.{type_kind_text}
@@ -12,7 +14,7 @@ use Rattle.bib_entry.specs.Reports.{AreMalformed, superfluous_of}
 use Rattle.bib_entry.specs.declared.entry.Entry.{Entry}
 use Rattle.bib_syntax.specs.Reading.{EntryReading}
 use Rattle.bib_findings.specs.Demands.{missing_fields}
-use Rattle.bib_findings.specs.Entries.{field_finding, field_message, field_place, has_own_field, last_named, range_or}
+use Rattle.bib_findings.specs.Entries.{field_finding, field_message, field_place, has_own_field, is_empty_value, last_named, range_or}
 use Rattle.bib_findings.specs.Errors.{finding_at}
 use Rattle.bib_findings.specs.Identities.{own_literal}
 use Rattle.bib_findings.specs.declared.codes.Code.{Code}
@@ -29,10 +31,13 @@ year_name name =
 abbrev pub malformed_place : EntryReading → List ℕ → Range ℕ
 malformed_place said name = range_or (field_place said (year_name name)) (last_named said.fields name)
 
--- the code of a malformed field: BibLaTeX prints pages and a volume also if they aren't numbers
+-- whether an error of the field of this name is only information
+abbrev pub is_printed_anyway : List ℕ → Bool
+is_printed_anyway name = bytes_eq name (codes "pages") || bytes_eq name (codes "volume")
+
+-- the code of a malformed field
 abbrev pub malformed_code : List ℕ → Code
-malformed_code name =
-    if bytes_eq name (codes "pages") || bytes_eq name (codes "volume") then code.NotANumber else code.MalformedField
+malformed_code name = if is_printed_anyway name then code.NotANumber else code.MalformedField
 
 -- the finding of a field that can't be parsed as a value of its type, with the kind of the error
 abbrev pub malformed_finding : EntryReading → List ℕ × TypeError → Finding
@@ -40,13 +45,38 @@ malformed_finding said e =
     finding_at (malformed_code e.0) (malformed_place said e.0)
     (field_message said.key.text (codes "malformed") (e.0 ++ (codes ": " ++ type_kind_text e.1.kind)))
 
--- the gender of several people of both genders, which BibLaTeX knows (manual, 2.2.2)
+-- the gender of several people of both genders, which BibLaTeX knows (manual, 2.2.3)
 abbrev pub plural_gender : List ℕ
 plural_gender = codes "pp"
 
--- whether the error of a field is reported: not that of the gender `pp`
+-- whether BibLaTeX takes a byte for part of a numeral, or for a character between numerals (biblatex.sty: `\ifpages`, `\DeclareNumChars`
+-- and `\DeclareRangeChars`)
+abbrev pub is_numeral_byte : ℕ → Bool
+is_numeral_byte b = is_ascii_whitespace b || list_any (λ c. c == b) (codes "0123456789ivxlcdmIVXLCDM.~,;-+/")
+
+-- whether a text begins with an ASCII letter or digit
+abbrev pub begins_alphanumeric : List ℕ → Bool
+begins_alphanumeric [] = false
+begins_alphanumeric (b ∷ rest) = is_ascii_alphanumeric b
+
+-- whether BibLaTeX takes a text for Arabic and Roman numerals, so that it prints `p.` or `pp.` before it, and the text begins with one.
+-- Biber warns of ranges without a start.
+abbrev pub are_numerals : List ℕ → Bool
+are_numerals text = begins_alphanumeric text && list_all is_numeral_byte text
+
+-- whether BibLaTeX knows the text of a field, although it can't be parsed: the gender `pp`, and numerals as pages
+abbrev pub is_known_text : List ℕ → List ℕ → Bool
+is_known_text name text =
+    (bytes_eq name (codes "gender") && bytes_eq text plural_gender) || (bytes_eq name (codes "pages") && are_numerals text)
+
+-- whether the field at which an error of the field of this name is reported is empty
+abbrev pub is_empty_field : EntryReading → List ℕ → Bool
+is_empty_field said name =
+    option_map_or is_empty_value (option_or (last_named said.fields name) (last_named said.fields (year_name name))) false
+
+-- whether the error of a field is reported: an empty field is reported as such, and a text that BibLaTeX knows isn't
 abbrev pub is_reported_field : EntryReading → List ℕ → Bool
-is_reported_field said name = not (bytes_eq name (codes "gender")) || not (bytes_eq (own_literal said (codes "gender")) plural_gender)
+is_reported_field said name = not (is_empty_field said name) && not (is_known_text name (own_literal said name))
 
 -- the findings of the malformed fields whose errors are reported
 abbrev pub malformed_findings : EntryReading → List (List ℕ × TypeError) → List Finding

@@ -19,7 +19,7 @@ stored_indices had = option_map_or (λ indices. indices.items) had []
 abbrev pub with_entry_index : List ℕ → ℕ → List ℕ
 with_entry_index indices index = if nat_lt (length indices) most_compared then indices ++ index ∷ [] else indices
 
--- the indices of an identity that had some, after these identities were stored with an index
+-- the indices of the identity `id` after these identities were stored with an index, if `id` had the indices `had` before
 abbrev pub remembered : Names → ℕ → List ℕ → List ℕ → List ℕ
 remembered [] index id had = had
 remembered (one ∷ ids) index id had = remembered ids index id (if bytes_eq id one then with_entry_index had index else had)

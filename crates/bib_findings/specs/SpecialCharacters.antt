@@ -17,7 +17,7 @@ use Rattle.bib_findings.specs.declared.finding.Finding.{Finding}
 use Rattle.bib_findings.specs.declared.special_characters.Zone.{Zone}
 use Rattle.bib_findings.specs.declared.special_characters.Zone.TheVariants.{InText, InTextEscaped, MathOpened, InMath, InMathEscaped, InDisplay, InDisplayEscaped, DisplayClosing, InFormula, InFormulaEscaped}
 
--- whether a character is one of those that LaTeX doesn't print outside math: `&`, `%`, `#`, `_` and `^`
+-- whether a character is `&`, `%`, `#`, `_` or `^`, which LaTeX doesn't print outside math
 abbrev pub is_latex_special : ℕ → Bool
 is_latex_special c = c == char.ampersand || c == char.percent || c == char.hash || c == char.underscore || c == char.circumflex
 
@@ -69,7 +69,7 @@ printed_fields =
     ++ (fields "organization origpublisher origtitle publisher reprinttitle school series shortjournal shorttitle subtitle title"
     ++ fields "titleaddon translator venue"))
 
--- whether BibLaTeX prints the field of this name as text, in any ASCII case
+-- whether a field of this name is tested, in any ASCII case
 abbrev pub is_printed : List ℕ → Bool
 is_printed name = is_known_name printed_fields name
 
@@ -83,6 +83,6 @@ special_finding key f c =
     finding_at SpecialCharacter (part_range f.name)
     (named_message key (codes "`" ++ (encode_utf8 c ++ codes "` in ")) f.name.text (special_remedy c))
 
--- the finding of a printed field of the entry with this key, if its value is one literal with a special character
+-- the finding of a field of the entry with this key, if its value is one literal with a special character
 abbrev pub specials_of : List ℕ → FieldReading → List Finding
 specials_of key f = option_map_or (λ c. special_finding key f c ∷ []) (special_of (literal_text f.value.pieces)) []

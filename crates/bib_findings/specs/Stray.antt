@@ -25,7 +25,7 @@ after_one_comma (b ∷ rest) = if b == char.comma then rest else b ∷ rest
 abbrev pub is_field_name_byte : ℕ → Bool
 is_field_name_byte b = is_ascii_alphanumeric b || b == char.hyphen || b == char.plus || b == char.underscore
 
--- whether a text begins with a name, maybe white space, and an equals sign
+-- whether a text begins with a name, maybe ASCII white space, and an equals sign
 abbrev pub begins_field : List ℕ → Bool
 begins_field text =
     let rest : List ℕ = after_all is_field_name_byte text in

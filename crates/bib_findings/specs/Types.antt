@@ -23,7 +23,8 @@ known_types = fields "article artwork audio bibnote book bookinbook booklet coll
 abbrev pub is_known_type : List ℕ → Bool
 is_known_type name = is_known_name known_types name
 
--- whether this is the finding of an entry with an unknown type, at the type, with the nearest known type as the suggestion
+-- whether this is the finding of an entry with an unknown type, at the type, with the nearest known type as the suggestion, if one is near
+-- enough
 pub record IsOfUnknownType (said : EntryReading) (found : Finding) : Type 0 where
   pub meant : Option (List ℕ)
   pub nearest : IsNearest known_types (str_to_ascii_lowercase said.kind.text) meant

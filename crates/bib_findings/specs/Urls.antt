@@ -19,7 +19,7 @@ use Rattle.bib_findings.specs.declared.finding.Finding.{Finding}
 abbrev pub is_scheme_byte : ℕ → Bool
 is_scheme_byte b = is_ascii_alphanumeric b || list_any (λ one. b == one) (codes "+-.")
 
--- whether a text begins with a letter
+-- whether a text begins with an ASCII letter
 abbrev pub begins_with_letter : List ℕ → Bool
 begins_with_letter [] = false
 begins_with_letter (b ∷ rest) = is_ascii_alphabetic b
@@ -29,11 +29,11 @@ abbrev pub begins_with_colon : List ℕ → Bool
 begins_with_colon [] = false
 begins_with_colon (b ∷ rest) = b == char.colon
 
--- whether a text begins with a scheme and a colon: a letter, then letters, digits, `+`, `-` and `.`, and then the colon
+-- whether a text begins with a scheme and a colon: an ASCII letter, then ASCII letters, digits, `+`, `-` and `.`, and then the colon
 abbrev pub begins_with_scheme : List ℕ → Bool
 begins_with_scheme text = begins_with_letter text && begins_with_colon (after_all is_scheme_byte text)
 
--- whether a text with this byte may be more than a single URL: white space, a backslash or a brace
+-- whether a text with this byte may be more than a single URL: ASCII white space, a backslash or a brace
 abbrev pub is_more_than_url : ℕ → Bool
 is_more_than_url b = is_ascii_whitespace b || list_any (λ one. b == one) (codes "\\{}")
 

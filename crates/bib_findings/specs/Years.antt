@@ -16,7 +16,7 @@ use Rattle.bib_findings.specs.MalformedDates.{has_no_date}
 use Rattle.bib_findings.specs.declared.codes.Code.TheVariants.{TwoYears}
 use Rattle.bib_findings.specs.declared.finding.Finding.{Finding}
 
--- whether a text has four digits and nothing else
+-- whether a text has four ASCII digits and nothing else
 abbrev pub has_four_digits : List ℕ → Bool
 has_four_digits text = length text == 4 && list_all is_ascii_digit text
 

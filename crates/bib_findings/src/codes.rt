@@ -6,9 +6,9 @@ ghost use Rattle.bib_findings.specs.Codes.{all_codes, code_name, code_named, sev
 /// The severity of a finding.
 #[derive(Debug, Clone, Copy, PartialEq, Eq)]
 pub enum Severity {
-    /// Part of the file isn't parsed as written, or a cited entry is missing.
+    /// The file isn't UTF-8, a block is skipped, an entry or a field is removed, or a cited entry is missing.
     Error,
-    /// Each entry is kept as it is written, but something may be wrong.
+    /// Something may be wrong.
     Warning,
     /// Nothing is wrong for BibLaTeX.
     Info,
@@ -32,6 +32,8 @@ impl Severity {
 pub enum Code {
     /// The first byte that isn't UTF-8; the whole file was decoded as Windows-1252.
     UnreadBytes,
+    /// An escape sequence by which ISO 2022 selects characters of several bytes. The characters after it aren't decoded.
+    EscapeSequence,
     /// A block that can't be parsed. It is skipped; only its complete parts are kept.
     Syntax,
     /// A field whose value can't be parsed. It is removed.
@@ -58,7 +60,7 @@ pub enum Code {
     NotANumber,
     /// A field that should be a date and can't be parsed as one.
     MalformedDate,
-    /// A field whose name neither BibLaTeX nor another program uses.
+    /// A field whose name is neither one of BibLaTeX's nor known as one of another program.
     UnknownField,
     /// A field that another program writes for itself.
     ForeignField,
@@ -76,9 +78,9 @@ pub enum Code {
     UrlScheme,
     /// A field with a name of a person that Biber or BibTeX can't read as it is meant.
     MalformedName,
-    /// A printed field with a character that is special to LaTeX and has no backslash before it.
+    /// A printed field with a character that is special to LaTeX, outside braces and math, without a backslash before it.
     SpecialCharacter,
-    /// A printed field with an HTML or XML tag, or with a character reference such as `&amp;`.
+    /// A printed field with a known HTML or XML tag or character reference outside math, such as `<i>` or `&amp;`.
     Html,
     /// A date with another year than the field `year` has.
     TwoYears,
@@ -100,14 +102,16 @@ pub enum Code {
     UnusedDefinition,
     /// A key that a document cites and no entry of the files has, as its key or in its field `ids`.
     MissingEntry,
-    /// An entry that no document cites.
+    /// An entry that isn't cited by the document with which the files are compared.
     UnusedEntry,
 }
 
-// The codes in the order of their listing. First come errors of parsing and of inheriting, then findings about an entry's type, fields and
-// key. Then come those about references, duplicates, the case of keys and the order of entries, and last those about documents.
-static CODES: [Code; 36] = [
+// The codes in the order of their listing. First come findings of a file's bytes, of parsing and of inheriting, then those about an entry's
+// type, fields and key. Then come those about text after entries, references, duplicates, the case of keys, the order of entries and
+// abbreviations, and last those about documents.
+static CODES: [Code; 37] = [
     Code::UnreadBytes,
+    Code::EscapeSequence,
     Code::Syntax,
     Code::UnreadField,
     Code::UnknownAbbreviation,
@@ -159,6 +163,7 @@ impl Code {
     {
         match self {
             Self::UnreadBytes => "unread-bytes",
+            Self::EscapeSequence => "escape-sequence",
             Self::Syntax => "syntax",
             Self::UnreadField => "unread-field",
             Self::UnknownAbbreviation => "unknown-abbreviation",
@@ -204,8 +209,8 @@ impl Code {
         first_named(&CODES, name)
     }
 
-    /// Returns its severity: an error if part of the file isn't parsed as written or a cited entry is missing; information if nothing
-    /// is wrong for BibLaTeX; a warning otherwise.
+    /// Returns its severity: an error if the file isn't UTF-8, a block is skipped, an entry or a field is removed, or a cited entry is
+    /// missing; information if nothing is wrong for BibLaTeX; a warning otherwise.
     pub fn severity(self) -> Severity
         ensures { result ≡ severity_of self }
     {
@@ -222,7 +227,8 @@ impl Code {
             | Self::EmptyField
             | Self::EarlyParent
             | Self::UnusedDefinition => Severity::Info,
-            Self::UnknownAbbreviation
+            Self::EscapeSequence
+            | Self::UnknownAbbreviation
             | Self::UnreadDate
             | Self::UnknownType
             | Self::MissingField
@@ -253,7 +259,9 @@ impl Code {
     pub fn explanation(self) -> &'static str {
         match self {
             Self::UnreadBytes =>
-                "From this byte on the file isn't UTF-8, so all of it was decoded as Windows-1252. Save the file as UTF-8.",
+                "From this byte on the file isn't UTF-8, so all of it was decoded as Windows-1252. The message says so if the file is unlikely to be in that encoding. Save the file as UTF-8.",
+            Self::EscapeSequence =>
+                "The file contains ESC and a dollar sign, which begin an escape sequence of ISO 2022, as in ISO-2022-JP, ISO-2022-KR and ISO-2022-CN. The bytes after it stand for other characters than those that this program reads, so other findings may follow from them. Convert the file to UTF-8, for example with `iconv -f ISO-2022-JP -t UTF-8`. Only the first sequence of a file is reported.",
             Self::Syntax =>
                 "A block can't be parsed as an entry, a preamble, abbreviations or a comment. It is skipped, up to the next at sign that begins a line; only its complete parts are kept. Most often a comma, a brace or a quote is missing at the reported position, or before it.",
             Self::UnreadField =>
@@ -277,7 +285,7 @@ impl Code {
             Self::MalformedField =>
                 "The field isn't the number, range, date or word that it should be. The text after the colon says what is wrong.",
             Self::NotANumber =>
-                "The pages aren't ranges of numbers, or the volume isn't a number. BibLaTeX prints the text as it is. Programs that sort or compare numbers can't use it.",
+                "The pages aren't ranges of numbers, or the volume isn't a number. BibLaTeX prints the text as it is, and pages without `p.` or `pp.` before them. With --validate-datamodel, Biber leaves out the volume. Pages that are one text aren't reported if they begin with a numeral and contain only digits, letters of Roman numerals, white space and any of `. ~ , ; - + /`.",
             Self::MalformedDate =>
                 "The field isn't a date, so Biber ignores it. Write it as YYYY-MM-DD, YYYY-MM or YYYY, or as two of these with a slash between them.",
             Self::UnknownField =>

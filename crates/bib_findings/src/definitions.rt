@@ -36,7 +36,7 @@ fn with_single_spaces(alloc: Global, text: &[u8]) -> Result<Vec<u8>, AllocError>
     Ok(spaced)
 }
 
-// Returns whether two texts are the same if each run of white space is one space.
+// Returns whether two texts are the same if each run of ASCII white space is one space.
 fn are_equal_texts(alloc: Global, text: &str, other: &str) -> Result<bool, AllocError>
     ensures { IfOk result (λ equal. equal ≡ spec.are_equal_texts text.now other.now) }
 {
@@ -45,7 +45,7 @@ fn are_equal_texts(alloc: Global, text: &str, other: &str) -> Result<bool, Alloc
     Ok(first.as_slice() == second.as_slice())
 }
 
-// Returns whether two pieces are two literals with the same text, or two abbreviations with the same name.
+// Returns whether two pieces are two literals with equal texts (see `are_equal_texts`), or two abbreviations with the same name.
 fn is_equal_piece(
     alloc: Global,
     one: &Spanned<RawChunk<'_>>,
@@ -65,7 +65,7 @@ fn is_equal_piece(
     }
 }
 
-// Returns whether two values have the same pieces.
+// Returns whether two values have equal pieces in the same order.
 fn are_equal_pieces(
     alloc: Global,
     one: &[Spanned<RawChunk<'_>>],

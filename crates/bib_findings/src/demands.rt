@@ -98,7 +98,7 @@ static ROWS: [Row; 14] = [
     },
 ];
 
-// The types that require a date.
+// The types that require a date, or a year.
 static DATED_TYPES: [&str; 31] = [
     "article",
     "book",

@@ -1,21 +1,22 @@
 //! Findings of the reports on entries.
 
 ghost use Rattle.std.specs.Prelude.{◌≡◌, ◌++◌, codes, map, not, IfOk, OnOk};
-ghost use Rattle.std.specs.List.{filter};
+ghost use Rattle.std.specs.List.{filter, list_all};
 ghost use Rattle.std.specs.String.{string_bytes};
 ghost use Rattle.bib_tables.specs.Requirements.{texts};
 ghost use Rattle.bib_syntax.specs.Views.{entry_reading_of};
 ghost use Rattle.bib_findings.specs.Adding.{Adds};
 ghost use Rattle.bib_entry.specs.Reports.{superfluous_of};
 ghost use Rattle.bib_findings.specs.Entries.{field_finding, field_message};
-ghost use Rattle.bib_findings.specs.Reported.{AreOfReport, is_in_data_model, is_reported_field, lacking_word, malformed_code, malformed_finding, malformed_findings, lacking_finding, superfluous_fields};
+ghost use Rattle.bib_findings.specs.Reported.{AreOfReport, are_numerals, begins_alphanumeric, is_empty_field, is_in_data_model, is_known_text, is_numeral_byte, is_printed_anyway, is_reported_field, lacking_word, malformed_code, malformed_finding, malformed_findings, lacking_finding, superfluous_fields};
 ghost use Rattle.bib_findings.specs.declared.codes.Code.TheVariants.{SuperfluousField};
 
 use crate::codes::Code;
 use crate::entry_names::entry_name;
+use crate::fields::is_empty_value;
 use crate::finding::Finding;
 use crate::identities::own_literal;
-use crate::places::{field_place, has_own_field, malformed_place};
+use crate::places::{field_place, has_own_field, last_named, malformed_place, year_name};
 use bib_entry::entry::Entry;
 use bib_syntax::raw::RawEntry;
 use bib_tables::mechanics::EntryType;
@@ -90,21 +91,79 @@ fn add_missing(
     Ok(())
 }
 
-// Returns the code of a malformed field: BibLaTeX prints pages and a volume also if they aren't numbers.
+// Returns whether an error of the field of this name is only information.
+fn is_printed_anyway(name: &str) -> bool
+    ensures { result ≡ is_printed_anyway name.now }
+{
+    name == "pages" || name == "volume"
+}
+
+// Returns the code of a malformed field.
 fn malformed_code(name: &str) -> Code
     ensures { result ≡ malformed_code name.now }
 {
-    match name {
-        "pages" | "volume" => Code::NotANumber,
-        _ => Code::MalformedField,
+    if is_printed_anyway(name) {
+        Code::NotANumber
+    } else {
+        Code::MalformedField
     }
 }
 
-// Returns whether the error of this field is reported: each error except that of the gender `pp`, which BibLaTeX knows.
+// Returns whether BibLaTeX takes a byte for part of a numeral, or for a character between numerals.
+fn is_numeral_byte(b: u8) -> bool
+    ensures { result ≡ is_numeral_byte b }
+{
+    b.is_ascii_whitespace() || b"0123456789ivxlcdmIVXLCDM.~,;-+/".contains(&b)
+}
+
+// Returns whether each of these bytes is one that BibLaTeX takes for part of numerals.
+fn are_numeral_bytes(bytes: &[u8]) -> bool
+    ensures { result ≡ list_all is_numeral_byte bytes.now }
+{
+    bytes.iter().all(|b| is_numeral_byte(*b))
+}
+
+// Returns whether bytes begin with an ASCII letter or digit.
+fn begins_alphanumeric(bytes: &[u8]) -> bool
+    ensures { result ≡ begins_alphanumeric bytes.now }
+{
+    match bytes {
+        [b, ..] => b.is_ascii_alphanumeric(),
+        [] => false,
+    }
+}
+
+// Returns whether BibLaTeX takes a text for Arabic and Roman numerals, so that it prints `p.` or `pp.` before it, and the text begins with
+// one.
+fn are_numerals(text: &str) -> bool
+    ensures { result ≡ are_numerals text.now }
+{
+    begins_alphanumeric(text.as_bytes()) && are_numeral_bytes(text.as_bytes())
+}
+
+// Returns whether BibLaTeX knows the text of a field, although it can't be parsed: the gender `pp`, and numerals as pages.
+fn is_known_text(name: &str, text: &str) -> bool
+    ensures { result ≡ is_known_text name.now text.now }
+{
+    (name == "gender" && text == "pp") || (name == "pages" && are_numerals(text))
+}
+
+// Returns whether the field at which an error of the field of this name is reported is empty.
+fn is_empty_field(said: &Spanned<RawEntry<'_>>, name: &str) -> bool
+    ensures { result ≡ is_empty_field (entry_reading_of said.now) name.now }
+{
+    let fields = said.v.fields.as_slice();
+    match last_named(fields, name).or(last_named(fields, year_name(name))) {
+        Some(field) => is_empty_value(field),
+        None => false,
+    }
+}
+
+// Returns whether the error of this field is reported: an empty field is reported as such, and a text that BibLaTeX knows isn't.
 fn is_reported(said: &Spanned<RawEntry<'_>>, name: &str) -> bool
     ensures { result ≡ is_reported_field (entry_reading_of said.now) name.now }
 {
-    name != "gender" || own_literal(said, "gender") != "pp"
+    !is_empty_field(said, name) && !is_known_text(name, own_literal(said, name))
 }
 
 // Returns the finding of a field that can't be parsed as a value of its type.

@@ -1,4 +1,4 @@
-//! All findings of a file.
+//! The findings of the text of a file.
 
 ghost use Rattle.std.specs.Prelude.{◌≡◌, ◌<◌, ◌++◌, All, length, map, IfOk, OnOk};
 ghost use Rattle.std.specs.BTreeMap.{get_by_text};
@@ -112,7 +112,7 @@ fn add_entry(
     add_single(alloc, found, missing, said, entry)
 }
 
-// Appends the findings of entries. `origins` contains the index of each in `said`, and `lacking` whether fields of it may be lost.
+// Appends the findings of entries. `origins` contains the index of each in `said`, and `lacking` whether fields of each may be lost.
 fn add_entries(
     alloc: Global,
     found: &mut Vec<Finding>,
@@ -140,10 +140,10 @@ fn add_entries(
 /// Returns the findings between entries, with only the fields that each entry has itself. They are, in this order: keys that an
 /// entry refers to and no kept entry has; entries that are likely the same work as an earlier one; text after an entry that reads
 /// as a field; keys that differ only in ASCII case; parents that come before their children; fields that other programs write;
-/// abbreviations that are defined again with another value. `text` is the text of the file, `skipped` contains its skipped blocks, and
-/// `definitions` contains its definitions of abbreviations. `origins` contains the index of each entry in `said`, the raw entries of the
-/// file. An entry that begins where a skipped block begins is no likely duplicate, and the text after it isn't tested. Fails only if out
-/// of memory.
+/// abbreviations that are defined again with another value. `text` is the
+/// text of the file, `skipped` contains its skipped blocks, and `definitions` contains its definitions of abbreviations. `origins` contains
+/// the index of each entry in `said`, the raw entries of the file. An entry that begins where a skipped block begins is no likely
+/// duplicate, and the text after it isn't tested. Fails only if out of memory.
 pub fn between(
     alloc: Global,
     text: &str,
@@ -180,9 +180,9 @@ pub fn sorted_by_place(found: Vec<Finding>) -> Result<Vec<Finding>, AllocError>
     Ok(found)
 }
 
-/// Returns all findings of a recovered file, sorted by their starts. `skipped` contains its skipped blocks,
-/// `errors` the errors, `entries` the kept entries, and `between` the findings between them. `origins` contains the index of each
-/// entry in `said`, the raw entries of the file. `lacking` contains for each entry whether fields of it may be lost (see
+/// Returns the findings of skipped blocks, of errors and of entries, and `between`, sorted by their starts. `skipped` contains the skipped
+/// blocks of the file, `errors` the errors, `entries` the kept entries, and `between` the findings between them. `origins` contains the
+/// index of each entry in `said`, the raw entries of the file. `lacking` contains for each entry whether fields of it may be lost (see
 /// `lacking_flags`). Fails only if out of memory.
 pub fn findings_in(
     alloc: Global,
@@ -209,8 +209,8 @@ pub fn findings_in(
 }
 
 /// Returns the findings of a recovered text, sorted by their starts, with the codes of `findings` except `UnusedDefinition`. Spans are in
-/// bytes of the text. The text may be that of several files (`JoinedFiles`). Then a file can use the definitions and the entries of the others, and an entry can be a
-/// duplicate of one in another file. Fails only if out of memory.
+/// bytes of the text. The text may be that of several files (`JoinedFiles`). Then a file can use the definitions and the entries of the
+/// others, and an entry can be a duplicate of one in another file. Fails only if out of memory.
 pub fn findings_of(
     alloc: Global,
     text: &str,
@@ -249,8 +249,8 @@ pub fn findings_of(
 /// Returns all findings of the text of a bibliography file, sorted by their starts. Recovers the text as
 /// `Bibliography::recover` does, so the complete fields of an entry with a syntax error have findings too. Spans are in bytes of
 /// the text. Besides those of `findings_of`, it returns the findings of abbreviations that nothing in this text uses. The codes
-/// `UnreadBytes`, `MissingEntry` and `UnusedEntry` don't occur, because they are about the bytes of the file or about documents.
-/// Fails only if out of memory.
+/// `UnreadBytes`, `EscapeSequence`, `MissingEntry` and `UnusedEntry` don't occur, because they are about the bytes of the file or about
+/// documents. Fails only if out of memory.
 pub fn findings(alloc: Global, text: &str) -> Result<Vec<Finding>, AllocError>
     ensures { IfOk result (λ found. AreFindings text.now found.items) }
 {

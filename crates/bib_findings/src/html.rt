@@ -33,7 +33,7 @@ enum HtmlPart<'s> {
     Reference(&'static str, &'s str),
 }
 
-// The names of tags that exports of publishers and of Crossref contain.
+// Names of tags that exports of publishers and of Crossref contain.
 static TAG_NAMES: [&str; 19] = [
     "a", "b", "bold", "br", "div", "em", "font", "i", "inf", "italic", "p", "sc", "scp", "span",
     "strong", "sub", "sup", "tt", "u",
@@ -42,7 +42,7 @@ static TAG_NAMES: [&str; 19] = [
 // The beginnings of the names of other such tags: those of JATS and of MathML.
 static TAG_PREFIXES: [&str; 2] = ["jats:", "mml:"];
 
-// The names of the character references.
+// The names of the character references that are reported, in any ASCII case.
 static REFERENCE_NAMES: [&str; 54] = [
     "aacute", "acirc", "agrave", "alpha", "amp", "apos", "aring", "atilde", "auml", "beta",
     "ccedil", "deg", "delta", "eacute", "ecirc", "egrave", "euml", "gamma", "gt", "hellip",
@@ -206,7 +206,7 @@ fn html_at(bytes: &[u8]) -> Option<HtmlPart<'_>>
     }
 }
 
-// Returns the tag or the character reference with which bytes in this zone begin, if there is one.
+// Returns the tag or the character reference with which bytes in this zone begin, or `None` in math, after a backslash, or without one.
 fn html_in(zone: Zone, bytes: &[u8]) -> Option<HtmlPart<'_>>
     ensures { option_map markup_of result ≡ spec.html_in zone bytes.now }
 {

@@ -82,8 +82,8 @@ fn ends_before(is_first: bool, word: &str) -> bool
     is_first && word == "and"
 }
 
-// Returns the words of a lowercase text without braces, each followed by a space: all of them, or only those of the
-// first person.
+// Returns the words of a lowercase text, without the braces in them, each followed by a space: all words, or only those of the first
+// person.
 fn words(alloc: Global, lowercase: &str, is_first: bool) -> Result<String, AllocError>
     ensures { IfOk result (λ text. string_bytes text ≡ words_text is_first (without_braces lowercase.now)) }
 {

@@ -57,7 +57,7 @@ fn add_case<'s>(
 }
 
 /// Appends a finding for each of these entries whose key equals that of an earlier one except for ASCII case. `origins` contains the
-/// index of each in `said`. No two keys are the same.
+/// index of each in `said`.
 pub(crate) fn add_cases(
     alloc: Global,
     found: &mut Vec<Finding>,

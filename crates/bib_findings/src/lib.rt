@@ -9,9 +9,9 @@
 //!
 //! `codes` contains the codes and their explanations. `places` finds fields in an entry, and `cuts` finds the entries of skipped
 //! blocks. `lacking` finds the entries of which fields may be lost: those of skipped blocks, and those that refer to one by
-//! `crossref` or `xdata`, directly or through others. `demands` has the fields that BibLaTeX requires. `nearest` finds
-//! the known name that may be meant, `marks` selects the entries that may be the same work as another, and `outside` finds the text
-//! outside braces. `errors`, `types`, `entries`, `names`, `fields`, `standard_numbers`, `urls`, `malformed_dates`, `people`,
+//! `crossref` or `xdata`, directly or through others. `demands` has the fields that BibLaTeX requires. `nearest` finds the known name
+//! that may be meant, `marks` selects the entries that may be the same work as another, and `outside` finds the text outside braces.
+//! `errors`, `types`, `entries`, `names`, `fields`, `standard_numbers`, `urls`, `malformed_dates`, `people`,
 //! `special_characters`, `html`, `years`, `stray`, `references`, `duplicates`, `key_cases`, `foreign`, `parent_order`, `definitions` and
 //! `unused_definitions` make the findings; `duplicates` uses `identities`.
 #![tactic(auto)]

@@ -25,7 +25,7 @@ use std::alloc::{AllocError, Global};
 // The fields that should be a date.
 static DATE_FIELDS: [&str; 4] = ["date", "urldate", "eventdate", "origdate"];
 
-// The numbers in place of a month for seasons, quarters and other divisions of a year.
+// The numbers in place of a month for seasons, quarters and other divisions of a year, each with a hyphen before it.
 static YEAR_DIVISIONS: [&str; 21] = [
     "-21", "-22", "-23", "-24", "-25", "-26", "-27", "-28", "-29", "-30", "-31", "-32", "-33",
     "-34", "-35", "-36", "-37", "-38", "-39", "-40", "-41",
@@ -41,14 +41,14 @@ fn unsigned(text: &[u8]) -> &[u8]
     }
 }
 
-/// Returns whether a mark at the end of a date says that it is uncertain or approximate.
+/// Returns whether a byte at the end of a date marks it as uncertain, approximate or both.
 pub(crate) fn is_mark(b: u8) -> bool
     ensures { result ≡ (is_uncertain b || is_approximate b) }
 {
     b == b'%' || b == b'?' || b == b'~'
 }
 
-// Returns a text without the mark at its end.
+// Returns a text without the mark at its end, if there is one.
 fn without_mark(text: &[u8]) -> &[u8]
     ensures { result.now ≡ without_mark text.now }
 {
@@ -58,7 +58,7 @@ fn without_mark(text: &[u8]) -> &[u8]
     }
 }
 
-// Returns whether a text is one of the numbers of divisions, with a hyphen before it.
+// Returns whether a text is one of these numbers of divisions, each with a hyphen before it.
 fn is_division_number(number: &[u8], divisions: &[&'static str]) -> bool
     ensures { result ≡ list_any (λ division. bytes_eq division number.now) (texts divisions.now) }
 {

@@ -20,9 +20,9 @@ use bib_text::text::Text;
 use std::alloc::{AllocError, Global};
 use std::collections::BTreeMap;
 
-// The fields of BibLaTeX's default data model (manual, 2.2), the names that it accepts from BibTeX, and the parts of
-// dates.
-static KNOWN_FIELDS: [&str; 211] = [
+// The fields of BibLaTeX's default data model (manual, 2.2), except the custom ones, the names that it accepts from BibTeX, and the parts
+// of dates.
+static KNOWN_FIELDS: [&str; 190] = [
     "abstract",
     "addendum",
     "address",
@@ -101,24 +101,12 @@ static KNOWN_FIELDS: [&str; 211] = [
     "langidopts",
     "language",
     "library",
-    "lista",
-    "listb",
-    "listc",
-    "listd",
-    "liste",
-    "listf",
     "location",
     "mainsubtitle",
     "maintitle",
     "maintitleaddon",
     "month",
-    "namea",
     "nameaddon",
-    "nameatype",
-    "nameb",
-    "namebtype",
-    "namec",
-    "namectype",
     "note",
     "number",
     "options",
@@ -169,16 +157,7 @@ static KNOWN_FIELDS: [&str; 211] = [
     "urlday",
     "urlmonth",
     "urlyear",
-    "usera",
-    "userb",
-    "userc",
-    "userd",
-    "usere",
-    "userf",
     "venue",
-    "verba",
-    "verbb",
-    "verbc",
     "version",
     "volume",
     "volumes",
@@ -236,6 +215,31 @@ static KNOWN_FIELDS: [&str; 211] = [
     "urlendyeardivision",
 ];
 
+// The fields of BibLaTeX's data model whose meaning a style chooses (manual, 2.2.4). No name is taken for a misspelling of one.
+static CUSTOM_FIELDS: [&str; 21] = [
+    "lista",
+    "listb",
+    "listc",
+    "listd",
+    "liste",
+    "listf",
+    "namea",
+    "nameatype",
+    "nameb",
+    "namebtype",
+    "namec",
+    "namectype",
+    "usera",
+    "userb",
+    "userc",
+    "userd",
+    "usere",
+    "userf",
+    "verba",
+    "verbb",
+    "verbc",
+];
+
 // Returns whether the text after a plus sign in a field name marks a data annotation.
 fn is_annotation_mark(mark: &str) -> bool
     ensures { result ≡ spec.is_annotation_mark mark.now }
@@ -253,11 +257,18 @@ fn annotated_name(name: &str) -> &str
     }
 }
 
+// Returns whether BibLaTeX's data model has a field of this name, in any ASCII case.
+fn is_in_model(name: &str) -> bool
+    ensures { result ≡ spec.is_in_model name.now }
+{
+    is_among(&KNOWN_FIELDS, name) || is_among(&CUSTOM_FIELDS, name)
+}
+
 // Returns whether BibLaTeX knows a field of this name, in any ASCII case.
 fn is_known_field(name: &str) -> bool
     ensures { result ≡ spec.is_known_field name.now }
 {
-    is_among(&KNOWN_FIELDS, annotated_name(name))
+    is_in_model(annotated_name(name))
 }
 
 /// The classification of a field name.

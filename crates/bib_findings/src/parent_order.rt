@@ -45,7 +45,7 @@ fn early_finding(
     })
 }
 
-// Returns whether one of the earlier entries has a key, in any ASCII case. `seen` has their keys in lowercase.
+// Returns whether one of the earlier entries has a key, in any ASCII case. `seen` has their keys in ASCII lowercase.
 fn is_seen(alloc: Global, seen: &BTreeSet<String>, key: &str) -> Result<bool, AllocError>
     ensures { IfOk result (λ is_seen. (earlier : List EntryReading) → AreKeysSeen (contains_text seen.now) earlier
         → is_seen ≡ list_any (spec.is_key_of key.now) earlier) }
@@ -54,7 +54,7 @@ fn is_seen(alloc: Global, seen: &BTreeSet<String>, key: &str) -> Result<bool, Al
     Ok(seen.contains(lowercase.as_str()))
 }
 
-// Returns whether a key isn't empty, and one of the earlier entries has it. `seen` has their keys in lowercase.
+// Returns whether a key isn't empty, and one of the earlier entries has it, in any ASCII case. `seen` has their keys in ASCII lowercase.
 fn is_early(alloc: Global, seen: &BTreeSet<String>, key: &str) -> Result<bool, AllocError>
     ensures { IfOk result (λ is_early. (earlier : List EntryReading) → AreKeysSeen (contains_text seen.now) earlier
         → is_early ≡ (not (length key.now == 0) && list_any (spec.is_key_of key.now) earlier)) }
@@ -83,7 +83,7 @@ fn add_if(
     Ok(())
 }
 
-// Appends the finding of an entry if its `crossref` names one of the earlier entries. `seen` has their keys in lowercase.
+// Appends the finding of an entry if its `crossref` names one of the earlier entries. `seen` has their keys in ASCII lowercase.
 fn add_if_early(
     alloc: Global,
     found: &mut Vec<Finding>,
@@ -99,7 +99,7 @@ fn add_if_early(
     Ok(())
 }
 
-// Adds the key of an entry in lowercase.
+// Adds the key of an entry in ASCII lowercase.
 fn add_key(
     alloc: Global,
     seen: &mut BTreeSet<String>,

@@ -31,7 +31,7 @@ enum Fault {
     CommaFirst,
     // It ends with a comma.
     CommaLast,
-    // It contains `et al.` in place of `and others`.
+    // It contains `et al` or `et al.`, in place of `and others`.
     EtAl,
     // It contains a semicolon.
     Semicolon,

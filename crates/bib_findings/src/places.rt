@@ -44,7 +44,7 @@ pub(crate) fn field_place(said: &Spanned<RawEntry<'_>>, name: &str) -> Span
 
 // Returns the field that contains the year of this date, if the date is in separate fields; any other name is
 // unchanged.
-fn year_name(name: &str) -> &str
+pub(crate) fn year_name(name: &str) -> &str
     ensures { result.now ≡ year_name name.now }
 {
     match name {

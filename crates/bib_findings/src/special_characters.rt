@@ -81,7 +81,7 @@ static PRINTED_FIELDS: [&str; 34] = [
     "venue",
 ];
 
-// Returns whether a character is one of those that LaTeX doesn't print outside math.
+// Returns whether a character is `&`, `%`, `#`, `_` or `^`, which LaTeX doesn't print outside math.
 fn is_latex_special(c: char) -> bool
     ensures { result ≡ spec.is_latex_special c }
 {
@@ -170,14 +170,14 @@ fn special_finding(
     })
 }
 
-/// Returns whether BibLaTeX prints the field of this name as text, in any ASCII case.
+/// Returns whether a field of this name is tested, in any ASCII case.
 pub(crate) fn is_printed(name: &str) -> bool
     ensures { result ≡ spec.is_printed name.now }
 {
     is_among(&PRINTED_FIELDS, name)
 }
 
-/// Appends the finding of a printed field of the entry with this key, if its value is one literal with a special character.
+/// Appends the finding of a field of the entry with this key, if its value is one literal with a special character.
 pub(crate) fn add_special(
     alloc: Global,
     found: &mut Vec<Finding>,

@@ -67,7 +67,7 @@ fn begins_with_equals(bytes: &[u8]) -> bool
     }
 }
 
-// Returns whether bytes begin with a name, maybe white space, and an equals sign.
+// Returns whether bytes begin with a name, maybe ASCII white space, and an equals sign.
 fn begins_field(bytes: &[u8]) -> bool
     ensures { result ≡ spec.begins_field bytes.now }
 {

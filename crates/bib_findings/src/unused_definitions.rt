@@ -234,7 +234,7 @@ fn add_unused_among(
 }
 
 /// Appends a finding for the first definition of each abbreviation that no field of an entry and no definition of another abbreviation
-/// uses. Appends nothing if the text has no entry or a skipped block.
+/// uses. Appends nothing if the text has no entry, or has a skipped block.
 pub(crate) fn add_unused(
     alloc: Global,
     found: &mut Vec<Finding>,

@@ -104,8 +104,8 @@ fn url_finding(alloc: Global, said: &Spanned<RawEntry<'_>>) -> Result<Finding, A
     })
 }
 
-/// Appends a finding if the field `url` of an entry is one literal without a scheme. A text with white space in it, a backslash or a brace
-/// isn't tested.
+/// Appends a finding if the field `url` of an entry is one literal without a scheme. A text with ASCII white space in it, a backslash or a
+/// brace isn't tested.
 pub(crate) fn add_url(
     alloc: Global,
     found: &mut Vec<Finding>,

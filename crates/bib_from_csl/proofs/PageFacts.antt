@@ -108,7 +108,7 @@ page_all false r kept =
     list_all-append is_of_page (decimal r.start) (8211 ∷ decimal r.end)
     ∙ and_from _ _ (decimal_of_page r.start kept.0) (decimal_of_page r.end kept.1)
 
--- the bytes of these characters are those of the written pages
+-- the digits of a number less than 2 ^ 32 are their own bytes
 decimal_bytes : (n : ℕ) → n < 2 ^ 32 → encode_utf8_all (decimal n) ≡ decimal n
 decimal_bytes n small =
     encodes-IsAscii (decimal n)

@@ -35,7 +35,7 @@ use Rattle.bib_from_csl.proofs.PlainFacts.{name_free, kept_parts, text_of_parts,
 abbrev separator : Value → Value
 separator l = nowhere (Normal (codes " and ")) ∷ l
 
--- a kept person is parsed at each place in a list, as a list of three and a list of one show
+-- a kept person that is written as one normal chunk is parsed at each place in a list of three; the next lemma is on a list of one
 three_read : (q : Person) (t : List ℕ) → IsKeptPerson q → IsPart (Normal t) → person_chunks q ≡ nowhere (Normal t) ∷ []
     → map person_of (padded_parts false (Normal t) (Normal t ∷ Normal t ∷ [])) ≡ q ∷ q ∷ q ∷ []
 three_read q t kept part is =
@@ -255,7 +255,7 @@ says_something uses p k =
     && ((length p.dropping_particle == 0) && (length p.non_dropping_particle == 0)))))
     [] (Parts p ∷ [])) (ne_eqb (length p.family) 0 (λ none. omega (arith, k.has_family, none)))
 
--- a name without parts parses from one verbatim chunk
+-- one verbatim chunk, with or without empty chunks around it, is parsed as a name without parts
 braced_whole : (t : List ℕ) (before following : Bool) → is_literal (padded before following (Verbatim t)) ≡ true
 unfolding is_literal
 braced_whole t false false = refl
@@ -280,7 +280,7 @@ literal_something : (t : List ℕ) → IsPlainLiteral t → unless_empty (Litera
 unfolding unless_empty says_nothing
 literal_something t k = ap (λ b. cond b [] (Literal t ∷ [])) (ne_eqb (length t) 0 (λ none. omega (arith, k.some, none)))
 
--- a plain name is written as one chunk, and parses from it
+-- the one chunk as which a plain name is written
 chunk_of : (uses : Bool) (name : Name) → IsPlainName uses name → Chunk
 chunk_of uses (Literal t) k = Verbatim t
 chunk_of uses (Parts p) k = Normal (text_of_parts uses p k)

@@ -62,7 +62,7 @@ kept_parts test (b ∷ bs) kept =
 not_space : (b : ℕ) → is_name_byte b ≡ true → (b == 32) ≡ false
 not_space b name = not-true (b == 32) (and_parts (not (b == 32)) (not (b == 126)) (name_free b name)).0
 
--- a text of words is cut into its words
+-- splitting a word, a space and a rest at spaces gives the word, and then the parts of the rest
 split_word : (word rest : List ℕ) → list_all is_name_byte word ≡ true
     → slice_split (λ b. b == 32) (word ++ 32 ∷ rest) ≡ word ∷ slice_split (λ b. b == 32) rest
 split_word [] rest all = refl
@@ -90,7 +90,7 @@ words_in_spaced : (words : List (List ℕ)) → AllWords is_name_byte words → 
 words_in_spaced [] all some = absurd (omega arith)
 words_in_spaced (word ∷ words) all some = split_spaced word words all
 
--- kept words can occur in a name in BibTeX's form
+-- a word that isn't `and` by `is_word_and` differs from the text `and`
 not_and_word : (word : List ℕ) → is_word_and word ≡ false → bytes_eq word (codes "and") ≡ false
 not_and_word word other = of (bytes_eq word (codes "and")) refl where
   of : (b : Bool) → bytes_eq word (codes "and") ≡ b → bytes_eq word (codes "and") ≡ false
@@ -192,7 +192,7 @@ text_line prefix name suffix given small capital has_name tail has_given = of pr
       ∙ ap (λ l. l ++ rest) (sym (spaced_then (w ∷ ws) name (omega arith) has_name))
       ∙ sym (line_spelt ((w ∷ ws) ++ name) suffix given (omega arith) tail has_given)
 
--- the words and the text of the line of a plain name
+-- the items of the line of a plain name; the text of the line is the next definition
 words_of_parts : (uses : Bool) (p : NameParts) (k : IsPlainParts uses p) → List (List ℕ)
 words_of_parts uses p k = line_items (k.prefix.words ++ k.family.words) k.suffix.words k.given_name.words
 
@@ -276,7 +276,7 @@ parts_written uses p k =
     ∙ ap (λ b. cond b (nowhere (Normal (plain_text_of uses p)) ∷ []) (extended_chunks p)) (bibtex_name uses p k)
     ∙ ap (λ t. nowhere (Normal t) ∷ []) (plain_text_is uses p k)
 
--- the words of a plain name are items of a line
+-- the words of the particle and of the family name of a plain name are kept words
 line_words : (uses : Bool) (p : NameParts) (k : IsPlainParts uses p) → AllWords is_name_byte (k.prefix.words ++ k.family.words)
 line_words uses p k =
     list_all-append (is_kept_word is_name_byte) k.prefix.words k.family.words
@@ -334,7 +334,7 @@ shown_normal t true following same flows spelt =
     (ap₂ (λ a b. a ++ b) (ap (flowing false) same ∙ flows)
     (formatted_empties before_and (space_after false (Normal t)) following) ∙ append-nil t) ∙ spelt
 
--- the line of a plain name has a comma, so it isn't the word `others`
+-- two texts with a comma between them contain a comma; by the next lemma, so does the line of a plain name
 has_comma : (leading_run rest : List ℕ) → list_any (λ b. b == 44) (leading_run ++ (44 ∷ rest)) ≡ true
 has_comma [] rest = refl
 has_comma (b ∷ bs) rest = ap (λ c. (b == 44) || c) (has_comma bs rest) ∙ or_true (b == 44) where
@@ -350,7 +350,7 @@ line_comma uses p k =
     (more_some k.prefix.words k.family.words (family_words uses p k)) k.suffix.kept (given_words uses p k))
     ∙ has_comma (spaced (k.prefix.words ++ k.family.words)) _
 
--- the text of such a line, with or without empty chunks around it, is the line
+-- the text of the chunk with the line of a plain name, with or without empty chunks around it, is the line
 pub line_shown : (uses : Bool) (p : NameParts) (k : IsPlainParts uses p) (before following : Bool)
     → text (padded before following (Normal (text_of_parts uses p k))) ≡ text_of_parts uses p k
 unfolding text_of_parts

@@ -24,7 +24,8 @@ pub after_one : (before : List Given) (field : Given) (rest : Option (List Given
 after_one before field None = refl
 after_one before field (Some fields) = ap Some (sym (append_assoc before (field ∷ []) fields))
 
--- a member `id` or `type` is skipped; any other member is added, or has a wrong form, and the result is `None`
+-- a member `id` or `type` is skipped; the next lemmas state that any other member is added, or that the result is `None` if it has a
+-- wrong form
 pub head_passed : (before : List Given) (m : List ℕ × Json) (ms : List (List ℕ × Json)) → is_head m.0 ≡ true
     → after_fields before (members_read (m ∷ ms)) ≡ after_fields before (members_read ms)
 head_passed before m ms head =

@@ -10,7 +10,7 @@ use Rattle.bib_from_csl.specs.Tags.{without_prefix}
 use Rattle.bib_text.proofs.ListFacts.{begins, begins_not}
 use Rattle.std.proofs.Math.Bool.{or-false, and-true}
 
--- `strip_prefix` of std returns the text after the prefix
+-- `strip_prefix` of std returns the text after the prefix, or `None` if the text doesn't begin with it
 pub prefix_taken : (prefix text : List ℕ) (r : Option (Bor (List ℕ)))
     → MatchOption r (FindsTextPrefix prefix text None)
     (λ x. (n : ℕ) × FindsTextPrefix prefix text (Some n) × (x.now ≡ drop n text) × (length x.now + n ≡ length text))
@@ -20,7 +20,7 @@ prefix_taken prefix text (Some x) h =
     ap Some (h.2 ∙ ap (λ k. drop k text) h.1.0)
     ∙ sym (ap (λ b. cond b (Some (drop (length prefix) text)) None) (begins prefix text (drop h.0 text) h.1.1))
 
--- one more element: some element passes if one did or the new one does, and all pass if all did and the new one does
+-- with one more element, some element passes exactly if one did or the new one does; the next lemma is the same for all elements
 pub any_more : {X : Type 0} (p : X → Bool) (xs : List X) (x : X) (found more : Bool) → found ≡ list_any p xs
     → more ≡ (found || p x) → more ≡ list_any p (xs ++ x ∷ [])
 any_more p xs x found more was is =

@@ -35,7 +35,7 @@ pub data IsItemsRefusal (json : List ℕ) (r : Refusal) : Type 0 where
   no_items : items_read json ≡ Refused r.element r.fault → r.at ≤ length json → IsItemsRefusal json r
   key_twice : r.fault ≡ KeyTwice → r.at ≤ length json → AreUnreadItems json → IsItemsRefusal json r
 
--- an error says that the entries of two items have one key, or that their source can't be parsed, or out of memory
+-- an error says that the entries of two items have one key, that their source can't be parsed, or that memory runs out
 abbrev pub IsOfUnreadItems : List ℕ → ItemsError → Type 0
 IsOfUnreadItems json (refused r) = (r.fault ≡ KeyTwice) × (r.at ≤ length json)
 IsOfUnreadItems json (NotRead e) = Unit {0}

@@ -114,7 +114,7 @@ member_lines work name (Some content) = if is_empty_content content then [] else
 abbrev pub given_lines : Work → Given → List ℕ
 given_lines work given = member_lines work given.name given.content
 
--- whether a character has another use in BibTeX
+-- whether a character is one of these, which have another use in BibTeX
 abbrev pub is_special : ℕ → Bool
 is_special c =
     c == char.open_brace || c == char.quote || c == char.hash || c == char.percent || c == char.backslash || c == char.tilde

@@ -29,12 +29,12 @@ pub record IsPlainParts (uses_prefix : Bool) (p : NameParts) : Type 0 where
   pub has_given : 0 < length p.given
   pub no_other : particle (not uses_prefix) p ≡ []
 
--- a name that is parsed back; the flag says whether prefixes are part of family names in the entry
+-- a plain name, which is parsed back; the flag says whether prefixes are part of family names in the entry
 abbrev pub IsPlainName : Bool → Name → Type 0
 IsPlainName uses_prefix (Literal text) = IsPlainLiteral text
 IsPlainName uses_prefix (Parts p) = IsPlainParts uses_prefix p
 
--- names that are parsed back; the flag says whether prefixes are part of family names in the entry
+-- plain names, which are parsed back; the flag says whether prefixes are part of family names in the entry
 abbrev pub ArePlainNames : Bool → List Name → Type 0
 ArePlainNames uses_prefix [] = Unit {0}
 ArePlainNames uses_prefix (name ∷ names) = IsPlainName uses_prefix name × ArePlainNames uses_prefix names

@@ -5,7 +5,7 @@ use Rattle.bib_tables.specs.declared.mechanics.EntryType.{EntryType}
 use Rattle.bib_tables.specs.declared.mechanics.EntryType.TheVariants as entry_type
 use Rattle.bib_from_csl.specs.EntryTypes.{numbers_issues, numbers_series, stands_in_book, is_of_institution, is_among_words, may_be_volume}
 
--- whether a variable is a list of names
+-- whether a variable is one of these lists of names
 abbrev pub is_names : List ℕ → Bool
 is_names =
     is_among_words

@@ -134,7 +134,7 @@ abbrev pub joined_name : Bool → Bool → Name → Value
 joined_name uses_prefix first name =
     if first then name_chunks uses_prefix name else nowhere (Normal (codes " and ")) ∷ name_chunks uses_prefix name
 
--- names, each after the word `and` except a first one
+-- names, each after the word `and`, except the first name if `first` is true
 abbrev pub names_from : Bool → Bool → List Name → Value
 names_from uses_prefix first [] = []
 names_from uses_prefix first (name ∷ names) = joined_name uses_prefix first name ++ names_from uses_prefix false names

@@ -29,10 +29,10 @@ pub struct Converted {
 pub struct Refusal {
     /// The reason.
     pub fault: Fault,
-    /// The index of the element at fault; 0 if the text isn't JSON or no array.
+    /// The index of the element at fault; 0 if the text isn't JSON, or is no array.
     pub element: usize,
-    /// The byte offset of the fault: the start of that element, or the first place at which the text isn't JSON. For JSON that is no array,
-    /// it is the start of the value.
+    /// The byte offset of the fault: the start of that element, or the place at which the text stops being JSON. If no place is found, such
+    /// as for a missing value in an object, it is the end of the text. For JSON that is no array, it is the start of the value.
     pub at: usize,
 }
 

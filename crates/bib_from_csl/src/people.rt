@@ -1,6 +1,6 @@
 //! Writes the values of name fields.
 //!
-//! A plain name is written in BibTeX's format (`von Family, Jr, Given`), from which it parses back. A name without parts is written in
+//! A plain name is written in BibTeX's format (`von Family, Jr, Given`, or one word). A name without parts is written in
 //! braces, except the word `others`. Any other name is written in BibLaTeX's extended name format, a list of `key=value`, which can
 //! contain any text.
 
@@ -110,7 +110,7 @@ fn particle(uses_prefix: bool, parts: &NameParts) -> &str
     parts.dropping_particle.as_str()
 }
 
-// Returns whether a name with a family name and a given name is written in BibTeX's format.
+// Returns whether a name has a family name and a given name, and can be written in BibTeX's format.
 #[tactic(auto, unfolding(crate::specs::WrittenPeople::is_bibtex_name))]
 fn is_plain_name(uses_prefix: bool, parts: &NameParts) -> bool
     ensures { result ≡ spec.is_bibtex_name uses_prefix parts.now }
@@ -123,7 +123,7 @@ fn is_plain_name(uses_prefix: bool, parts: &NameParts) -> bool
         && particle(!uses_prefix, parts).is_empty()
 }
 
-// Returns whether a name is only a family name of one word.
+// Returns whether a name is only a family name of one plain word.
 #[tactic(auto, unfolding(crate::specs::WrittenPeople::is_one_word))]
 fn is_one_word(parts: &NameParts) -> bool
     ensures { result ≡ spec.is_one_word parts.now }

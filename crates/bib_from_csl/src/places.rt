@@ -8,9 +8,9 @@ use std::alloc::{AllocError, Global};
 // An open bracket.
 #[derive(Clone, Copy, PartialEq, Eq)]
 enum Bracket {
-    // Of an array.
+    // The bracket of an array.
     Square,
-    // Of an object.
+    // The bracket of an object.
     Curly,
 }
 
@@ -34,7 +34,8 @@ impl Nesting {
         is_open
     }
 
-    // Records a token. Returns whether it isn't `Bad`, the value at the top hasn't ended, and the innermost open bracket allows it.
+    // Records a token. Returns false for `Bad`, for a token after the value at the top, for a key outside an object, and for a bracket
+    // that doesn't close the innermost open one. Whether keys and values alternate in an object isn't tested.
     fn pass(&mut self, token: &Token<'_>) -> Result<bool, AllocError> {
         if self.is_over {
             return Ok(false);
@@ -59,7 +60,8 @@ fn inside(place: usize, end: usize) -> usize
     place.min(end)
 }
 
-/// Returns the byte offset at which a text stops being JSON: its end if it is cut off.
+/// Returns the byte offset at which a text stops being JSON: its end if it is cut off. A missing key or value in an object and too deep
+/// nesting aren't found, so the result is a later place for them: the end of the text if it has no other fault.
 pub(crate) fn place_of_fault(alloc: Global, text: &str) -> Result<usize, AllocError>
     ensures { IfOk result (λ place. place ≤ length text.now) }
 {

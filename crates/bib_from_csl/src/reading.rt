@@ -23,7 +23,7 @@ use std::alloc::{AllocError, Global};
 /// The reason why the items of a text can't be converted.
 #[derive(Debug, Clone, Copy, PartialEq, Eq)]
 pub enum Fault {
-    /// The text isn't JSON.
+    /// The text isn't JSON, or its nesting is too deep.
     NotJson,
     /// The text is JSON, but no array.
     NotAnArray,
@@ -48,12 +48,12 @@ pub enum ItemReading {
     Unfit(Fault),
 }
 
-/// The result of parsing an array.
+/// The result of parsing the items of a text.
 #[derive(Debug, Drop)]
 pub enum ItemsReading {
     /// The items.
     Are(Items<GivenItem>),
-    /// The index of the first element that isn't an item, and the reason.
+    /// The index of the first element that isn't an item, or 0 if the text isn't a JSON array, and the reason.
     Refused(usize, Fault),
 }
 

@@ -1,7 +1,7 @@
 //! Texts with HTML tags, written in LaTeX.
 //!
 //! Each tag begins with a less-than sign, so the text is split there, and a piece may begin with the rest of a tag. The open tags are
-//! counted. Each of the closing tags `</i>`, `</b>`, `</sup>`, `</sub>` and `</span>` closes the innermost open tag, whatever its name.
+//! kept. Each of the closing tags `</i>`, `</b>`, `</sup>`, `</sub>` and `</span>` closes the innermost open tag, whatever its name.
 
 ghost use Rattle.std.specs.Prelude.{◌≡◌, ◌==◌, ◌++◌, length, OnOk, IfOk, string_bytes};
 ghost use Rattle.std.specs.Option.{option_map};
@@ -65,7 +65,7 @@ fn command_of(tag: Tag) -> &'static str
     }
 }
 
-// If a piece begins with this tag, returns the tag and the text after it.
+// If a piece begins with the text of this tag after the less-than sign, returns the tag and the text after it.
 fn opened_by(piece: &str, tag: Tag) -> Option<(Tag, &str)>
     ensures { option_map (λ found. (found.0, found.1.now)) result ≡ spec.opened_by piece.now tag }
 {
@@ -73,7 +73,7 @@ fn opened_by(piece: &str, tag: Tag) -> Option<(Tag, &str)>
     Some((tag, rest))
 }
 
-// Returns the opening tag that a piece begins with, and the text after it.
+// Returns the opening tag whose text after the less-than sign a piece begins with, and the text after the tag.
 fn opened(piece: &str) -> Option<(Tag, &str)>
     ensures { option_map (λ found. (found.0, found.1.now)) result ≡ spec.opened piece.now }
 {
@@ -85,7 +85,7 @@ fn opened(piece: &str) -> Option<(Tag, &str)>
         .or_else(|| opened_by(piece, Tag::KeepsCase))
 }
 
-// Returns the text after the closing tag that a piece begins with.
+// Returns the text after the closing tag whose text after the less-than sign a piece begins with.
 fn closed(piece: &str) -> Option<&str>
     ensures { option_map (λ rest. rest.now) result ≡ spec.closed piece.now }
 {

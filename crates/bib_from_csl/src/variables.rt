@@ -6,7 +6,7 @@ ghost use Rattle.bib_from_csl.specs.Variables as spec;
 use crate::types::{counts_issues, counts_series, is_in_book, is_of_institution, is_volume};
 use bib_tables::mechanics::EntryType;
 
-// Returns whether a variable is a list of names.
+// Returns whether a variable is one of these lists of names.
 pub(crate) fn is_names(name: &str) -> bool
     ensures { result ≡ spec.is_names name.now }
 {

@@ -1,4 +1,4 @@
--- An error for each entry that lacks a required date and refers to an entry whose date can't be parsed.
+-- An error for each entry that lacks a required date and refers to an entry with an unreadable date.
 use Rattle.std.proofs.Common.{◌≡◌, ℕ, ◌+◌, List, [], ◌∷◌, ◌++◌, Bool, true, false, cond, ◌&&◌, ◌||◌, Some, get_or, map, refl, sym, ap, ◌∙◌, subst}
 use Rattle.std.specs.Prelude.{find}
 use Rattle.std.specs.List.{list_any}
@@ -34,7 +34,7 @@ module _ (looks : List Bool) (graph : Graph) (entries : List Entry) (index : ℕ
       passed h
       (λ bad. false≢true (sym (ap (λ b. b && list_any (is_bad_date values) (refs_of graph index)) unflagged) ∙ bad))
 
-  -- if all dates of its references can be parsed, it adds no error
+  -- if no reference of it has an unreadable date, it adds no error
   pub finds_none : list_any (is_bad_date values) (refs_of graph index) ≡ false
       → EachReported Fails (IsUnreadError graph entries) index errors
       → EachReported Fails (IsUnreadError graph entries) (index + 1) errors
@@ -47,7 +47,7 @@ module _ (looks : List Bool) (graph : Graph) (entries : List Entry) (index : ℕ
       never true = refl
       never false = refl
 
-  -- if it lacks a required date, and the date of one of its references can't be parsed, it adds the error of that date
+  -- if it lacks a required date, and references of it have unreadable dates, it adds the error of the first of these
   pub finds_one : (error : TypeError) (e : ParseError) → get_or looks index false ≡ true
       → IsUnreadDate entries (refs_of graph index) error
       → e ≡ record { span = error.span; kind = ResolutionError error.kind }

@@ -68,7 +68,7 @@ module _ (at : ℕ → EntryTexts) where
   date_prefix (suc k) [] date h = h
   date_prefix (suc k) (p ∷ rest) date h = ap (λ o. first_some o (dated_text (inheritable_date (at p).fields))) (date_prefix k rest date h)
 
-  -- if no entry after it has a date, the last date from an entry on is the date of that entry
+  -- if no entry after it has a date that can be inherited, the last date from an entry on is that of the entry, if it can be inherited
   date_next : (indices : List ℕ) (done : ℕ) → done < length indices → last_date (map at (drop (length indices - done) indices)) ≡ None
       → last_date (map at (drop (length indices - (done + 1)) indices))
       ≡ dated_text (inheritable_date (at (get_or indices (length indices - 1 - done) 0)).fields)
@@ -81,14 +81,14 @@ module _ (at : ℕ → EntryTexts) where
       ∙ ap (λ o. first_some o (dated_text (inheritable_date (at (get_or indices k 0)).fields))) none'
       ∙ ap (λ n. dated_text (inheritable_date (at (get_or indices n 0)).fields)) here
 
-  -- if that entry has none either, there is still no last date
+  -- if the entry has none either, there is still no last date
   pub date_none : (indices : List ℕ) (done : ℕ) → done < length indices
       → dated_text (inheritable_date (at (get_or indices (length indices - 1 - done) 0)).fields) ≡ None
       → last_date (map at (drop (length indices - done) indices)) ≡ None
       → last_date (map at (drop (length indices - (done + 1)) indices)) ≡ None
   date_none indices done within has none = date_next indices done within none ∙ has
 
-  -- if that entry has a date, it is the last date of the list
+  -- if its date can be inherited and no entry after it has such a date, its date is the last date of the list
   pub date_found : (indices : List ℕ) (done : ℕ) (date : List Atom) → done < length indices
       → dated_text (inheritable_date (at (get_or indices (length indices - 1 - done) 0)).fields) ≡ Some date
       → last_date (map at (drop (length indices - done) indices)) ≡ None

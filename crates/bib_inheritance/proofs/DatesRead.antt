@@ -1,4 +1,4 @@
--- Whether the dates that entries require from their references can be parsed.
+-- Entries that lack a required date and refer to an entry with an unreadable date.
 use Rattle.std.proofs.Common.{◌≡◌, ℕ, zero, suc, List, [], ◌∷◌, ◌++◌, take, drop, Bool, false, true, ◌&&◌, get_or, length, map, refl, sym, ap, subst, arith, ◌∙◌, Option, Some, None}
 use Rattle.std.specs.Prelude.{IsSomeAnd, codes, slice_get}
 use Rattle.std.specs.FinMap as by_name

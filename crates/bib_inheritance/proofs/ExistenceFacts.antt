@@ -1,4 +1,4 @@
--- Without cycles, the inheritance equation has a solution whose values are entries: an inherited text is the text of chunks,
+-- In a graph in range without cycles, the inheritance equation is solved by entries: an inherited text is the text of chunks,
 -- and finitely many fields are inherited.
 use Rattle.std.proofs.Common.{◌≡◌, ℕ, ◌<◌, List, [], ◌∷◌, ◌++◌, Bool, true, false, not, cond, ◌&&◌, ◌||◌, length, get_or, map, refl, sym, ap, ◌∙◌, subst, arith, inl, inr, ◌⊎◌, Option, Some, None, option_map, is_some, codes, append-nil}
 use Rattle.std.specs.Prelude.{slice_get, reverse}
@@ -80,18 +80,18 @@ inherited_styled entry_type name (r ∷ rest) =
 abbrev names_in : ByText Value → Names
 names_in fields = map (λ e. e.0) (entries fields)
 
--- the names of the fields of the references, followed by the names that a type inherits
+-- the names of the fields of the references, followed by the names inheritable for a type
 abbrev names_given : EntryType → List Entry → Names
 names_given entry_type [] = inheritable entry_type
 names_given entry_type (r ∷ rest) = names_in r.fields ++ names_given entry_type rest
 
--- a name is not inherited if neither the reference has it nor the type inherits it
+-- a name that the reference doesn't have and that isn't inheritable for the type is not inherited
 unwanted : (n c i h : Bool) → i ≡ false → h ≡ false → ((not n && (c || i)) && (not c || h)) ≡ false
 unwanted true c i h none lacks = refl
 unwanted false true i h none lacks = lacks
 unwanted false false i h none lacks = ap (λ b. b && true) none
 
--- a name that is not among all these names is not inherited by the type
+-- a name that is not among all these names is not inheritable for the type
 last_names : (entry_type : EntryType) (refs : List Entry) (q : List ℕ)
     → is_one_of (names_given entry_type refs) q ≡ false → is_one_of (inheritable entry_type) q ≡ false
 last_names entry_type [] q other = other

@@ -51,7 +51,7 @@ refers_nowhere names e is =
     (option_map_or (λ (atoms : List Atom). plain atoms ∷ []) (option_map styled one) []
     ++ option_map_or comma_texts (option_map styled two) [])) one two
 
--- so it refers to no entry whose date can't be parsed, and the flag doesn't matter
+-- so it refers to no entry with an unreadable date, and the flag doesn't matter
 unread_same : (flagged looks any : Bool) → (flagged ≡ false → any ≡ false) → ((flagged && looks) && any) ≡ (looks && any)
 unread_same true looks any none = refl
 unread_same false true any none = sym (none refl)

@@ -193,7 +193,7 @@ given_container entry_type reference names q is all =
     same true h o = refl
     same false h o = refl
 
--- for any other type, the offers among the names that it inherits are the fields that it inherits from the reference
+-- for any other type, the offers among the names inheritable for it are the fields that it inherits from the reference
 pub given_other : (entry_type : EntryType) (s : EntryTexts) (q : List ℕ) → is_container entry_type ≡ false
     → offer_among (inheritable entry_type) s q ≡ offered_field entry_type s q
 given_other entry_type s q is =
@@ -234,7 +234,7 @@ given_more entry_type refs done r old new within at adds h q =
     (inherited_field entry_type q (texts_of_references (drop (k + 1) refs)))) is
     ∙ sym next
 
--- after one more group of names, the collected fields are the offers for the names of all groups so far
+-- after one more group of names, the collected fields are the old ones with the offers for the names of all groups so far
 pub groups_more : (groups : List (Bor (List (Bor (List ℕ))))) (i : ℕ) (d : Bor (List (Bor (List ℕ)))) (s : EntryTexts)
     (old mid new : GatheredFields) → i < length groups
     → ((q : List ℕ) → gathered_text new q ≡ first_some (offer_among (texts (get_or groups i d).now) s q) (gathered_text mid q))

@@ -268,7 +268,7 @@ inherited_alone own none =
     in
     λ i. record { entry_type = own.entry_type; fields = λ name. same name i }
 
--- an entry without references and without `xdata` is resolved when unchanged
+-- an entry without references and without `xdata` is resolved if it stays unchanged
 pub untouched : (e : Entry) → get e.fields (codes "xdata") ≡ None → IsTurned e [] e
 untouched e none = record {
   key = refl;
@@ -291,7 +291,7 @@ keys_kept entries index new same =
     ∙ ap (set (map (λ (x : Entry). x.key) entries) index) (same ∙ key_at entries index new)
     ∙ set-get_or (map (λ (x : Entry). x.key) entries) index new.key
 
--- an entry without references and without `xdata` is resolved when unchanged
+-- an entry without references and without `xdata` is resolved if it stays unchanged
 pub left_alone : (entries : List Entry) (index : ℕ) (e : Entry) (indices : List ℕ) → index < length entries
     → e ≡ get_or entries index e → indices ≡ [] → get e.fields (codes "xdata") ≡ None
     → (entry : Entry) × (entries ≡ set entries index entry)

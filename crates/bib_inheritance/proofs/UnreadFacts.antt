@@ -1,4 +1,4 @@
--- Searching for the first date that can't be parsed.
+-- Searching for the first entry with an unreadable date.
 use Rattle.std.proofs.Common.{◌≡◌, ℕ, zero, suc, ◌+◌, ◌<◌, List, [], ◌∷◌, Bool, true, false, cond, ◌||◌, length, get_or, take, refl, sym, ap, ◌∙◌, subst, arith, Option, Some, None}
 use Rattle.std.specs.Prelude.{IsSome, find}
 use Rattle.std.specs.List.{list_any}
@@ -34,7 +34,7 @@ find_here test (x ∷ xs) (suc i) d within none here =
       following true c none rest here = absurd (false≢true (sym none))
       following false c none rest here = rest none here
 
--- the next entry: either its date can't be parsed, or its date can be parsed or is missing
+-- the next entry: either its date is unreadable, or it isn't
 module _ (entries : List Entry) (dates : Dates) (indices : List ℕ) (i : ℕ) (within : i < length indices)
     (are : AreDates entries dates) (none : list_any (is_bad_date (texts_of_entries entries)) (take i indices) ≡ false)
   where

@@ -97,7 +97,8 @@ FieldChunks = List ℕ → Option Value
 abbrev pub as_text : Value → Value
 as_text chunks = record { v = Verbatim (plain (styled chunks)); span = whole_span chunks } ∷ []
 
--- the span of the error of the year, the month and the day of an entry: that of the first of them that can't be parsed
+-- the span of the error of the year, the month and the day of an entry: that of the first of them that can't be parsed. For a day
+-- in the field `month`, it is that of its digits in the text of this field
 abbrev pub IsPlaceOfDate : FieldChunks → Range ℕ → Type 0
 IsPlaceOfDate fields place =
     IsSomeAnd (fields (codes "year"))

@@ -1,6 +1,6 @@
 -- Meaning: words of public contracts.
 -- The fields that an entry inherits from the entries that it refers to: the inheritance of the BibLaTeX manual, by the rules
--- of the Rust crate `biblatex`.
+-- of the Rust crate `biblatex`, with the exceptions that docs/DIFFERENCES.md lists.
 use Rattle.std.specs.Prelude.{ℕ, Bool, not, ◌&&◌, ◌||◌, List, [], ◌∷◌, codes, bytes_eq, unwrap_or, Option, Some, None, if◌then◌else◌, true, false}
 use Rattle.bib_text.specs.Enums.{value_named}
 use Rattle.bib_chunks.specs.Styled.{Atom}

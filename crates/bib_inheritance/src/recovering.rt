@@ -130,8 +130,8 @@ fn date_errors(
 /// Adds to each entry the fields that it inherits, removes its `xdata`, and returns the errors. `names` points to the
 /// entries, and `spans` contains the span of each entry in the file.
 ///
-/// Each entry that refers to itself, directly or through others, is reported (`ReferenceCycle`, at the entry), and loses its
-/// `crossref` and `xdata`. Then each entry is reported that lacks a required date and refers to an entry with an unreadable
+/// Each entry that refers to itself by `crossref` or `xdata`, directly or through others, is reported (`ReferenceCycle`, at the
+/// entry), and loses these two fields. Then each entry is reported that lacks a required date and refers to an entry with an unreadable
 /// date (`ResolutionError`). A date is unreadable if the entry has `year` but no `date`, and its `year`, `month` and `day`
 /// can't be parsed. It is not inherited. Both kinds of errors are in the order of the entries.
 ///

@@ -74,11 +74,11 @@ pub(crate) fn resolution_error(error: TypeError) -> ParseError
 /// Adds to each entry the fields that it inherits, removes its `xdata`, and returns the indices of the entries in the order
 /// in which they inherited. `names` points to the entries, and `spans` contains the span of each entry in the file.
 ///
-/// The error is that of the first entry that refers to itself, directly or through others (`ReferenceCycle`, at the entry).
-/// If there is none, it is that of the first entry that lacks a required date and refers to an entry with an unreadable date
-/// (`ResolutionError`). A date is unreadable if the entry has `year` but no `date`, and its `year`, `month` and `day` can't be
-/// parsed. The span is then that of the first of these three fields that can't be parsed. For a day in the field `month`, it is
-/// that of its digits, in bytes of that field's text.
+/// Entries refer to each other by `crossref` and `xdata` here. The error is that of the first entry that refers to itself, directly
+/// or through others (`ReferenceCycle`, at the entry). If there is none, it is that of the first entry that lacks a required date
+/// and refers to an entry with an unreadable date (`ResolutionError`). A date is unreadable if the entry has `year` but
+/// no `date`, and its `year`, `month` and `day` can't be parsed. The span is then that of the first of these
+/// three fields that can't be parsed. For a day in the field `month`, it is that of its digits, in bytes of that field's text.
 ///
 /// After an error, some entries may be resolved. After out of memory, one entry may have lost its fields.
 pub fn resolve(

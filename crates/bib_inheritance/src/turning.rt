@@ -1,4 +1,4 @@
-//! Adds inherited fields to the entries, one entry at a time.
+//! Adds inherited fields to the entries and removes `xdata`, one entry at a time.
 
 ghost use Rattle.std.specs.Prelude.{◌≡◌, ◌<◌, ◌++◌, ◌∷◌, [], ℕ, List, None, IsNone, OnOk, IfOk, length, map, option_map, is_some, if◌then◌else◌, slice_set, slice_index_or};
 ghost use Rattle.std.specs.FinMap as by_name;

@@ -31,7 +31,8 @@ none_after : (name : List ℕ) (fields : List Field) → T (below_all by_bytes n
 none_after name [] p = refl
 none_after name (field ∷ rest) p = passed (by_bytes name field.0) field.1 _ (first _ _ p) ∙ none_after name rest (second _ _ p)
 
--- the member of a name after a field was put, and then the fields after it
+-- looking up a name in the later fields, and then in the members with a field put, is looking it up in this field and the later ones, and
+-- then in the members
 next : (b : Bool) (name : List ℕ) (field : Field) (rest : List Field) (ms : Members) → bytes_eq name field.0 ≡ b
     → T (below_all by_bytes field.0 rest)
     → option_or (option_map (field_json name) (find by_bytes name rest)) (get_member name (put field.0 (field_json field.0 field.1) ms))

@@ -67,7 +67,7 @@ one_deeper a n p = omega arith
 one_less : (a : ℕ) → a ≤ 6 → suc a ≤ max_depth
 one_less a p = omega arith
 
--- members are plain exactly if the first one and the others are
+-- members are plain if the first one and the others are; the next two lemmas state the converse
 before_plain : {n : ℕ} (k : List ℕ) (d : Data) (ms : Members) → IsPlain n d → ArePlain n ms → ArePlain n (member k d ms)
 before_plain k d ms p q = record { no_float = or_from _ _ p.no_float q.no_float; shallow = max-le p.shallow q.shallow }
 

@@ -207,7 +207,7 @@ has_more keys key other b is =
       of false true = refl
       of false false = refl
 
--- the map has these keys
+-- the taken keys are exactly these, in any ASCII case, and for each name in the map, the suffixes with smaller numbers are taken
 pub record AreTaken (taken : Numbers) (keys : List (List ℕ)) : Type 0 where
   pub closed : AreBelowTaken taken
   pub same : (key : List ℕ) → is_key_taken taken key ≡ has_same_key keys key

@@ -91,7 +91,7 @@ pub inside_same : (after a rest : List ℕ) → 123 ∷ after ≡ (123 ∷ a ++ 
 inside_same after a rest e =
     let whole : 123 ∷ after ≡ 123 ∷ (a ++ (125 ∷ rest)) = e ∙ ap (λ l. 123 ∷ l) (append_assoc a (125 ∷ []) rest) in cc
 
--- `==` decides whether two numbers are equal
+-- if `==` is true for two numbers, they are equal
 same_number : (a b : ℕ) → a == b ≡ true → a ≡ b
 same_number a b h = grind (arith, nat_tests)
 

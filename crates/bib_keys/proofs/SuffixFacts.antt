@@ -2,7 +2,7 @@
 use Rattle.std.proofs.Common.{◌≡◌, ◌≢◌, ℕ, ◌+◌, ◌-◌, ◌*◌, ◌/◌, ◌%◌, List, [], ◌∷◌, ◌++◌, sym, ◌∙◌, ap, subst, append-nil, append_assoc, arith}
 use Rattle.bib_keys.specs.Keys.{IsSuffix, HasSuffix}
 
--- a text has the suffix with the number 0
+-- with the suffix of the number 0, a text is unchanged
 pub no_suffix : (n : ℕ) (text : List ℕ) → n ≡ 0 → HasSuffix n text text
 no_suffix n text zero = record {
   suffix = [];

@@ -32,7 +32,7 @@ pub year_ascii : (text : List ℕ) → begins_with_year text ≡ true → IsAsci
 year_ascii text begins =
     digits_ascii (take 4 text) (and_parts (nat_le 4 (length text)) (list_all is_ascii_digit (take 4 text)) begins).1
 
--- four digits at the start are those that are found
+-- if a text begins with four digits, `four_digits` gives these
 pub year_found : (text : List ℕ) → begins_with_year text ≡ true → four_digits text ≡ take 4 text
 year_found [] begins = absurd (omega (arith, long_enough [] begins))
 year_found (c ∷ text) begins = ap (λ b. cond b (take 4 (c ∷ text)) (four_digits text)) begins

@@ -8,7 +8,7 @@ use Rattle.bib_entry.specs.declared.entry.Entry.{Entry}
 use Rattle.bib_keys.specs.Bases.{pattern_text}
 use Rattle.bib_keys.specs.declared.pattern.Part.{Part}
 
--- the suffixes by their numbers: none has the number 0, `a` 1, `z` 26, `aa` 27
+-- the suffixes by their numbers: the empty one has the number 0, `a` 1, `z` 26, `aa` 27
 pub data IsSuffix : ℕ → List ℕ → Type 0 where
   none : IsSuffix 0 []
   more : {n : ℕ} {letters : List ℕ} → (k : ℕ) → k < 26 → IsSuffix n letters

@@ -1,5 +1,6 @@
 -- Meaning: words of public contracts.
--- Texts in any script as ASCII letters, ASCII digits and spaces.
+-- Texts as ASCII letters, ASCII digits and spaces. Letters lose their marks, and some are replaced. Letters that aren't ASCII then are
+-- left out, such as those of other scripts.
 use Rattle.std.specs.Prelude.{ℕ, ◌||◌, ◌==◌, Bool, if◌then◌else◌, List, [], ◌∷◌, ◌++◌, codes}
 use Rattle.std.specs.Char.{is_ascii_alphanumeric, is_whitespace}
 use Rattle.std.specs.List.{flat_map}

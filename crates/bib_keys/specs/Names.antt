@@ -7,7 +7,7 @@ use Rattle.bib_people.specs.declared.person.Person.{Person}
 use Rattle.bib_keys.specs.Commands.{without_names}
 use Rattle.bib_keys.specs.Letters.{key_letters}
 
--- the words for the authors that aren't named
+-- the words for the people that aren't named
 abbrev pub others : List ℕ
 others = codes "EtAl"
 

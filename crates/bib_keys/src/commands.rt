@@ -8,7 +8,7 @@ ghost use Rattle.bib_keys.specs.Commands as spec;
 use bib_chunks::chunk::{Chunk, ChunksRef, Spanned, format_verbatim};
 use std::alloc::{AllocError, Global};
 
-// Returns whether an argument follows the name of a command. `rest` is the text after the name.
+// Returns whether an argument other than `{}` follows the name of a command. `rest` is the text after the name.
 fn has_argument(rest: &str) -> bool
     ensures { result ≡ spec.has_argument rest.now }
 {

@@ -1,4 +1,5 @@
-//! Texts in any script as ASCII letters, ASCII digits and spaces.
+//! Texts as ASCII letters, ASCII digits and spaces. Letters lose their marks, and some are replaced. Letters that aren't ASCII then are
+//! left out, such as those of other scripts.
 
 ghost use Rattle.std.specs.Prelude.{◌≡◌, ◌++◌, IfOk, OnOk, string_bytes};
 ghost use Rattle.bib_keys.specs.Letters as spec;

@@ -32,8 +32,8 @@ pub enum Case {
 pub enum Part {
     /// A character, which is copied to the key, except for a hyphen after a hyphen.
     Literal(char),
-    /// The family name of the first author. With a number, the family names of up to this many authors, and `EtAl` if there are
-    /// more. The field is `editor` if there is no `author`.
+    /// The family name of the first author. With a number, the family names of up to this many authors, and `EtAl` in the same case
+    /// if there are more. The field is `editor` if there is no `author`.
     Author(Case, Option<u8>),
     /// The first significant word of the title. With a number, up to this many significant words.
     Title(Case, Option<u8>),

@@ -17,7 +17,7 @@ use Rattle.bib_chunks.proofs.AndListFacts.{and_separates}
 abbrev pub normal : List ℕ → Spanned Chunk
 normal text = nowhere (Normal text)
 
--- a chunk that is one part of such a list
+-- a chunk with a detached span is one piece of an `and` list, and trimming leaves it unchanged
 pub record IsPart (chunk : Chunk) : Type 0 where
   pub one : pieces 3 (between_ands false) chunk no_place ≡ alone chunk
   pub ends : (first last : Bool) → trimmed_chunk first last chunk no_place ≡ nowhere chunk

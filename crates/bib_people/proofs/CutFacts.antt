@@ -15,7 +15,7 @@ use Rattle.bib_people.specs.Names.{through_last, is_space_byte}
 use Rattle.bib_people.specs.WordKinds.{IsLastSpace}
 
 -- the invariant of the search: the last word that passes is among those left or, if none of them passes, right before
--- `end`
+-- `end`, which is 0 if no word passes
 pub record Through (test : Word → Bool) (words : List Word) (i end : ℕ) : Type 0 where
   pub is : through_last test words ≡ cond (list_any test (drop i words)) (i + through_last test (drop i words)) end
   pub within : end ≤ i
@@ -40,7 +40,7 @@ through_init test words = record {
   within = omega arith;
 }
 
--- a step of the search: one more word
+-- the arithmetic of a step at a word that passes
 step_yes : (n i t : ℕ) (b : Bool) → (b ≡ false → t ≡ 0) → n ≡ cond true (i + cond true (1 + t) 0) 0 → n ≡ cond b (i + 1 + t) (i + 1)
 step_yes n i t true none is = is ∙ omega arith
 step_yes n i t false none is = let zero : t ≡ 0 = none refl in is ∙ omega arith

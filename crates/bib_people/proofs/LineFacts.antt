@@ -83,7 +83,7 @@ items_bytes items all = spaced_all is_line_byte refl items (all_follow is_line_i
 pub items_ascii : (items : List (List ℕ)) → list_all is_line_item items ≡ true → IsAscii (spaced items)
 items_ascii items all = ascii_of is_line_byte line_small (spaced items) (items_bytes items all)
 
--- a text of such words is one part of an `and` list
+-- a line of items is one part of an `and` list
 pub items_part : (items : List (List ℕ)) → list_all is_line_item items ≡ true → IsPart (Normal (spaced items))
 items_part items all =
     let ascii : IsAscii (spaced items) = items_ascii items all in

@@ -112,11 +112,12 @@ run (b ∷ bs) rest all more =
     step false b (bs ++ rest) (never (b ∷ (bs ++ rest)))
     (ap (λ s. between_ands s (bs ++ rest)) (not-true (is_whitespace b) both.0) ∙ run bs rest both.1 more)
 
--- the word `and` doesn't begin at the start of another word that a space or nothing follows
+-- four tests don't all pass if the second one fails
 no_space : (a d s : Bool) → (((a && false) && d) && s) ≡ false
 no_space true d s = refl
 no_space false d s = refl
 
+-- the word `and` doesn't begin at the start of another word that a space or nothing follows
 no_and : (b : ℕ) (bs : List ℕ) (words : List (List ℕ)) → list_all (λ x. not (is_whitespace x)) (b ∷ bs) ≡ true
     → is_word_and (b ∷ bs) ≡ false → word_here true (b ∷ (bs ++ after_words words)) ≡ false
 no_and b [] [] all other = refl

@@ -1,5 +1,5 @@
 -- Meaning: words of public contracts.
--- The words of a name, after "Tame the BeaST" by Nicolas Markey and as in the Rust crate `biblatex`.
+-- The words of a name, after "Tame the BeaST" by Nicolas Markey.
 use Rattle.std.specs.Prelude.{ℕ, Bool, true, false, not, ◌&&◌, ◌==◌, if◌then◌else◌, List, [], ◌∷◌, ◌++◌, length, map, encode_utf8_all}
 use Rattle.std.specs.List.{flat_map, prefix_len}
 use Rattle.std.specs.Char.{is_whitespace}

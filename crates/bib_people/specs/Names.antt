@@ -111,8 +111,8 @@ without_comma chunks = person_of_words (words_of (letters chunks))
 abbrev pub is_space_byte : ℕ → Bool
 is_space_byte b = b == char.space
 
--- the person of a name whose given name is empty: the text before the comma is cut at its last space. Without a space,
--- all of it is the family name.
+-- the person of a name whose given name is one chunk without text: the text before the comma is cut at its last space. Without a
+-- space, all of it is the family name.
 abbrev pub at_last_space : List ℕ → List ℕ → Person
 at_last_space text suffix =
     if list_any is_space_byte text

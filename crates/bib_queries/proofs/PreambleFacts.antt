@@ -314,7 +314,7 @@ pub left_first : (line_end joined printed : List ℕ) (insides : List (List ℕ)
     → IsLeft line_end joined printed (printed ++ flat_map (preamble_line line_end) insides)
 left_first line_end joined printed insides are = record { left = insides; are = are; same = refl }
 
--- the text of the first preamble, and the text from its closing quote on
+-- the text of the first preamble, the text after its closing quote, and the texts of the other preambles
 record FirstPreamble (opened : List ℕ) (insides : List (List ℕ)) : Type 0 where
   inside : List ℕ
   tail : List ℕ

@@ -42,9 +42,9 @@ pub data IsCited (names : List (List ℕ)) (all : Bool) (nodes : List Node) : �
   any : {index : ℕ} → all ≡ true → IsCited names all nodes index
   needed : {index : ℕ} → IsNeeded names nodes index → IsCited names all nodes index
 
--- whether `printed` is the output for these citations (`all`: of all entries): the definitions with marks, the preambles of the file,
--- those of its skipped blocks, and the entries with marks, each followed by the line end of the text. `has_entry` says whether an entry
--- has a mark. A parsed preamble uses no definition. A skipped one may use any, so if there is one, all definitions have marks.
+-- whether `printed` is the output for these citations (`all`: of all entries): the definitions with marks, the parsed preambles, the
+-- skipped preambles in braces, and the entries with marks, each followed by the line end of the text. `has_entry` says whether an entry
+-- has a mark. A parsed preamble uses no definition. A skipped one may use any, so if one is in braces, all definitions have marks.
 pub record IsExcerpt (names : List (List ℕ)) (all : Bool) (text : List ℕ) (says : FileReading) (skipped : List SkippedBlock)
     (printed : List ℕ) (has_entry : Bool) : Type 0 where
   pub entry_marks : List Bool

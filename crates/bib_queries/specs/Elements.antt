@@ -8,12 +8,12 @@ use Rattle.bib_text.specs.Characters as char
 use Rattle.bib_queries.specs.Lines.{text_after_prefix}
 use Rattle.bib_queries.specs.Names.{comma_parts, name_if_filled}
 
--- an XML escape: the text after its ampersand, and its character
+-- a named escape of XML: the text after its ampersand, and its character
 pub record Escape : Type 0 where
   pub name : List ℕ
   pub character : List ℕ
 
--- the five escapes of XML
+-- the five named escapes of XML; escapes with numbers, such as `&#38;`, aren't replaced
 abbrev pub escapes : List Escape
 escapes =
     record { name = codes "amp;"; character = codes "&" }
@@ -28,11 +28,11 @@ unescaped_by [] text = codes "&" ++ text
 unescaped_by (escape ∷ others) text =
     option_map_or (λ rest. escape.character ++ rest) (text_after_prefix escape.name text) (unescaped_by others text)
 
--- a text that follows an ampersand, with one of the five escapes at its start replaced by its character
+-- an ampersand and the text after it, with one of the five escapes at their start replaced by its character
 abbrev pub unescaped_piece : List ℕ → List ℕ
 unescaped_piece text = unescaped_by escapes text
 
--- the text after the first ampersand, with escapes replaced
+-- the first ampersand of a text and the text after it, with the five escapes replaced
 abbrev pub unescaped_rest : List ℕ → List ℕ
 unescaped_rest text = flat_map unescaped_piece (slice_split (λ b. b == char.ampersand) text)
 
@@ -83,11 +83,11 @@ text_before_quote text =
 abbrev pub attribute : List ℕ → List ℕ → Option (List ℕ)
 attribute opening tag = option_and_then text_before_quote (text_after_part opening tag)
 
--- the tag of an element `bcf:citekey`, or `None` for another element
+-- the tag of an element `bcf:citekey`, or `None` for another element or a tag without an end
 abbrev pub citekey_tag : List ℕ → Option (List ℕ)
 citekey_tag piece = tag_with_name (codes "bcf:citekey") piece
 
--- the text of an element `bcf:citekey`, or `None` for another element
+-- the text of an element `bcf:citekey`, or `None` for another element or a tag without an end
 abbrev pub citekey_text : List ℕ → Option (List ℕ)
 citekey_text piece = text_with_name (codes "bcf:citekey") piece
 

@@ -1,5 +1,5 @@
 -- Meaning: words of public contracts.
--- The .bib files that a document names.
+-- The bibliography files that a document names.
 use Rattle.std.specs.Prelude.{ℕ, ◌==◌, if◌then◌else◌, List, [], ◌∷◌, ◌++◌, codes, eqb, map}
 use Rattle.std.specs.List.{ends_with, flat_map, slice_split}
 use Rattle.std.specs.Option.{option_map_or}

@@ -28,7 +28,7 @@ pub struct Citation {
 /// The citations of a document.
 #[derive(Debug, Drop)]
 pub struct Citations {
-    /// Each cited key once, in the order of first citation.
+    /// Each cited key except `*` once, in the order of first citation.
     pub keys: Vec<Citation>,
     /// Whether all entries are cited, as by `\nocite{*}`.
     pub all: bool,

@@ -1,4 +1,4 @@
-//! Prints the cited entries of a text with everything that they refer to, transitively.
+//! Prints the cited entries of a text with all parsed entries and definitions that they refer to, transitively, and the preambles.
 
 ghost use Rattle.std.specs.Prelude.{◌≡◌, ℕ, List, [], ◌++◌, map, length, if◌then◌else◌, IfOk, OnOk};
 ghost use Rattle.std.specs.List.{AllByRecursion, flat_map, list_any};
@@ -166,8 +166,8 @@ fn has_mark(marks: &[bool]) -> bool
     marks.iter().any(|mark| *mark)
 }
 
-// Returns the cited entries and everything that they refer to, transitively. Definitions come first, then the preambles of the
-// file, then those of its skipped blocks, then entries.
+// Returns the cited entries and all entries and definitions that they refer to, transitively. Definitions come first, then the parsed
+// preambles, then the skipped preambles in braces, then entries. With a skipped preamble in braces, all definitions are returned.
 pub(crate) fn cited_text(
     alloc: Global,
     cited: &CitedKeys<'_>,

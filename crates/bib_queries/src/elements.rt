@@ -11,8 +11,8 @@ use crate::lines::after_prefix;
 use crate::names::{push_filled, push_parts};
 use std::alloc::{AllocError, Global};
 
-// If `text` begins with the name of an XML escape and its semicolon, returns its character and the text after them. Otherwise returns an
-// ampersand and all of `text`.
+// If `text` begins with the name of one of the five named escapes of XML and its semicolon, returns its character and the text after them.
+// Otherwise returns an ampersand and all of `text`.
 fn escape(text: &str) -> (&str, &str)
     ensures { result.0.now ++ result.1.now ≡ spec.unescaped_piece text.now }
 {
@@ -34,7 +34,7 @@ fn escape(text: &str) -> (&str, &str)
     ("&", text)
 }
 
-// Appends a text that follows an ampersand, with its XML escape replaced.
+// Appends an ampersand and the text after it, with a named escape at their start replaced.
 fn push_piece(written: &mut String, piece: &str) -> Result<(), AllocError>
     ensures { OnOk result (string_bytes written.new ≡ string_bytes written.old ++ spec.unescaped_piece piece.now) }
 {
@@ -44,7 +44,7 @@ fn push_piece(written: &mut String, piece: &str) -> Result<(), AllocError>
     Ok(())
 }
 
-// Appends the text after the first ampersand, with XML escapes replaced.
+// Appends the first ampersand of a text and `text`, which follows it, with the named escapes replaced.
 fn push_pieces(written: &mut String, text: &str) -> Result<(), AllocError>
     ensures { OnOk result (string_bytes written.new ≡ string_bytes written.old ++ spec.unescaped_rest text.now) }
 {
@@ -154,7 +154,7 @@ pub(crate) fn is_set(piece: &str) -> bool
     }
 }
 
-// Returns the text of an element `bcf:citekey`, or `None` for another element.
+// Returns the text of an element `bcf:citekey`, or `None` for another element or a tag without an end.
 pub(crate) fn citekey_text(piece: &str) -> Option<&str>
     ensures { option_map (λ text. text.now) result ≡ spec.citekey_text piece.now }
 {

@@ -1,9 +1,9 @@
-//! Prints entries with their source text.
+//! Returns the answer to a request on one file: keys of entries, or entries with their source text.
 
 ghost use Rattle.std.specs.Prelude.{◌≡◌, ◌==◌, ℕ, List, ◌++◌, [], map, length, not, if◌then◌else◌, IfOk, OnOk};
 ghost use Rattle.std.specs.List.{AllByRecursion, list_any};
 ghost use Rattle.std.specs.String.{string_bytes};
-ghost use Rattle.bib_syntax.specs.Recovery.{IsBlockOf};
+ghost use Rattle.bib_syntax.specs.Recovery.{IsBlockOf, IsRecovery};
 ghost use Rattle.bib_syntax.specs.Views.{entry_reading_of, field_of, file_of, piece_of};
 ghost use Rattle.bib_queries.specs.Answers as answers;
 ghost use Rattle.bib_queries.specs.Answers.{IsPrinted, IsTextAnswer, has_key, is_found_in, lines_of_keys, passing_lines, piece_text};
@@ -212,11 +212,24 @@ fn answer_found(
     }
 }
 
+/// Returns the answer to a request on a text, as `answer` does. `found` is the result of `RawBibliography::recover` for the text.
+pub fn answer_of(
+    alloc: Global,
+    request: &Request<'_>,
+    text: &str,
+    found: &RawRecovery<'_>,
+) -> Result<TextAnswer, AllocError>
+    requires { IsRecovery text.now (file_of found.now.raw) found.now.skipped.items }
+    ensures { IfOk result (λ answer. IsTextAnswer request.now text.now (string_bytes answer.text) answer.has_entry) }
+{
+    answer_found(alloc, request, text, found)
+}
+
 /// Returns the answer to a request on a text. Blocks that can't be parsed are skipped, except preambles in braces for `Cited`. The line
 /// end of the text follows each printed entry, definition and preamble. A line feed follows each key for `Keys`.
 pub fn answer(alloc: Global, request: &Request<'_>, text: &str) -> Result<TextAnswer, AllocError>
     ensures { IfOk result (λ answer. IsTextAnswer request.now text.now (string_bytes answer.text) answer.has_entry) }
 {
     let found = RawBibliography::recover(alloc, text)?;
-    answer_found(alloc, request, text, &found)
+    answer_of(alloc, request, text, &found)
 }

@@ -1,5 +1,5 @@
-//! Laws of the output for the citations of a document: it contains everything that it refers to. These functions do nothing; their
-//! clauses are facts about the definitions.
+//! Laws of the output for the citations of a document: it contains all parsed entries and definitions that it refers to. Names are
+//! compared exactly, so another ASCII case is another name. These functions do nothing; their clauses are facts about the definitions.
 
 ghost use Rattle.std.specs.Prelude.{◌≡◌, ℕ, Bool, true, List, map};
 ghost use Rattle.bib_syntax.specs.Reading.{FileReading};
@@ -9,7 +9,7 @@ ghost use Rattle.bib_queries.specs.Names.{definition_node, entry_node};
 ghost use Rattle.bib_queries.specs.Needed.{HasName, RefersTo, is_listed, with_marks};
 ghost use Rattle.bib_queries.specs.Searching.{IsMarked};
 
-/// States that, if an entry is printed, each entry of the file that it refers to is printed.
+/// States that, if an entry is printed, each parsed entry of the file that it refers to is printed.
 pub fn references_are_printed()
     ensures { (names : List (List ℕ)) (all : Bool) (text printed : List ℕ) (says : FileReading)
         (skipped : List SkippedBlock) (has_entry : Bool) (h : IsExcerpt names all text says skipped printed has_entry) →
@@ -17,7 +17,7 @@ pub fn references_are_printed()
         HasName (map entry_node says.entries) second name → IsMarked h.entry_marks second }
 {}
 
-/// States that, if an entry is printed, each definition of the file for an abbreviation that it uses is printed.
+/// States that, if an entry is printed, each parsed definition of the file for an abbreviation that it uses is printed.
 pub fn used_are_defined()
     ensures { (names : List (List ℕ)) (all : Bool) (text printed : List ℕ) (says : FileReading)
         (skipped : List SkippedBlock) (has_entry : Bool) (h : IsExcerpt names all text says skipped printed has_entry) →
@@ -25,7 +25,7 @@ pub fn used_are_defined()
         HasName (map definition_node says.abbreviations) index name → IsMarked h.definition_marks index }
 {}
 
-/// States that, if a definition is printed, each definition of the file for an abbreviation that it uses is printed.
+/// States that, if a definition is printed, each parsed definition of the file for an abbreviation that it uses is printed.
 pub fn definitions_are_defined()
     ensures { (names : List (List ℕ)) (all : Bool) (text printed : List ℕ) (says : FileReading)
         (skipped : List SkippedBlock) (has_entry : Bool) (h : IsExcerpt names all text says skipped printed has_entry) →

@@ -1,4 +1,4 @@
-//! Names in fields: those of entries and of abbreviations, and those that they refer to.
+//! The names of entries and of abbreviations, and the names that they refer to.
 
 ghost use Rattle.std.specs.Prelude.{◌≡◌, ◌++◌, map, IfOk, OnOk};
 ghost use Rattle.bib_syntax.specs.Grammar as grammar;

@@ -1,6 +1,6 @@
 //! Requests for entries of files.
 
-/// A request for entries of files, or for their keys.
+/// A request for entries of files, or for their keys. Entries in blocks that can't be parsed don't count.
 #[derive(Debug, Drop)]
 pub enum Request<'a> {
     /// The keys of all entries.
@@ -9,7 +9,8 @@ pub enum Request<'a> {
     Get(Vec<&'a str>),
     /// The entries with a text in a field.
     Grep(Search<'a>),
-    /// The cited entries, the entries and abbreviations that they refer to, transitively, and the preambles.
+    /// The cited entries, the entries and abbreviations that they refer to, transitively, and the preambles. The case of letters in keys
+    /// and names matters.
     Cited(CitedKeys<'a>),
 }
 

@@ -1,4 +1,4 @@
-//! Finds the .bib files that a document names.
+//! Finds the bibliography files that a document names.
 
 ghost use Rattle.std.specs.Prelude.{◌≡◌, ◌==◌, ◌++◌, codes, eqb, map, IfOk, OnOk};
 ghost use Rattle.std.specs.List.{ends_with, slice_split};

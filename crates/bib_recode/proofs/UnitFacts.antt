@@ -53,7 +53,7 @@ left_false false b c h = refl
 no_pair : (u v : ℕ) → is_surrogate u ≡ false → is_surrogate_pair u v ≡ false
 no_pair u v h = left_false (is_high_surrogate u) (is_low_surrogate u) (is_low_surrogate v) h
 
--- units without an unpaired surrogate don't change whether the units after them have one
+-- prepending units without an unpaired surrogate doesn't change whether there is one
 complete : (xs ys : List ℕ) → has_unpaired_surrogate xs ≡ false → has_unpaired_surrogate (xs ++ ys) ≡ has_unpaired_surrogate ys
 complete [] ys h = refl
 complete (u ∷ []) [] h = h ∙ sym has_none
@@ -113,14 +113,14 @@ take_plus n k xs within =
     sym (ap (take (n + k)) (take-append-drop n xs)) ∙ ap (λ m. take (m + k) (take n xs ++ drop n xs)) size
     ∙ take-append-add (take n xs) (drop n xs) k
 
--- the first character ends within the units
+-- the character from an index on ends within the units
 pub next_within : (xs : List ℕ) (n : ℕ) → n < length xs → n + character_len (drop n xs) ≤ length xs
 next_within xs n within =
     let size = length-drop n xs in
     let small = len_within (drop n xs) (omega (arith, size)) in
     omega (arith, size, small)
 
--- the units up to the end of the next character spell characters
+-- if the first `n` units spell characters and no unpaired surrogate follows, the units up to the end of the next character do too
 pub next_complete : (xs : List ℕ) (n : ℕ) → n < length xs → has_unpaired_surrogate (take n xs) ≡ false → begins_unpaired (drop n xs) ≡ false
     → has_unpaired_surrogate (take (n + character_len (drop n xs)) xs) ≡ false
 next_complete xs n within before starts =

@@ -37,11 +37,11 @@ encoding_mark Utf16BigEndian = big_endian_mark
 encoding_mark Windows1252 = []
 encoding_mark Latin1 = []
 
--- the length in bytes of the byte order mark at the start of a file in an encoding; 0 if it has none
+-- the length in bytes of the byte order mark of an encoding at the start of a file; 0 if the file doesn't begin with this mark
 abbrev pub length_of_mark : Encoding → List ℕ → ℕ
 length_of_mark encoding bytes = if starts_with nat_eq bytes (encoding_mark encoding) then length (encoding_mark encoding) else 0
 
--- the bytes of a file after its byte order mark; all bytes if it has none
+-- the bytes of a file after the byte order mark of an encoding; all bytes if the file doesn't begin with this mark
 abbrev pub after_mark : Encoding → List ℕ → List ℕ
 after_mark encoding bytes = drop (length_of_mark encoding bytes) bytes
 

@@ -1,5 +1,5 @@
 -- Meaning: words of public contracts.
--- Entries as records of RIS. The texts are those of items of CSL-JSON; only the publisher, its place and the genre have HTML tags.
+-- Entries as records of RIS. Most texts are formatted as in items of CSL-JSON; only the publisher, its place and the genre have HTML tags.
 use Rattle.std.specs.Prelude.{ℕ, if◌then◌else◌, List, [], ◌++◌, codes, Option, Some, None, is_some}
 use Rattle.bib_csl.specs.Identifiers.{archive_text, bare_doi, url_of}
 use Rattle.bib_csl.specs.Notes.{language_of, language_value}

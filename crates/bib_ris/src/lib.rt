@@ -2,7 +2,7 @@
 //!
 //! A record is appended to a text line by line. `lines` writes a line, and `fields` the line of a field. `people`, `dates`, `pages` and
 //! `titles` write the lines of their fields. `records` writes the parts of a record one after another. `types` returns the type of a
-//! record. The texts are those of `bib_csl`. Only the publisher, its place and the genre have HTML tags.
+//! record. Most texts come from `bib_csl`. Only the publisher, its place and the genre have HTML tags.
 #![tactic(auto)]
 
 mod dates;

@@ -1,4 +1,4 @@
--- Compiling a condition: the tests so far are those of the text, and an error is that of one of the regular expressions, or out of memory.
+-- Compiling a condition: its errors, and lists that are related element by element.
 use Rattle.std.proofs.Common.{◌<◌, ◌+◌, ℕ, List, [], ◌∷◌, ◌++◌, length, take, get_or, map, sym, subst}
 use Rattle.std.specs.List.{Any, AllZip}
 use Rattle.std.proofs.lemmas.List.{map_more, length-map, get_or-map}

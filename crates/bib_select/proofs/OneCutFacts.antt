@@ -66,7 +66,7 @@ quotes_same {v = v} {w = w} {v' = v'} {w' = w'} {x' = x'} {q = q} {q' = q'} open
       (same_char close' (subst (λ p. CharAt p q' x') (sym ends) closes)).1,
     )
 
--- the places after two runs of one kind are the same
+-- two longest runs that pass one test from one place on give the same token, and end at the same place
 run_same : {test : ℕ → Bool} {u v w : Place} (token : List ℕ → Token) → Longest test u v → Longest test u w
     → (token (between u v) ≡ token (between u w)) × (v ≡ w)
 run_same {u = u} token first second = (ap (λ p. token (between u p)) (longest_same first second), longest_same first second)
@@ -93,7 +93,7 @@ no_token (unclosed {v = v} {w = w} {q = q} char is inside end) (a_quoted_text {v
     subst (λ p. Longest (λ c. not (c == q)) p w') (sym same.1) (subst (λ k. Longest (λ c. not (c == k)) v' w') (sym same.0) inside') in
     no_char_at_end (subst AtEnd (longest_same inside again) end) closing'
 
--- no token and no quote is at the end of a text
+-- no token is at the end of a text; nor is an unclosed quote, by the next lemma
 token_no_end : {u v : Place} {t : Token} → AtEnd u → IsToken u t v → ⊥
 token_no_end end (a_word char is run) = no_char_at_end end char
 token_no_end end (a_sign char is run) = no_char_at_end end char

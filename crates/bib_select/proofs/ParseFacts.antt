@@ -1,4 +1,5 @@
--- The errors of parsing: a list of tokens has no quote that isn't closed, and no expression is compiled before all of it is parsed.
+-- The errors of parsing: the error of a list of tokens is neither an unclosed quote nor that of a regular expression. A text is at most one
+-- condition.
 use Rattle.std.proofs.Common.{◌≡◌, ℕ, Bool, true, false, List, [], ◌∷◌, refl, sym, ap, subst, ◌∙◌, Option, Some, None}
 use Rattle.std.specs.Prelude.{Result, Ok, Err, codes, if◌then◌else◌}
 use Rattle.std.specs.Option.{ok_or, option_map_or}

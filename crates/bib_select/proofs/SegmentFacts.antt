@@ -69,7 +69,7 @@ uncut_more joint end tokens index d so within other = record {
 to_end : {A : Type 0} (xs : List A) (index : ℕ) → take (length xs - index) (drop index xs) ≡ drop index xs
 to_end xs index = take_all (length xs - index) (drop index xs) (omega (arith, length-drop index xs))
 
--- the first such word ends the first segment; the next one has the tokens from there to the end
+-- the first such word ends the first segment; the others are those of the tokens after the word
 pub cut_here : (joint : List ℕ) (end : ℕ) (tokens : List declared.Placed) (index : ℕ) (d : declared.Placed)
     → UncutSoFar joint end tokens index → index < length tokens
     → is_keyword joint (token_of (get_or tokens index d).token) ≡ true

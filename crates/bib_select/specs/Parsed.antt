@@ -35,7 +35,7 @@ pub record IsParsed (text : List ℕ) (selection : Selection) : Type 0 where
   pub is : IsConditionText text condition
   pub compiled : AllZip (AllZip IsTermOf) condition selection.alternatives
 
--- the text is a condition, and the error is that of one of its regular expressions
+-- the text is a condition, and the error is that of one of its regular expressions, or out of memory
 pub record IsExpressionRefused (text : List ℕ) (error : SelectionError) : Type 0 where
   pub condition : List (List TermReading)
   pub is : IsConditionText text condition

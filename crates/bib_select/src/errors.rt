@@ -57,7 +57,7 @@ impl fmt::Display for SelectionErrorKind {
 /// The reason why a condition can't be parsed.
 #[derive(Debug, Clone, Copy, PartialEq, Eq, Error)]
 pub enum SelectionError {
-    /// The text is no condition.
+    /// The text is no condition, or a regular expression in it is malformed.
     #[error("{kind} at byte {at}")]
     Malformed {
         /// The kind of the error.

@@ -5,8 +5,8 @@
 //! and a test. `compiling` compiles regular expressions and looks up entry types. `selection` has the parsed condition, and decides
 //! whether an entry meets it. `years` returns the year of an entry.
 //!
-//! The tokens are cut before anything else, and each segment is parsed by itself. So the definition of a condition is a function on
-//! lists of tokens, and only tokens are a relation between places in a text. An alternative contains no other condition, so nothing
+//! The tokens are cut before anything else, and each segment is parsed by itself. So a condition is defined on lists of tokens, and
+//! only tokens are a relation between places in a text. An alternative contains no other condition, so nothing
 //! recurses.
 #![tactic(auto)]
 

@@ -13,7 +13,7 @@ use crate::tokens::Placed;
 pub(crate) struct Segment<'t, 's> {
     /// The tokens.
     pub(crate) tokens: &'t [Placed<'s>],
-    /// The offset of the token after them.
+    /// The offset of the token after them, or the length of the text.
     pub(crate) end: usize,
 }
 

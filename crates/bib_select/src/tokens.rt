@@ -77,7 +77,7 @@ fn is_word_character(c: char) -> bool
     !c.is_whitespace() && !is_sign_character(c) && !is_quote(c)
 }
 
-// Returns the text between two quotes, and moves past it. The opening quote is at the byte offset `at`.
+// Returns the text between two quotes, and moves past the second. The opening quote is at the byte offset `at`.
 fn quoted<'s>(s: &mut Scanner<'s>, quote: char, at: usize) -> Result<Token<'s>, SelectionError>
     requires here { (v : Place) × CharAt s.old quote v }
     requires quote { spec.is_quote quote ≡ true }

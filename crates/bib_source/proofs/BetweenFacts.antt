@@ -96,7 +96,7 @@ merged_between old new start removed added end lines whole ends olds news is =
       );
     })
 
--- equal lists of lines have nothing between their ends
+-- for two equal lists of lines, the empty list of hunks is between their ends
 pub same_between : (lines : List (List ℕ)) → AreBetweenEnds lines lines []
 same_between lines = record {
   start = lines;

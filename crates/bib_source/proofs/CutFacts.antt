@@ -166,7 +166,7 @@ skipped_new lines at start number low within context is =
 abbrev d : Line
 d = Context no_line
 
--- a hunk is cut out of all lines if no line right before it or right after it is shown
+-- the lines from `start` to `end` and their line numbers are a hunk cut out of all lines, if the lines next to them aren't shown
 pub cut_of : (lines : List Line) (start end old new : ℕ) → start < end → end ≤ length lines
     → old ≡ 1 + length (old_side (take start lines)) → new ≡ 1 + length (new_side (take start lines))
     → (0 < start → is_visible lines (start - 1) ≡ false) → (end < length lines → is_visible lines end ≡ false)

@@ -56,7 +56,7 @@ texts_from lines i within = ap line_texts (drop_more lines i no_line within)
 pub texts_cut : (lines : List (Bor (List ℕ))) (i : ℕ) → line_texts lines ≡ line_texts (take i lines) ++ line_texts (drop i lines)
 texts_cut lines i = sym (ap line_texts (take-append-drop i lines)) ∙ map-append (λ l. l.now) (take i lines) (drop i lines)
 
--- as many lines from an index on as there are after it are all lines from this index on
+-- the first `length lines - i` lines from an index `i` on are all lines from this index on
 pub rest_is : (lines : List (Bor (List ℕ))) (i : ℕ) → take (length lines - i) (drop i lines) ≡ drop i lines
 rest_is lines i = take_all (length lines - i) (drop i lines) (omega (arith, length-drop i lines))
 

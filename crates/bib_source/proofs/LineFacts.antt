@@ -67,7 +67,7 @@ ended text start index low high is =
     ∙ ap (λ b. after bytes (cond b ((byte ∷ []) ∷ rest) (before_first_line byte rest))) (eq-eqb byte 10 is)
     ∙ after_ended bytes byte rest ∙ ap (λ l. l ∷ rest) (sym (next_taken text start index low high))
 
--- any other byte at `index` is in the line from `start`, which continues after it
+-- any other byte at `index` is added to the line from `start`
 pub goes_on : (text : List ℕ) (start index : ℕ) → start ≤ index → index < length text → (get_or text index 0 ≡ 10 → ⊥)
     → after (take (index - start) (drop start text)) (lines_of (drop index text))
     ≡ after (take (index + 1 - start) (drop start text)) (lines_of (drop (index + 1) text))

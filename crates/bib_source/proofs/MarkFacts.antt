@@ -14,7 +14,7 @@ mark_utf8 : IsUtf8 byte_order_mark
 unfolding encode
 mark_utf8 = (0xFEFF ∷ [], (refl, refl))
 
--- bytes are UTF-8 if they are UTF-8 after a byte order mark that they begin with
+-- bytes are UTF-8 if they are UTF-8 after an optional byte order mark
 pub whole_utf8 : (bytes : List ℕ) → IsUtf8 (without_byte_order_mark bytes) → IsUtf8 bytes
 whole_utf8 bytes utf8 = by (starts_with nat_eq bytes byte_order_mark) refl utf8
   where

@@ -76,7 +76,7 @@ change_shown lines index inside c =
     (get_or-take count (drop (index - 3) lines) offset d low ∙ get_or-drop (index - 3) lines offset d
     ∙ ap (λ n. get_or lines n d) at) ∙ c.changed)
 
--- a run of shown lines with no shown line before or after it is a narrow hunk
+-- one or more shown lines with no shown line right before or right after them are a narrow hunk
 pub narrow_run : (lines : List Line) (start end old new : ℕ) → start < end → end ≤ length lines
     → ((i : ℕ) → start ≤ i → i < end → is_visible lines i ≡ true)
     → (0 < start → is_visible lines (start - 1) ≡ false) → (end < length lines → is_visible lines end ≡ false)

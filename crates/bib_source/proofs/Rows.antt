@@ -26,7 +26,7 @@ mark_after_text = refl
 cut_mark : without_byte_order_mark (0xEF ∷ 0xBB ∷ []) ≡ 0xEF ∷ 0xBB ∷ []
 cut_mark = refl
 
--- the 27 bytes with a character other than their code point
+-- the 27 bytes that aren't the code point of their character
 assigned : map windows_1252 (0x80 ∷ (range_with_len 0x82 11 ++ 0x8E ∷ (range_with_len 0x91 12 ++ 0x9E ∷ 0x9F ∷ [])))
     ≡ codes "€‚ƒ„…†‡ˆ‰Š‹ŒŽ‘’“”•–—˜™š›œžŸ"
 unfolding windows_1252

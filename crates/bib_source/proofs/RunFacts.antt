@@ -39,7 +39,7 @@ runs_context xs [] all = subst AreRuns (sym (append-nil xs)) all
 runs_context xs (line ∷ lines) all =
     join line all (subst AreRuns (append-nil (map Context lines)) (context_runs lines (runs.one no_run)))
 
--- any runs may follow lines of both texts
+-- if any runs may follow some lines, any runs may also follow these and then lines of both texts
 pub open_context : (xs : List Line) (lines : List (Bor (List ℕ))) → IsOpen xs → IsOpen (xs ++ map Context lines)
 open_context xs lines is more all =
     subst AreRuns (sym (append_assoc xs (map Context lines) more)) (is (map Context lines ++ more) (context_runs lines all))
@@ -99,7 +99,7 @@ changed_not (r ∷ run) (x ∷ before) after line all is =
     let same : run ≡ before ++ Context line ∷ after = cc in
     changed_not run before after line all.1 same
 
--- a line of both texts after a run is the first one, or it is after the first one
+-- `line`, a line of both texts, is somewhere after `first`, the line of both texts right after a run
 record IsLater (run rest before after : List Line) (first line : Bor (List ℕ)) : Type 0 where
   between : List Line
   before_is : before ≡ run ++ Context first ∷ between

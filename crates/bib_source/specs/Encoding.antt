@@ -8,15 +8,15 @@ use Rattle.std.specs.Str.{IsUtf8}
 abbrev pub byte_order_mark : List ℕ
 byte_order_mark = 0xEF ∷ 0xBB ∷ 0xBF ∷ []
 
--- the length in bytes of the byte order mark at the start of a file; 0 if it has none
+-- the length in bytes of the UTF-8 byte order mark at the start of a file; 0 if it has none
 abbrev pub mark_length : List ℕ → ℕ
 mark_length bytes = if starts_with nat_eq bytes byte_order_mark then length byte_order_mark else 0
 
--- the bytes of a file after its byte order mark; all bytes if it has none
+-- the bytes of a file after its UTF-8 byte order mark; all bytes if it has none
 abbrev pub without_byte_order_mark : List ℕ → List ℕ
 without_byte_order_mark bytes = drop (mark_length bytes) bytes
 
--- The byte at `index` is the first invalid one of a file. The bytes after the byte order mark and before `index` are UTF-8,
+-- The byte at `index` is the first invalid one of a file. The bytes after the UTF-8 mark and before `index` are UTF-8,
 -- and no longer part after the mark is. The bytes of the mark are counted in `index`. No UTF-8 character begins at `index`.
 pub record IsFirstInvalid (bytes : List ℕ) (index : ℕ) : Type 0 where
   pub after_mark : mark_length bytes ≤ index

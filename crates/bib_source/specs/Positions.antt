@@ -1,5 +1,5 @@
 -- Meaning: words of public contracts.
--- Lines and columns of byte offsets in a text, as compilers and editors count them: from 1, columns in characters.
+-- Lines and columns of byte offsets in a text, as many compilers and editors count them: from 1, columns in characters.
 use Rattle.std.specs.Prelude.{ℕ, ◌+◌, ◌==◌, Bool, not, List, take}
 use Rattle.std.specs.Int.{is_in_range}
 use Rattle.std.specs.List.{after_last, count_by}

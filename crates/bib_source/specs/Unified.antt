@@ -46,8 +46,8 @@ unified_text name [] = []
 unified_text name (hunk ∷ hunks) = codes "--- " ++ (name ++ (codes "\n+++ " ++ (name ++ (codes "\n" ++ flat_map hunk_text (hunk ∷ hunks)))))
 
 -- `text` is a unified diff from `old` to `new`: its hunks are narrow and turn the lines of `old` into those of `new`. No line of
--- the common start or of the common end is shown as changed. No run of changed lines begins or ends with a line that was both
--- removed and added. If the texts are equal, there are no hunks.
+-- the common start or of the common end is shown as changed. In each run of changed lines the removed lines are before the added
+-- ones, and these neither begin nor end with the same line. If the texts are equal, there are no hunks.
 pub record IsDiff (name old new text : List ℕ) : Type 0 where
   pub hunks : List Hunk
   pub make : Make 1 1 hunks (lines_of old) (lines_of new)

@@ -25,7 +25,7 @@ pub struct Decoded {
     pub invalid: Option<usize>,
 }
 
-// Returns the length in bytes of the byte order mark at the start of the file; 0 if it has none.
+// Returns the length in bytes of the UTF-8 byte order mark at the start of the file; 0 if it has none.
 fn mark_length(bytes: &[u8]) -> usize
     ensures value { result ≡ mark_length bytes.now }
     ensures within { result ≤ length bytes.now }
@@ -37,7 +37,7 @@ fn mark_length(bytes: &[u8]) -> usize
     }
 }
 
-/// Decodes the bytes of a file. If the bytes after an optional byte order mark are valid UTF-8, the text is these bytes.
+/// Decodes the bytes of a file. If the bytes after an optional UTF-8 byte order mark are valid UTF-8, the text is these bytes.
 /// Otherwise the text is the Windows-1252 character of each byte of the file; none is skipped.
 ///
 /// Returns an error only if out of memory.

@@ -7,15 +7,15 @@ ghost use Rattle.bib_source.specs.Encoding.{byte_order_mark, without_byte_order_
 ghost use Rattle.bib_source.specs.Hunks.{Make};
 ghost use Rattle.bib_source.specs.Lines.{lines_of};
 
-/// States that a byte order mark at the start of a file is skipped, once. Nothing else is skipped.
+/// States that a UTF-8 byte order mark at the start of a file is skipped, once. Nothing else is skipped.
 pub fn only_a_mark_is_passed_over()
     ensures mark { (rest : List ℕ) → without_byte_order_mark (byte_order_mark ++ rest) ≡ rest }
     ensures others { (bytes : List ℕ) → ((rest : List ℕ) → bytes ≢ byte_order_mark ++ rest) →
         without_byte_order_mark bytes ≡ bytes }
 {}
 
-/// States that a file has at most one first invalid byte, and none if it is UTF-8 after an optional byte order mark. No UTF-8
-/// character begins at that byte.
+/// States that a file has at most one first invalid byte, and none if it is UTF-8 after an optional UTF-8 byte order mark. No
+/// UTF-8 character begins at that byte.
 pub fn one_byte_is_the_first_invalid()
     ensures one { (bytes : List ℕ) (index other : ℕ) →
         IsFirstInvalid bytes index → IsFirstInvalid bytes other → index ≡ other }

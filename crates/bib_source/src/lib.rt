@@ -1,6 +1,6 @@
 //! Decodes the bytes of a file, finds lines and columns, and compares two texts.
 //!
-//! `decoding` decodes bytes as UTF-8 if they are valid UTF-8 after an optional byte order mark. Otherwise it decodes them as
+//! `decoding` decodes bytes as UTF-8 if they are valid UTF-8 after an optional UTF-8 byte order mark. Otherwise it decodes them as
 //! Windows-1252, in which every byte is a character. So one invalid byte makes the whole file Windows-1252. No file is
 //! rejected and no character is replaced.
 //!

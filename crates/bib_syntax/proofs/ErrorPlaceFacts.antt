@@ -1,5 +1,5 @@
--- Each reported error is an error of the grammar, with a span in the text. Lemmas `.._inside` are about the place after a
--- rule, and lemmas `.._later` about the place of an error.
+-- Each reported error is an error of the grammar, with a span in the text. Most lemmas `.._inside` are about the place after
+-- a rule, and lemmas `.._later` are about the place of an error.
 use Rattle.std.proofs.Common.{◌≡◌, ℕ, Bool, ◌+◌, ◌≤◌, List, length, refl, sym, ap, subst, arith}
 use Rattle.std.specs.Prelude.{IsTrue}
 use Rattle.std.specs.Char.{len_utf8}

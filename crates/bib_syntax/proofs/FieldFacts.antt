@@ -26,7 +26,7 @@ pub elements_stop : {u v : Place} {es : List Piece} → Elements longest u es v 
 elements_stop (elements.last e white ends) = (white.stops, ends)
 elements_stop (elements.more e white sign white' rest) = elements_stop rest
 
--- white space without a percent sign after it is a gap
+-- the longest white space, without a percent sign after it, is a gap
 pub gap_without : {u a : Place} → Longest is_whitespace u a → ((x : Place) → CharAt a 37 x → ⊥) → Gap longest u a
 gap_without white none = gap.white white (stops_without 37 none)
 

@@ -1,4 +1,4 @@
--- Each UTF-8 text has a raw reading or an error, and has a recovery.
+-- From each place with `Left` there is a raw reading or an error, and there is a recovery.
 use Rattle.std.proofs.Common.{◌≡◌, ◌⊎◌, ℕ, zero, suc, ◌<◌, arith, Bool, true, false, List, [], ◌∷◌, ◌∙◌, inl, inr, refl, sym, subst}
 use Rattle.std.specs.Prelude.{not, ◌==◌, take}
 use Rattle.std.specs.Char.{is_whitespace}
@@ -169,7 +169,7 @@ block_outcome {u = u} at_sign left = elim (head_outcome at_sign left) [
 abbrev FileCase : Place → Type 0
 FileCase u = ((says : FileReading) × File longest u says) ⊎ ((e : ParseError) × Reports (FileFails u) e)
 
--- a reading or an error from a later place gives one from this place
+-- `FileCase` from `v` gives `FileCase` from `u` if each raw reading and each failure from `v` gives one from `u`
 file_map : {u v : Place} (says : FileReading → FileReading) → ((r : FileReading) → File longest v r → File longest u (says r))
     → ((kind : ParseErrorKind) (w : Place) → FileFails v kind w → FileFails u kind w) → FileCase v → FileCase u
 file_map says found failed (inl r) = inl (says r.0, found r.0 r.1)
@@ -310,7 +310,7 @@ fields_kept (suc bound) {u = u} below left = elim (name_outcome left) [
   ]
 ]
 
--- one reading is kept of the rest of a block of any kind
+-- a reading is kept of the rest of a block of any kind
 body_kept : (start : Place) (p : Part) (k : BlockKind) {n : ℕ} {u : Place} → Left n u → (says : FileReading) × KeptBody start p k u says
 body_kept start p BlockKind.comment left = (empty_reading, kept_body.comment)
 body_kept start p BlockKind.preamble left = (empty_reading, kept_body.preamble)
@@ -326,7 +326,7 @@ body_kept start p BlockKind.entry left =
           (_, kept_body.entry key.rule white.rule comma g.rule fs.2)
     ]
 
--- one reading is kept of a block at an at sign
+-- a reading is kept of a block at an at sign
 block_kept : {n : ℕ} {u v : Place} → CharAt u 64 v → Left n v → (says : FileReading) × Kept u says
 block_kept {u = u} char left = elim (opening_found char left) [
   | inr absent ↦ (empty_reading, kept.unopened absent)
@@ -336,7 +336,7 @@ block_kept {u = u} char left = elim (opening_found char left) [
       (body.0, kept.block opening.rule.1 body.1)
 ]
 
--- one reading is kept of a skipped block
+-- a reading is kept of a skipped block
 keeps_found : (keeps : Bool) {u v w : Place} → CharAt u 64 v → GoesOnAt v w → (says : FileReading) × Keeps keeps u w says
 keeps_found false char on = (empty_reading, keep.nothing)
 keeps_found true {u} {v} {w} char on =

@@ -1,4 +1,4 @@
--- Files in one text: where they begin and end, and the recovery of the first ones.
+-- Files in one text: where they begin and end.
 use Rattle.std.proofs.Common.{◌≡◌, ℕ, zero, suc, ◌+◌, ◌<◌, ◌≤◌, arith, length, List, [], ◌∷◌, ◌++◌, Some, refl, sym, ap, ◌∙◌, subst, append_assoc, length-append, take, drop, get_or}
 use Rattle.std.specs.Prelude.{slice_get}
 use Rattle.std.specs.Str.{IsCharBoundary, IsUtf8}
@@ -86,7 +86,7 @@ next_boundary text end utf8 is =
     subst (IsCharBoundary text) next
     (IsCharBoundary-after_ascii text (end + 1) utf8 (slice_get_within text (end + 1) 10 is) (omega (arith, here)))
 
--- a character boundary of a text is also one of the text up to a later offset
+-- a character boundary of a text is also one of the text up to an offset that isn't before it
 pub boundary_cut : (text : List ℕ) (start end : ℕ) → end ≤ length text → start ≤ end → IsCharBoundary text start
     → IsCharBoundary (take end text) start
 boundary_cut text start end within ordered is =

@@ -89,7 +89,7 @@ to_sign sign text (c ∷ cs) at end ascii left to within others ends = ⊎_elim
     subst (λ n. Run (λ c. not (c == sign)) (place text at) (place text n)) same stop)
     (cases_lt at end)
 
--- a stretch continues from each place in it to its end
+-- a stretch continues from each character boundary in it to its end
 pub from_inside : (sign : ℕ) (u : Place) (stretch : Stretch) → sign < 128 → IsStretch sign u.text stretch
     → stretch.start ≤ u.at → u.at ≤ stretch.end → IsCharBoundary u.text u.at → IsStretchFrom sign u stretch.end
 from_inside sign u stretch ascii is from to may =

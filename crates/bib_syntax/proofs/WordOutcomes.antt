@@ -71,11 +71,11 @@ number_outcome {u = u} char digit rest =
 abbrev QuoteClosed : Place → Place → Type 0
 QuoteClosed u x = (v : Place) × QuotedParts u v × CharAt v 34 x
 
--- no quote closes the text
+-- no quote closes the text from `u`
 abbrev NoQuote : Place → Type 0
 NoQuote u = (w x : Place) → QuotedParts u w → CharAt w 34 x → ⊥
 
--- a quote closes the text, or none does
+-- a quote closes the text from `u`, or none does
 abbrev QuoteCase : ℕ → Place → Type 0
 QuoteCase n u = RuleEnd n (QuoteClosed u) ⊎ NoQuote u
 
@@ -97,11 +97,11 @@ quote_step {u = u} {v = v} {c = c} char rest here hides fits hidden = elim (case
   ]
 ]
 
--- no quote closes the text at its end
+-- `QuoteCase` at the end of a text: no quote follows
 quote_end : {n : ℕ} {u : Place} → AtEnd u → QuoteCase n u
 quote_end end = inr (λ w x. quote.quoted_stuck (stops_at_end is_quotable end) (λ v. no_char_at_end end) (λ v. no_char_at_end end))
 
--- at each place with `Left`, a quote closes the text or none does
+-- from each place with `Left`, a quote closes the text or none does
 quote_case : {n : ℕ} {u : Place} → Left n u → QuoteCase n u
 quote_case (Left.none end) = quote_end end
 quote_case (Left.more {n = n} char (Left.none end)) =
@@ -177,7 +177,7 @@ brace_step depth {u = u} {v = v} {c = c} char rest here hides fits hidden = elim
   ]
 ]
 
--- from the end of the text, no brace closes the text
+-- `BraceCase` at the end of a text: no brace follows
 brace_end : (depth : ℕ) {n : ℕ} {u : Place} → AtEnd u → BraceCase depth n u
 brace_end depth end = inr (λ x y. brace.closes_end end)
 
@@ -237,7 +237,7 @@ element_quoted : {n : ℕ} {u v : Place} → CharAt u 34 v → Outcome n (Quoted
 element_quoted opens (Outcome.read f) = Outcome.read (found_as (omega arith) f (_, element.quoted f.rule.1))
 element_quoted opens (Outcome.fails f) = Outcome.fails (element_fail.quoted opens f)
 
--- a piece that begins with a name matches
+-- a piece that begins with a name but not with a digit matches
 element_named : {n : ℕ} {u v : Place} {c : ℕ} → CharAt u c v → is_ascii_digit c ≡ false → RuleEnd n (NameAt u)
     → Outcome n (ElementAt u) (ElementFails u)
 element_named {u = u} char no_digit f =

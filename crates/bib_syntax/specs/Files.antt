@@ -9,7 +9,7 @@ use Rattle.bib_syntax.specs.Recovery.{Recovered}
 use Rattle.bib_syntax.specs.declared.raw.recovery.SkippedBlock.{SkippedBlock}
 
 -- The text of several files, and the offset at which each file ends. A percent sign and a line feed follow each file. The percent sign
--- separates the text after the last entry of a file from the next file: the two never read as one field.
+-- separates the text after the last entry of a file from the next file.
 pub record FilesText : Type 0 where
   pub text : List ℕ
   pub ends : List ℕ

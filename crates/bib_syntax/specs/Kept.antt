@@ -56,7 +56,7 @@ key_alone start kind key end =
     else entry_alone (record { key = key; kind = kind; fields = []; start = start.at; end = end.at })
 
 -- The complete parts of the rest of a block after its opening; the block begins at `start` and has the name `kind`. A comment
--- and a preamble have none. An entry whose key has no comma after it has only the key, or nothing if the key is empty.
+-- and a preamble have none. An entry whose key has no comma after it has no fields. It is left out if the key is empty.
 pub data KeptBody (start : Place) (kind : Part) : BlockKind → Place → FileReading → Type 0 where
   comment : {u : Place} → KeptBody start kind BlockKind.comment u empty_reading
   preamble : {u : Place} → KeptBody start kind BlockKind.preamble u empty_reading

@@ -1,8 +1,8 @@
 -- Meaning: words of public contracts.
 -- Which error of the grammar is reported for a text that the file grammar rejects, and where.
 --
--- For each rule of the grammar in the mode `longest`, a definition states how it fails. It relates the place where the rule
--- begins, the kind of the error, and the place where the error is reported. This is the first place where a required part
+-- For each rule whose failure is reported, a definition states how it fails in the mode `longest`. It relates the place where the
+-- rule begins, the kind of the error, and the place where the error is reported. This is the first place where a required part
 -- is missing, or the second point of a number. A part is missing if the character there fails its test, or the text ends
 -- (`Stops`). An unclosed brace or quote is reported at the end of the text.
 use Rattle.std.specs.Prelude.{◌≡◌, ℕ, ◌==◌, ◌||◌, ◌&&◌, not, Bool, true, List, length}

@@ -5,7 +5,8 @@
 //! the returned reading. `fails` (Err) states that the rule fails at the place before the call with the returned error, unless
 //! memory ran out. `words` parses names, keys, and the pieces of values. `fields` parses line comments, values and fields.
 //! `file` parses blocks and the file. Nested braces are counted without recursion, so no depth of braces overflows the stack.
-//! `entry_reader` parses a file one entry at a time, for callers that don't need the whole content at once.
+//! `entry_reader` parses a file one entry at a time, for callers that don't need the whole content at once. `files` joins several
+//! files in one text, and recovers each of them.
 //!
 //! `specs/SyntaxErrors.antt` states how the rules of the grammar fail: with which error and at which place. `laws`
 //! proves, from the definitions only, that each UTF-8 text has exactly one raw reading or exactly one error, but not both.
@@ -14,7 +15,7 @@
 //! `recovery` parses a file even if some of its blocks can't be parsed. If a block fails, its error is kept, and parsing
 //! continues at the next at sign that begins a line: only white space precedes it there. The text of a failed block may
 //! therefore be parsed again. `memo` prevents that it is scanned many times. It has the offsets at which braces close and lines
-//! end, and the one after the last closing brace. `reader`, the scanner of all these functions, jumps to these offsets. `memo`
+//! end, and the one after the last closing brace. `reader`, the scanner of these functions, uses them to jump. `memo`
 //! also has the offset of each field that a failed block after the first one began to parse, with the error of that block.
 //! `failing` finds these fields when the block has failed. Whether and how parsing fields fails depends only on the offset. A
 //! later block that reaches such a field therefore returns the known error without parsing it. `kept` parses the complete

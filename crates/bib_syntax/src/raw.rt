@@ -1,4 +1,4 @@
-//! The low-level representation of a bibliography file, before abbreviations are resolved.
+//! The low-level representation of a bibliography file, before abbreviations are resolved, and the errors of parsing.
 
 ghost use Rattle.std.specs.Prelude.{◌≡◌, ◌≢◌, ◌⊎◌, [], ◌∷◌, ◌++◌, codes, Some, IfOk, IfErr, OnOk, OnErr};
 ghost use Rattle.bib_syntax.specs.Characters as characters;
@@ -39,7 +39,7 @@ use std::error::Error;
 use std::fmt;
 use std::marker::Model;
 
-/// The pieces of the value of a field, joined in the file by `#`.
+/// The pieces of the value of a field or of a definition, joined in the file by `#`.
 pub type Field<'s> = Vec<Spanned<RawChunk<'s>>>;
 
 /// The content of a bibliography file before abbreviations are resolved. All texts except the preamble borrow from the file.
@@ -181,18 +181,18 @@ pub enum ParseErrorKind {
     Unexpected(Token),
     /// An expected token is missing.
     Expected(Token),
-    /// An abbreviation is neither defined nor the first three letters of an English month, in any ASCII case. The text is its name.
+    /// An abbreviation isn't defined, and isn't the first three letters of an English month in any ASCII case. The text is its name.
     UnknownAbbreviation(Text),
     /// A command is malformed. Never returned; kept so that all names of the Rust crate `biblatex` exist.
     MalformedCommand,
     /// The key of an entry is the key of an earlier loaded entry, or one of the names in the field `ids` of one. The text is
     /// the key.
     DuplicateKey(Text),
-    /// A date that an entry would inherit can't be parsed, for this reason.
+    /// A date that an entry could inherit can't be parsed, for this reason.
     ResolutionError(TypeErrorKind),
     /// An abbreviation occurs in its own expansion. The text is its name.
     AbbreviationCycle(Text),
-    /// An entry refers to itself, directly or through other entries. The text is its key.
+    /// An entry refers to itself by `crossref` or `xdata`, directly or through other entries. The text is its key.
     ReferenceCycle(Text),
     /// Out of memory.
     OutOfMemory,

@@ -1,5 +1,5 @@
 -- Meaning: words of public contracts.
--- Results of parsing something as a value of a type, as the Rust crate `biblatex` parses fields.
+-- Results of parsing something as a value of a type.
 use Rattle.std.specs.Prelude.{◌≡◌, ◌≢◌, ℕ, Option, Some, None, Result, Ok, Err, ◌⊎◌, ⊤}
 use Rattle.std.specs.declared.ops.Range.{Range}
 use Rattle.bib_tables.specs.TypeError.{no_memory}

@@ -232,11 +232,11 @@ page_names pages.BothForbidden = []
 page_names pages.PagesOptional = fields "pages"
 page_names pages.PagesRequired = fields "pages"
 
--- all fields that the rules of a type require or allow, including those for pages and chapters and for authors and editors
+-- all fields that the rules of a type require or allow, except a date. The fields for pages, chapters, authors and editors are included
 abbrev pub fields_of_rules : Rules → Names
 fields_of_rules asked = asked.required ++ asked.optional ++ page_names asked.pages ++ author_names asked.author
 
--- the fields that the rules of a type require or allow: an entry of the type can inherit them, unless they are in `never_inherited`
+-- these fields for the rules of a type: an entry of the type can inherit them, unless they are in `never_inherited`
 abbrev pub inheritable : EntryType → Names
 inheritable type = fields_of_rules (rules_of type)
 

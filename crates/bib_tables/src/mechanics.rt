@@ -186,7 +186,8 @@ impl EntryType {
         )
     }
 
-    /// Returns whether a work of this type is one volume that contains other works. Its title is the `booktitle` of its parts.
+    /// Returns whether a work of this type is one volume or one issue that contains other works. Its title is the
+    /// `booktitle` of its parts.
     pub fn is_collection(&self) -> bool
         ensures { result ≡ is_collection self.now }
     {

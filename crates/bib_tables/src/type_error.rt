@@ -29,15 +29,15 @@ pub enum TypeErrorKind {
     DayOutOfRange,
     /// A month isn't from 1 to 12.
     MonthOutOfRange,
-    /// A text isn't a number, a range or a list of ranges, or a number of a time is out of range.
+    /// A text isn't a number, a range or a list of ranges, or a number is too large or, in a time, out of range.
     InvalidNumber,
-    /// A number is missing, or the span of chunks that aren't a number is empty.
+    /// A number is missing, or the span of chunks that aren't a number is empty or reversed.
     MissingNumber,
     /// A part of a date has too few or too many digits.
     WrongNumberOfDigits,
     /// A date has an invalid format.
     InvalidFormat,
-    /// The name of a gender is unknown.
+    /// The code of a gender is unknown.
     UnknownGender,
     /// A range of numbers is malformed. Never returned; kept so that all names of the Rust crate `biblatex` exist.
     InvalidIntegerRange,

@@ -115,7 +115,7 @@ lead_clash {a} {u} {v} {w} {c} {d} lead same char before over =
     let inside : a.at < length a.text = omega (arith, char_left lead, (len_utf8_bounds d).0) in
     omega (arith, boundary.1 inside high, inner.1, byte)
 
--- a character that begins before such a place ends at or before it
+-- if the text ends at `at`, or a character is there, a character that begins before `at` ends at or before `at`
 pub not_over : (text : List ℕ) (at : ℕ) {u v : Place} {c : ℕ} → Border (place text at) → u.text ≡ text → CharAt u c v
     → u.at < at → v.at ≤ at
 not_over text at {u} {v} {c} (inl end) same char before =

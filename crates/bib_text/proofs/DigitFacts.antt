@@ -59,20 +59,20 @@ all_digits (d ∷ ds) all =
     let here : is_ascii_digit d ≡ true = grind (arith, nat_tests) in
     and_from _ _ here (all_digits ds all.1)
 
--- the offset after ASCII bytes at the start of a text is a character boundary
+-- the offset after ASCII bytes at the start of UTF-8 text is a character boundary
 following_ascii : (bs : List ℕ) (n : ℕ) → IsUtf8 bs → n ≤ length bs → ((k : ℕ) → k < n → get_or bs k 0 < 128) → IsCharBoundary bs n
 following_ascii bs zero u h low = IsCharBoundary-start bs u
 following_ascii bs (suc m) u h low =
     let at : IsCharBoundary bs (m + 1) = IsCharBoundary-after_ascii bs m u (omega arith) (low m (omega arith)) in
     rw add-one at at
 
--- the offset after a run of ASCII bytes that pass a test is a character boundary
+-- the offset after the leading bytes of UTF-8 text that pass a test is a character boundary, if only ASCII bytes pass it
 pub after_passed : (test : ℕ → Bool) (bs : List ℕ) → IsUtf8 bs → ((b : ℕ) → test b ≡ true → b < 128)
     → IsCharBoundary bs (prefix_len test bs)
 after_passed test bs u low =
     following_ascii bs (prefix_len test bs) u (prefix_len-le-length test bs)
     (λ k h. low (get_or bs k 0) (prefix_len_passes test bs k 0 h))
 
--- the offset after a run of digits is a character boundary
+-- the offset after the digits at the start of UTF-8 text is a character boundary
 pub after_digits : (bs : List ℕ) (n : ℕ) → IsUtf8 bs → n ≡ prefix_len is_ascii_digit bs → IsCharBoundary bs n
 after_digits bs n u is = rw is (after_passed is_ascii_digit bs u digit_small)

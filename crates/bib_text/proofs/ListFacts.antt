@@ -42,7 +42,7 @@ pub cons_cases : (x p : ℕ) (xs : List ℕ) → Contains (x ∷ xs) p → (x �
 cons_cases x p xs (zero, within, e) = inl e
 cons_cases x p xs (suc k, within, e) = inr (k, omega arith, e)
 
--- an element of a list occurs in a list that begins with another
+-- an element of a list also occurs in the list with `x` prepended
 pub contains_more : (x p : ℕ) (xs : List ℕ) → Contains xs p → Contains (x ∷ xs) p
 contains_more x p xs (k, within, e) = (suc k, omega arith, e)
 
@@ -107,7 +107,7 @@ pub mapped_more : {A B : Type 0} (f : A → B) (xs : List A) (i : ℕ) (x : A) �
 mapped_more f xs i x within is =
     ap (map f) (take_more xs i x within ∙ ap (λ y. take i xs ++ y ∷ []) (sym is)) ∙ map-append f (take i xs) (x ∷ [])
 
--- a test of the elements of a mapped list is a test of the elements
+-- an element of a mapped list passes a test if and only if an element of the list passes it after mapping
 pub any_mapped : {A B : Type 0} (f : A → B) (test : B → Bool) (xs : List A) → list_any test (map f xs) ≡ list_any (λ x. test (f x)) xs
 any_mapped f test [] = refl
 any_mapped f test (x ∷ xs) = ap (λ rest. test (f x) || rest) (any_mapped f test xs)

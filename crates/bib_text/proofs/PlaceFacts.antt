@@ -56,7 +56,7 @@ no_char_at_end {u} {v} {c} end char =
     let width : 1 ≤ len_utf8 c = (len_utf8_bounds c).0 in
     omega arith
 
--- the place after a character is a character boundary if the place of the character is one
+-- in UTF-8, the place after a character is a character boundary if the place of the character is one
 pub boundary_following : {u v : Place} {c : ℕ} → IsUtf8 u.text → IsCharBoundary u.text u.at → CharAt u c v → IsCharBoundary u.text v.at
 boundary_following {u} {v} {c} utf8 boundary char =
     rw char.next (IsCharBoundary-past_char u.text (drop v.at u.text) u.at c boundary.0 (IsUtf8-drop u.text u.at utf8 boundary) char.here)
@@ -65,7 +65,7 @@ boundary_following {u} {v} {c} utf8 boundary char =
 pub no_other_char : {u v : Place} {c : ℕ} (d : ℕ) → CharAt u c v → (c ≡ d → ⊥) → (w : Place) → CharAt u d w → ⊥
 no_other_char d char differs w other = differs (same_char char other).0
 
--- the place after a character is in the same text, at the next offset
+-- the place after a character is in the same text, at the offset after its bytes
 pub place_after : {u v : Place} {c : ℕ} → CharAt u c v → v ≡ place u.text (u.at + len_utf8 c)
 place_after {u} {v} {c} char = same_place {u = v} {v = place u.text (u.at + len_utf8 c)} char.same char.next
 
@@ -90,7 +90,7 @@ stops_at test {u} {v} {c} char fails d w other = subst (λ x. test x ≡ false) 
 pub one_white : {u v w : Place} {d : ℕ} → CharAt u 32 v → CharAt v d w → is_whitespace d ≡ false → Longest is_whitespace u v
 one_white space char dark = record { run = step space refl stop; stops = stops_at is_whitespace char dark }
 
--- the offset after a character is a character boundary if the offset of the character is one
+-- in UTF-8, the offset after a character is a character boundary if the offset of the character is one
 pub boundary_after : (text : List ℕ) (at : ℕ) {u v : Place} {c : ℕ} → place text at ≡ u → IsUtf8 text
     → IsCharBoundary text at → CharAt u c v → IsCharBoundary text (at + len_utf8 c)
 boundary_after text at {u} {v} {c} here utf8 boundary char =

@@ -1,4 +1,4 @@
--- Facts on the last item of a list that passes a test.
+-- Facts on the first and the last item of a list that pass a test.
 use Rattle.std.proofs.Common.{◌≡◌, Bool, true, false, List, [], ◌∷◌, map, Option, Some, None, refl, sym, ap, ◌∙◌, cond}
 use Rattle.std.specs.Prelude.{reverse, option_map}
 use mathlib.Core.List.{reverse_aux}

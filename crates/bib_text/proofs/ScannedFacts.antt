@@ -28,7 +28,7 @@ split_after test (c ∷ run) rest all stops =
     let parts = and_parts (test c) (list_all test run) all in
     cond-true (test c) (rest_after test (run ++ rest)) (c ∷ run ++ rest) parts.0 ∙ split_after test run rest parts.1 stops
 
--- if a run stops at a place, the leading run of the characters from there is empty
+-- if a test stops at a place, the leading run of the characters from there is empty
 stopped : (test : ℕ → Bool) (v : Place) (cs : List ℕ) → IsUtf8 (ahead v) → cs ≡ chars (ahead v) → Stops test v
     → (leading_run test cs ≡ []) × (rest_after test cs ≡ cs)
 stopped test v [] utf8 is stops = (refl, refl)

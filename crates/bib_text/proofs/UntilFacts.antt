@@ -49,7 +49,7 @@ pub record Until (passes : ℕ → Bool) (u v : Place) : Type 0 where
   pub stopped : EndsOr (λ c. passes c ≡ false) v
   pub boundary : IsCharBoundary u.text v.at
 
--- `n` bytes from the offset `at`, none of which ends a run, are a run
+-- `n` bytes from the offset `at`, up to a character boundary, are a run if none of them ends a run
 run_of_bytes : (ends passes : ℕ → Bool) → ((c : ℕ) → passes c ≡ not (ends c)) → ((c : ℕ) → ends c ≡ true → c < 128)
     → (text : List ℕ) (at n : ℕ) → IsUtf8 (drop at text) → IsCharBoundary (drop at text) n
     → ((k : ℕ) → k < n → ends (get_or (drop at text) k 0) ≡ true → ⊥)

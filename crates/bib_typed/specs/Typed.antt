@@ -15,6 +15,6 @@ abbrev pub permissive_meaning : {V M : Type 0} → (V → M) → PermissiveType 
 permissive_meaning meaning (Typed v) = typed (meaning v)
 permissive_meaning meaning (Chunks chunks) = as_chunks chunks
 
--- the kind of the error of chunks that are no number: `MissingNumber` if their span is empty, and `InvalidNumber` otherwise
+-- the kind of the error of chunks that are no number: `MissingNumber` if their span is empty or reversed, and `InvalidNumber` otherwise
 abbrev pub number_error : Value → TypeErrorKind
 number_error chunks = if nat_lt (whole_span chunks).start (whole_span chunks).end then InvalidNumber else MissingNumber

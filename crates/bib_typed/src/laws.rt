@@ -1,6 +1,6 @@
 //! Laws of typed values: how each type is parsed and written, which values are kept, and which kinds of errors parsing has. A
-//! value is kept if its type guarantees that the chunks written for it parse back to it. The functions do nothing: each is a
-//! theorem about the definitions, proved as a clause of its contract.
+//! value is kept if its type guarantees that the chunks written for it parse back to it. The functions do nothing: each
+//! states theorems about the definitions, which are proved as the clauses of its contract.
 
 ghost use Rattle.std.specs.Prelude.{◌≡◌, ◌⊎◌, ℕ, ℤ, List, Some, None, map, string_bytes};
 ghost use Rattle.std.specs.declared.ops.Range.{Range as ARange};

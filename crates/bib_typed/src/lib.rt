@@ -8,7 +8,7 @@
 //! in the crates of the types. Written chunks have no span in a file, except for chunks that are part of the value.
 //!
 //! `retrieval` defines the errors of getting a field, `reading` parses a field of a map as a typed value, and `setting` sets
-//! a field to one.
+//! a field to one. `ext` has methods on lists of chunks.
 #![tactic(auto)]
 
 mod dates;

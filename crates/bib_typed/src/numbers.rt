@@ -25,7 +25,7 @@ fn number_error(chunks: ChunksRef<'_>) -> TypeErrorKind
 
 /// Parses digits with an optional sign if the number fits in 64 bits. Also parses a roman numeral from 1 to 3,999, all in
 /// uppercase or all in lowercase. White space around them is ignored. The error is `MissingNumber` if the span of the chunks
-/// is empty, and `InvalidNumber` otherwise. Written in digits, as one normal chunk.
+/// is empty or reversed, and `InvalidNumber` otherwise. Written in digits, as one normal chunk.
 impl Type for i64 {
     ghost Meaning = { ℤ };
 

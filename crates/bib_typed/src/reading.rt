@@ -33,7 +33,7 @@ pub fn get_as<T: Type>(
 }
 
 /// Parses the field `name`, or the field `other` if `name` is missing, as a value of type `T`. If both are missing, the error is
-/// `Missing` with `name`. The other errors are those of `get_as`.
+/// `Missing` with `name`, or out of memory. The other errors are those of `get_as`.
 pub fn get_as_or<T: Type>(
     fields: &TextMap<Chunks>,
     alloc: Global,

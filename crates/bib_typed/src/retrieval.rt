@@ -12,7 +12,7 @@ use std::fmt;
 /// The error of getting a field as a value.
 #[derive(Debug, Clone, PartialEq, Eq, Drop)]
 pub enum RetrievalError {
-    /// The field is missing. The text is its name. For a missing date, such as `eventdate`, it is `year`.
+    /// The field is missing. The text is its name. From a getter of a date of an entry, such as `event_date`, it is `year`.
     Missing(Text),
     /// The chunks of the field can't be parsed as a value of the type.
     TypeError(TypeError),

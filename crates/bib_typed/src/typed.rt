@@ -1,4 +1,4 @@
-//! The trait of typed values.
+//! The trait of typed values, texts as typed values, and permissive values.
 
 ghost use Rattle.std.specs.Prelude.{◌≡◌, ◌≢◌, List, ℕ, Option, Some, IfOk, string_bytes};
 ghost use Rattle.std.specs.Str.{IsUtf8};

@@ -51,7 +51,7 @@ letter (Atom.normal c) is other = and_from _ _ is (ap not other)
 letter (Atom.verbatim c) is other = is
 letter (Atom.math text) is other = is
 
--- normal atoms with valid characters and without a comma are such letters
+-- normal atoms with valid characters and without a comma pass `is_letter`
 letters : (atoms : List Atom) → list_all is_normal_scalar atoms ≡ true → list_any is_normal_comma atoms ≡ false
     → list_all is_letter atoms ≡ true
 letters [] all none = refl
@@ -88,7 +88,7 @@ unbroken_stays space c is = ⊎_elim (λ yes. rw yes (broken_stays space)) goes 
         let parts = and_parts (scalar c) (not (c == 44)) is in
         rw flows (and_from _ _ (and_from (scalar c) _ parts.0 (and_from _ _ parts.1 (ap not flows))) refl)
 
--- such characters, put on one line, are valid and neither a comma nor a line break
+-- valid characters other than commas, put on one line, are valid and neither a comma nor a line break
 flowing_stays : (space : Bool) (cs : List ℕ) → list_all is_letter (map Atom.normal cs) ≡ true → list_all stays (flowing space cs) ≡ true
 flowing_stays space [] all = refl
 flowing_stays space (c ∷ cs) all =
@@ -106,7 +106,7 @@ chunk_stays space (Normal t) all = flowing_stays space (chars t) all
 chunk_stays space (Verbatim t) all = no_verbatim (chars t) all
 chunk_stays space (Math t) all = absurd (false≢true all)
 
--- the formatted text of such a part has only such characters
+-- the characters of a part's formatted text pass `stays` if each atom of the part passes `is_letter`
 part_stays : (space : Bool) (part : Value) → list_all is_letter (styled part) ≡ true
     → list_all stays (formatted_chars_after space part) ≡ true
 part_stays space [] all = refl
@@ -115,7 +115,7 @@ part_stays space (c ∷ part) all =
     all-append stays (formatted_chunk (λ cs. cs) space c.v) _ (chunk_stays space c.v both.0)
     (part_stays (space_after space c.v) part both.1)
 
--- such characters are valid, and plain in a comma list
+-- characters that pass `stays` are valid, and plain in a comma list
 staying : (cs : List ℕ) → list_all stays cs ≡ true → (scalars cs ≡ true) × (list_all is_plain_in_list cs ≡ true)
 staying [] all = (refl, refl)
 staying (c ∷ cs) all =
@@ -124,7 +124,7 @@ staying (c ∷ cs) all =
     let rest = staying cs parts.1 in
     (and_from _ _ one.0 rest.0, and_from _ _ one.1 rest.1)
 
--- a text that parses from such a part is plain
+-- the text of a part of normal atoms with valid characters, none of them a comma, is plain
 part_plain : (part : Value) (t : List ℕ) → IsUtf8 t → text part ≡ t → list_all is_normal_scalar (styled part) ≡ true
     → HoldsNoComma part → IsPlain t
 part_plain part t utf8 is all none =
@@ -161,7 +161,7 @@ written_normal (t ∷ texts) utf8 =
     all-append is_normal_scalar (map Atom.normal (chars t)) _ (scalar_atoms (chars t) (scalars-chars t utf8.0))
     (written_normal texts utf8.1)
 
--- if the parts of a written list contain no comma, its texts are plain
+-- the texts of parts of normal atoms with valid characters, none of them a comma, are plain
 all_plain : (parts : List Value) (texts : List (List ℕ)) → AllByRecursion IsUtf8 texts → map text parts ≡ texts
     → AllByRecursion (λ part. list_all is_normal_scalar part ≡ true) (map styled parts)
     → AllByRecursion HoldsNoComma parts → AllByRecursion IsPlain texts

@@ -14,7 +14,7 @@ use Rattle.bib_text.proofs.DigitFacts.{digit_dark, white_no_digit, digit_no_hyph
 use Rattle.bib_values.proofs.OptionFacts.{given}
 use Rattle.bib_values.proofs.RangeFacts.{small_yes}
 
--- the first of these characters doesn't pass the test
+-- the first of these characters, if there is one, doesn't pass the test
 Halts : (ℕ → Bool) → List ℕ → Type 0
 Halts test cs = (leading_run test cs ≡ []) × (rest_after test cs ≡ cs)
 

@@ -1,4 +1,4 @@
-//! Laws of values. The functions have empty bodies: each contract is a theorem about the definitions that it names.
+//! Laws of values. The functions have empty bodies: each clause is a theorem about the definitions that it names.
 
 ghost use Rattle.std.specs.Prelude.{◌≡◌, ◌<◌, ◌⊎◌, ℕ, ℤ, pos, List, Some, FitsSigned};
 ghost use Rattle.std.specs.Int.{w64};

@@ -1,4 +1,4 @@
-//! Parses values of each type from chunks, and writes them as chunks.
+//! Parses numbers, ranges, texts and values of enumerations from chunks, and writes them as chunks.
 #![tactic(auto)]
 
 pub mod enums;

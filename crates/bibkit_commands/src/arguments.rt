@@ -1,20 +1,31 @@
 //! Parses the command line into a request.
 
-use crate::argument_values::{given_texts, number, text, texts};
+ghost use Rattle.std.specs.Prelude.{◌≡◌, codes, map, IfErr, IfOk, option_and_then, option_map};
+ghost use Rattle.clap.specs.Simple.{subcommand_rows_of};
+ghost use Rattle.bibkit_settings.specs.StyleSettings as style;
+ghost use Rattle.bibkit_commands.specs.Arguments.{arguments_of, argument_number, argument_value};
+ghost use Rattle.bibkit_commands.specs.Asked as spec;
+ghost use Rattle.bibkit_commands.specs.Asked.{AreStyleSettingsOf, IsAskedBy, IsConvertOf, IsFormatOf, IsGetOf, IsKeysOf};
+ghost use Rattle.bibkit_commands.specs.Asked.{IsSortOf, IsSortRefused, dialect_for, files_of, mode_asked, target_for};
+ghost use Rattle.bibkit_commands.specs.CommandLine.{IsCommandLineOf, IsCommandOf};
+ghost use Rattle.bibkit_commands.specs.Commands.{reading_command_named};
+ghost use Rattle.bibkit_commands.specs.EditsAsked.{IsEditingOf};
+
+use crate::argument_values::{given_texts, has_flag, number, number_in, text, texts, value};
 use crate::converting::Converting;
 use crate::edit_arguments::edits_of;
 use crate::edits::{Editing, Mode};
+use crate::lint_arguments::lint_asked;
 use crate::selecting::{Printed, Selecting};
-use bib_findings::codes::Code;
 use bib_queries::request::{Request as Excerpts, Search};
 use bib_tables::dialects::Dialect;
 use bibkit_convert::target::Target;
 use bibkit_core::request::{Cited, Request};
-use bibkit_core::rules::Rule;
 use bibkit_settings::commands::{command, is_editing};
-use bibkit_settings::settings::{Color, OutputFormat, Settings, fail_on_named};
+use bibkit_settings::settings::Settings;
 use bibkit_settings::style_settings::{StyleSettings, delimiters_named, width_of};
 use clap::{ArgMatches, Error};
+use edit_format::style::Delimiters;
 use edit_orders::order::{Order, OrderError};
 use std::alloc::{AllocError, Global};
 
@@ -93,109 +104,16 @@ pub struct Words<'a> {
     pub names: Vec<&'a str>,
 }
 
-// Returns the first of these words that is no rule, or `None` if all are.
-fn wrong_rule_among<'a>(alloc: Global, words: &[&'a str]) -> Result<Option<&'a str>, AllocError> {
-    'words: for word in words {
-        if Rule::parse(alloc, word.trim())?.is_none() {
-            return Ok(Some(*word));
-        }
-    }
-    Ok(None)
-}
-
-// Returns the first value of the options `--only` and `--ignore` that is no rule, or `None` if all are.
-fn wrong_rule<'a>(alloc: Global, matches: &ArgMatches<'a>) -> Result<Option<&'a str>, AllocError> {
-    let only = texts(alloc, matches, "only")?;
-    if let Some(word) = wrong_rule_among(alloc, &only)? {
-        return Ok(Some(word));
-    }
-    let ignored = texts(alloc, matches, "ignore")?;
-    wrong_rule_among(alloc, &ignored)
-}
-
-// Returns the rules among these words.
-fn rules_among(alloc: Global, words: &[&str]) -> Result<Vec<Rule>, AllocError> {
-    let mut rules = Vec::new(alloc);
-    'words: for word in words {
-        if let Some(rule) = Rule::parse(alloc, word.trim())? {
-            rules.push(rule)?;
-        }
-    }
-    Ok(rules)
-}
-
-// Returns the rules that are the values of an option, or `None` if the option is missing.
-fn given_rules(
-    alloc: Global,
-    matches: &ArgMatches<'_>,
-    id: &str,
-) -> Result<Option<Vec<Rule>>, AllocError> {
-    match given_texts(alloc, matches, id)? {
-        Some(words) => Ok(Some(rules_among(alloc, &words)?)),
-        None => Ok(None),
-    }
-}
-
-// Returns the use of the new texts of `lint --fix`, or `None` without `--fix`.
-fn fix_mode(matches: &ArgMatches<'_>) -> Option<Mode> {
-    if matches.get_flag("fix") {
-        Some(mode_of(matches, false))
-    } else {
-        None
-    }
-}
-
-// Returns the format of findings. With `--fix`, it is `text` without `--format`.
-fn output_format(matches: &ArgMatches<'_>) -> Option<OutputFormat> {
-    match matches.get_str("format") {
-        None if matches.get_flag("fix") => Some(OutputFormat::Text),
-        None => None,
-        Some(name) => OutputFormat::from_name(name),
-    }
-}
-
-// Returns the request of `lint`: the explanation of a code for `--explain`, otherwise the findings of files.
-fn lint_asked<'a>(alloc: Global, matches: &ArgMatches<'a>) -> Result<Asked<'a>, AllocError> {
-    if let Some(code) = matches.get_str("explain").and_then(Code::from_name) {
-        return Ok(Asked::Other(Request::Explain(code)));
-    }
-    let format = output_format(matches);
-    if matches.get_flag("fix") && format != Some(OutputFormat::Text) {
-        return Ok(Asked::Wrong("`--fix` requires `--format text`"));
-    }
-    if let Some(word) = wrong_rule(alloc, matches)? {
-        return Ok(Asked::WrongRule(word));
-    }
-    let settings = Settings {
-        only: given_rules(alloc, matches, "only")?,
-        ignored: given_rules(alloc, matches, "ignore")?,
-        color: matches.get_str("color").and_then(Color::from_name),
-        format,
-        fail_on: matches.get_str("fail-on").and_then(fail_on_named),
-    };
-    let cited = matches.get_str("cited").map(|name| Cited {
-        name,
-        has_unused: matches.get_flag("unused"),
-    });
-    Ok(Asked::Lint {
-        settings,
-        cited,
-        is_each: matches.get_flag("each"),
-        conditions: texts(alloc, matches, "where")?,
-        input_name: matches.get_str("stdin-filename"),
-        fix: fix_mode(matches),
-        baseline: matches.get_str("baseline"),
-    })
-}
-
-// Returns the use of the new text. With `--diff`, that is a diff, with a check if `is_check`. Otherwise a check takes precedence over
-// `--write`.
-fn mode_of(matches: &ArgMatches<'_>, is_check: bool) -> Mode {
-    if matches.get_flag("diff") {
+/// Returns the use of the new text. With `--diff`, that is a diff, with a check if `is_check`. Otherwise a check takes precedence over
+/// `--write`.
+pub fn mode_of(matches: &ArgMatches<'_>, is_check: bool) -> Mode
+    ensures { result ≡ mode_asked is_check (arguments_of matches.now) }
+{
+    if has_flag(matches, "diff") {
         Mode::Diff { is_check }
     } else if is_check {
         Mode::Check
-    } else if matches.get_flag("write") {
+    } else if has_flag(matches, "write") {
         Mode::Write
     } else {
         Mode::Print
@@ -207,20 +125,24 @@ fn editing_of<'a>(
     alloc: Global,
     name: &str,
     matches: &ArgMatches<'a>,
-) -> Result<Editing<'a>, AllocError> {
+) -> Result<Editing<'a>, AllocError>
+    ensures { IfOk result (IsEditingOf name.now (arguments_of matches.now)) }
+{
     Ok(Editing {
         edits: edits_of(alloc, name, matches)?,
-        name: matches.get_str("file").unwrap_or("-"),
+        name: value(matches, "file").unwrap_or("-"),
         mode: mode_of(matches, false),
         is_last: true,
     })
 }
 
 // Returns the choice between the flags `yes` and `no`, or `None` if neither is given.
-fn flag_choice(matches: &ArgMatches<'_>, yes: &str, no: &str) -> Option<bool> {
-    if matches.get_flag(yes) {
+fn flag_choice(matches: &ArgMatches<'_>, yes: &str, no: &str) -> Option<bool>
+    ensures { result ≡ spec.choice_asked (arguments_of matches.now) yes.now no.now }
+{
+    if has_flag(matches, yes) {
         Some(true)
-    } else if matches.get_flag(no) {
+    } else if has_flag(matches, no) {
         Some(false)
     } else {
         None
@@ -228,32 +150,58 @@ fn flag_choice(matches: &ArgMatches<'_>, yes: &str, no: &str) -> Option<bool> {
 }
 
 // Returns the order of entries that `--sort` names: `None` without the option, and `Some(None)` for `keep`.
-fn sort_order<'a>(matches: &ArgMatches<'a>) -> Result<Option<Option<Order>>, OrderError<'a>> {
-    match matches.get_str("sort") {
+fn sort_order<'a>(matches: &ArgMatches<'a>) -> Result<Option<Option<Order>>, OrderError<'a>>
+    ensures ok { IfOk result (IsSortOf (argument_value (arguments_of matches.now) (codes "sort"))) }
+    ensures refused { IfErr result (IsSortRefused (argument_value (arguments_of matches.now) (codes "sort"))) }
+{
+    match value(matches, "sort") {
         None => Ok(None),
         Some("keep") => Ok(Some(None)),
         Some(text) => Ok(Some(Some(Order::parse(text)?))),
     }
 }
 
+// Returns the number of blank lines that `--blank-lines` sets, or `Some(None)` for a word that is no number.
+fn blank_lines_asked(matches: &ArgMatches<'_>) -> Option<Option<usize>>
+    ensures { result ≡ spec.blank_lines_asked (arguments_of matches.now) }
+{
+    Some(number_in(value(matches, "blank-lines")?))
+}
+
+// Returns the delimiters that `--delimiters` names, if there are any.
+fn delimiters_asked(matches: &ArgMatches<'_>) -> Option<Delimiters>
+    ensures { result ≡ option_and_then style.delimiters_named (argument_value (arguments_of matches.now) (codes "delimiters")) }
+{
+    delimiters_named(value(matches, "delimiters")?)
+}
+
+// Returns the maximum width of a line that `--width` sets, if it is given.
+fn width_asked(matches: &ArgMatches<'_>) -> Option<Option<usize>>
+    ensures { result ≡ option_map style.width_of (argument_number (arguments_of matches.now) (codes "width")) }
+{
+    Some(width_of(number(matches, "width")?))
+}
+
 // Returns the settings of `fmt`, except the order of fields. `sort` is the order of entries.
-fn style_settings<'a>(matches: &ArgMatches<'a>, sort: Option<Option<Order>>) -> StyleSettings<'a> {
+fn style_settings<'a>(matches: &ArgMatches<'a>, sort: Option<Option<Order>>) -> StyleSettings<'a>
+    ensures { AreStyleSettingsOf (arguments_of matches.now) sort result }
+{
     StyleSettings {
         indent: number(matches, "indent"),
         aligned: flag_choice(matches, "align", "no-align"),
         trailing_comma: flag_choice(matches, "trailing-comma", "no-trailing-comma"),
-        blank_lines: matches
-            .get_str("blank-lines")
-            .map(|word| word.parse::<usize>().ok()),
-        delimiters: matches.get_str("delimiters").and_then(delimiters_named),
+        blank_lines: blank_lines_asked(matches),
+        delimiters: delimiters_asked(matches),
         order: None,
-        width: number(matches, "width").map(width_of),
+        width: width_asked(matches),
         sort,
     }
 }
 
 // Returns the request of `fmt`.
-fn format_asked<'a>(alloc: Global, matches: &ArgMatches<'a>) -> Result<Asked<'a>, AllocError> {
+fn format_asked<'a>(alloc: Global, matches: &ArgMatches<'a>) -> Result<Asked<'a>, AllocError>
+    ensures { IfOk result (IsFormatOf (arguments_of matches.now)) }
+{
     let sort = match sort_order(matches) {
         Ok(sort) => sort,
         Err(error) => return Ok(Asked::WrongOrder(error)),
@@ -261,12 +209,14 @@ fn format_asked<'a>(alloc: Global, matches: &ArgMatches<'a>) -> Result<Asked<'a>
     Ok(Asked::Format {
         settings: style_settings(matches, sort),
         order: given_texts(alloc, matches, "order")?,
-        mode: mode_of(matches, matches.get_flag("check")),
+        mode: mode_of(matches, has_flag(matches, "check")),
     })
 }
 
 // Returns the dialect with this name, or `None` for any other name and for a missing one.
-fn dialect_named(name: Option<&str>) -> Option<Dialect> {
+fn dialect_named(name: Option<&str>) -> Option<Dialect>
+    ensures { result ≡ dialect_for (option_map (λ name. name.now) name.entry) }
+{
     match name {
         Some("biblatex") => Some(Dialect::Biblatex),
         Some("bibtex") => Some(Dialect::Bibtex),
@@ -274,8 +224,10 @@ fn dialect_named(name: Option<&str>) -> Option<Dialect> {
     }
 }
 
-// Returns the format of entries with this name, or CSL-JSON for any other name.
-fn target_named(name: Option<&str>) -> Target {
+// Returns the format of entries with this name, or CSL-JSON for any other name and for a missing one.
+fn target_named(name: Option<&str>) -> Target
+    ensures { result ≡ target_for (option_map (λ name. name.now) name.entry) }
+{
     match name {
         Some("json") => Target::Json,
         Some("ris") => Target::Ris,
@@ -283,11 +235,23 @@ fn target_named(name: Option<&str>) -> Target {
     }
 }
 
+// Returns whether `--from` names CSL-JSON.
+fn is_import(matches: &ArgMatches<'_>) -> bool
+    ensures { result ≡ spec.is_import (arguments_of matches.now) }
+{
+    match value(matches, "from") {
+        Some(name) => name == "csl",
+        None => false,
+    }
+}
+
 // Returns the request of `convert`.
-fn convert_asked<'a>(alloc: Global, matches: &ArgMatches<'a>) -> Result<Asked<'a>, AllocError> {
+fn convert_asked<'a>(alloc: Global, matches: &ArgMatches<'a>) -> Result<Asked<'a>, AllocError>
+    ensures { IfOk result (IsConvertOf (arguments_of matches.now)) }
+{
     let conditions = texts(alloc, matches, "where")?;
-    let is_import = matches.get_str("from") == Some("csl");
-    let asked = match dialect_named(matches.get_str("to")) {
+    let is_import = is_import(matches);
+    let asked = match dialect_named(value(matches, "to")) {
         None if is_import => {
             Asked::Wrong("`--from csl` requires `--to biblatex` or `--to bibtex`")
         }
@@ -297,7 +261,7 @@ fn convert_asked<'a>(alloc: Global, matches: &ArgMatches<'a>) -> Result<Asked<'a
         Some(dialect) if is_import => Asked::Import(dialect),
         Some(dialect) => Asked::Rewrite(dialect),
         None => Asked::Convert(Converting {
-            target: target_named(matches.get_str("to")),
+            target: target_named(value(matches, "to")),
             conditions,
         }),
     };
@@ -305,7 +269,9 @@ fn convert_asked<'a>(alloc: Global, matches: &ArgMatches<'a>) -> Result<Asked<'a
 }
 
 // Returns the request of `keys`.
-fn keys_asked<'a>(alloc: Global, matches: &ArgMatches<'a>) -> Result<Asked<'a>, AllocError> {
+fn keys_asked<'a>(alloc: Global, matches: &ArgMatches<'a>) -> Result<Asked<'a>, AllocError>
+    ensures { IfOk result (IsKeysOf (arguments_of matches.now)) }
+{
     let conditions = texts(alloc, matches, "where")?;
     if conditions.is_empty() {
         return Ok(Asked::Other(Request::Entries(Excerpts::Keys)));
@@ -317,7 +283,9 @@ fn keys_asked<'a>(alloc: Global, matches: &ArgMatches<'a>) -> Result<Asked<'a>, 
 }
 
 // Returns the request of `get`.
-fn get_asked<'a>(alloc: Global, matches: &ArgMatches<'a>) -> Result<Asked<'a>, AllocError> {
+fn get_asked<'a>(alloc: Global, matches: &ArgMatches<'a>) -> Result<Asked<'a>, AllocError>
+    ensures { IfOk result (IsGetOf (arguments_of matches.now)) }
+{
     let keys = texts(alloc, matches, "KEYS")?;
     let conditions = texts(alloc, matches, "where")?;
     if conditions.is_empty() {
@@ -334,7 +302,9 @@ fn request_of<'a>(
     alloc: Global,
     name: &str,
     matches: &ArgMatches<'a>,
-) -> Result<Asked<'a>, AllocError> {
+) -> Result<Asked<'a>, AllocError>
+    ensures { IfOk result (IsAskedBy (reading_command_named name.now) (arguments_of matches.now)) }
+{
     let request = match name {
         "lint" => return lint_asked(alloc, matches),
         "fmt" => return format_asked(alloc, matches),
@@ -342,21 +312,21 @@ fn request_of<'a>(
         "resolve" => {
             return Ok(Asked::Resolve {
                 mode: mode_of(matches, false),
-                has_notes: matches.get_flag("not-inherited"),
+                has_notes: has_flag(matches, "not-inherited"),
             });
         }
         "get" => return get_asked(alloc, matches),
         "grep" => Request::Entries(Excerpts::Grep(Search {
-            field: matches.get_str("FIELD").unwrap_or(""),
-            part: matches.get_str("TEXT").unwrap_or(""),
+            field: text(matches, "FIELD"),
+            part: text(matches, "TEXT"),
         })),
-        "cited" => return Ok(Asked::Cited(matches.get_str("DOCUMENT").unwrap_or(""))),
+        "cited" => return Ok(Asked::Cited(text(matches, "DOCUMENT"))),
         "select" => {
             return Ok(Asked::Select(Selecting {
                 conditions: texts(alloc, matches, "where")?,
                 printed: Printed {
-                    is_complete: matches.get_flag("complete"),
-                    has_keys: matches.get_flag("keys"),
+                    is_complete: has_flag(matches, "complete"),
+                    has_keys: has_flag(matches, "keys"),
                 },
             }));
         }
@@ -372,7 +342,9 @@ fn file_names<'a>(
     alloc: Global,
     name: &str,
     matches: &ArgMatches<'a>,
-) -> Result<Vec<&'a str>, AllocError> {
+) -> Result<Vec<&'a str>, AllocError>
+    ensures { IfOk result (λ names. map (λ name. name.now) names.items ≡ files_of name.now (arguments_of matches.now)) }
+{
     let mut names = texts(alloc, matches, "FILE")?;
     if names.is_empty() && name != "cited" {
         names.push("-")?;
@@ -385,7 +357,9 @@ fn words_of<'a>(
     alloc: Global,
     name: &str,
     matches: &ArgMatches<'a>,
-) -> Result<Words<'a>, AllocError> {
+) -> Result<Words<'a>, AllocError>
+    ensures { IfOk result (IsCommandOf name.now (arguments_of matches.now)) }
+{
     if is_editing(name) {
         let editing = editing_of(alloc, name, matches)?;
         return Ok(Words {
@@ -399,7 +373,9 @@ fn words_of<'a>(
 }
 
 // Returns the request and the files of a command line, from the matches of clap.
-fn parse_matches<'a>(alloc: Global, matches: &ArgMatches<'a>) -> Result<Words<'a>, AllocError> {
+fn parse_matches<'a>(alloc: Global, matches: &ArgMatches<'a>) -> Result<Words<'a>, AllocError>
+    ensures { IfOk result (IsCommandLineOf (subcommand_rows_of matches.now)) }
+{
     match matches.subcommand() {
         Some((name, inner)) => words_of(alloc, name, inner),
         None => Ok(Words {

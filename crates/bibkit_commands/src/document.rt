@@ -1,5 +1,8 @@
 //! Runs `cited`: reads the file of a document, with the .aux files that it inputs, and prints the cited entries of .bib files.
 
+ghost use Rattle.std.specs.Prelude.{◌≡◌, Some, codes, IfOk};
+ghost use Rattle.bibkit_commands.specs.Messages.{on_file, says};
+
 use crate::files::SystemFiles;
 use crate::joining::join;
 use crate::stops::{Stop, bytes_of, say};
@@ -103,6 +106,14 @@ fn push_lines(alloc: Global, pending: &mut Vec<String>, text: &str) -> Result<()
     Ok(())
 }
 
+// Returns the message and status 2 for a file that isn't read because there are too many.
+fn too_many_stop(alloc: Global, name: &str) -> Result<Stop, AllocError>
+    ensures { IfOk result (λ stop. says stop ≡ Some (on_file name.now (codes "too many .aux files"), 2)) }
+{
+    let said = format!(in alloc; "bibkit: {name}: too many .aux files\n")?;
+    Ok(Stop::Said(said, 2))
+}
+
 // Adds the lines of an input file to a stack of lines, unless the file was input before. Returns the status: 0, or 2 after reporting
 // that the file can't be read or that there are too many files.
 fn enter(
@@ -115,8 +126,8 @@ fn enter(
         return Ok(0);
     }
     if seen.len() >= MOST_FILES {
-        let text = format!(in rt.alloc(); "bibkit: {}: too many .aux files\n", file.as_str())?;
-        return Ok(say(rt, &Stop::Said(text, 2)));
+        let stop = too_many_stop(rt.alloc(), file.as_str())?;
+        return Ok(say(rt, &stop));
     }
     let read = text_of(rt, file.as_str());
     seen.insert(file, ())?;

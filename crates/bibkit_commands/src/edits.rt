@@ -1,5 +1,9 @@
 //! Runs the commands that edit a file.
 
+ghost use Rattle.std.specs.Prelude.{◌≡◌, Some, codes, IfOk, string_bytes};
+ghost use Rattle.bibkit_commands.specs.Messages as spec;
+ghost use Rattle.bibkit_commands.specs.Messages.{no_pair_text, of_program, on_file, says};
+
 use crate::recoding::{Recoding, recode};
 use crate::refusals::{printing_stop, unbalanced_quotes_line};
 use crate::rekeying::{Rekeying, rekey};
@@ -48,7 +52,7 @@ pub enum Edits<'a> {
         /// Whether notes report the fields that entries don't inherit.
         has_notes: bool,
     },
-    /// Writes the file as UTF-8.
+    /// Converts the file to UTF-8.
     Recode(Recoding),
     /// Makes no edits, since a word isn't two texts with an equals sign between them.
     NoPair {
@@ -89,7 +93,9 @@ pub enum Mode {
 }
 
 /// Returns the message of a wrong command line, with status 2.
-pub fn wrong_usage(alloc: Global, text: &str) -> Result<Stop, AllocError> {
+pub fn wrong_usage(alloc: Global, text: &str) -> Result<Stop, AllocError>
+    ensures { IfOk result (λ stop. says stop ≡ Some (of_program text.now, 2)) }
+{
     Ok(Stop::Said(format!(in alloc; "bibkit: {text}\n")?, 2))
 }
 
@@ -106,7 +112,7 @@ fn check(alloc: Global, editing: &Editing<'_>) -> Result<(), Stop> {
     }
 }
 
-/// Returns the bytes of a file after its byte order mark, or all bytes without one.
+/// Returns the bytes of a file after its byte order mark for UTF-8, or all bytes if they don't begin with it.
 pub fn after_mark(bytes: &[u8]) -> &[u8] {
     match bytes.strip_prefix(b"\xEF\xBB\xBF") {
         Some(rest) => rest,
@@ -115,7 +121,9 @@ pub fn after_mark(bytes: &[u8]) -> &[u8] {
 }
 
 // Returns the text of the reason why a file can't be written.
-fn write_reason(kind: ErrorKind) -> &'static str {
+fn write_reason(kind: ErrorKind) -> &'static str
+    ensures { result.now ≡ spec.write_reason kind }
+{
     match kind {
         ErrorKind::PermissionDenied => "can't be written: permission denied",
         ErrorKind::InvalidInput => "not a regular file",
@@ -124,16 +132,25 @@ fn write_reason(kind: ErrorKind) -> &'static str {
     }
 }
 
-// Returns the message for an error of replacing a file. After `Unsure`, the file may have the new text. After `Unsettled`, it has the
+// Returns the text of the reason why replacing a file failed. After `Unsure`, the file may have the new text. After `Unsettled`, it has the
 // new text, but a crash may bring back the old one.
-fn unwritten_line(alloc: Global, name: &str, error: &ReplaceError) -> Result<String, AllocError> {
-    let reason = match error {
+fn unwritten_reason(error: &ReplaceError) -> &'static str
+    ensures { result.now ≡ spec.unwritten_reason error.now }
+{
+    match error {
         ReplaceError::NotReplaced(error) | ReplaceError::Unsure(error) => {
             write_reason(error.kind())
         }
         ReplaceError::Unsettled(_) => "written, but a crash of the machine may lose it",
         _ => "can't be written",
-    };
+    }
+}
+
+// Returns the message for an error of replacing a file.
+fn unwritten_line(alloc: Global, name: &str, error: &ReplaceError) -> Result<String, AllocError>
+    ensures { IfOk result (λ line. string_bytes line ≡ on_file name.now (spec.unwritten_reason error.now)) }
+{
+    let reason = unwritten_reason(error);
     format!(in alloc; "bibkit: {name}: {reason}\n")
 }
 
@@ -149,7 +166,9 @@ fn unless_out_of_memory(error: ReplaceError) -> Result<ReplaceError, AllocError>
 }
 
 // Returns the message for a file that another program changed after it was read.
-fn changed_stop(alloc: Global, name: &str) -> Result<Stop, AllocError> {
+fn changed_stop(alloc: Global, name: &str) -> Result<Stop, AllocError>
+    ensures { IfOk result (λ stop. says stop ≡ Some (on_file name.now (codes "another program changed it, so it isn't written"), 2)) }
+{
     let said = format!(in alloc;
         "bibkit: {name}: another program changed it, so it isn't written\n"
     )?;
@@ -225,7 +244,9 @@ fn write_edited(
 }
 
 // Returns the message for a file that isn't in the requested style, with status 1.
-fn style_stop(alloc: Global, name: &str) -> Result<Stop, AllocError> {
+fn style_stop(alloc: Global, name: &str) -> Result<Stop, AllocError>
+    ensures { IfOk result (λ stop. says stop ≡ Some (on_file name.now (codes "not in this style"), 1)) }
+{
     let said = format!(in alloc; "bibkit: {name}: not in this style\n")?;
     Ok(Stop::Said(said, 1))
 }
@@ -359,6 +380,14 @@ fn collected_fields<'e>(given: &'e Option<Vec<&'e str>>) -> &'e [&'e str] {
     }
 }
 
+// Returns the message and status 2 for a word that isn't two texts with an equals sign between them.
+fn no_pair_stop(alloc: Global, word: &str, pair: &str) -> Result<Stop, AllocError>
+    ensures { IfOk result (λ stop. says stop ≡ Some (of_program (no_pair_text word.now pair.now), 2)) }
+{
+    let text = format!(in alloc; "`{word}` isn't {pair}; use `--file` for the name of the file")?;
+    wrong_usage(alloc, &text)
+}
+
 // Runs a command that edits a file.
 fn answer(rt: &HostRuntime, editing: &Editing<'_>) -> Result<(), Stop> {
     check(rt.alloc(), editing)?;
@@ -388,12 +417,7 @@ fn answer(rt: &HostRuntime, editing: &Editing<'_>) -> Result<(), Stop> {
         Edits::Rekey(rekeying) => rekey(rt, editing, rekeying),
         Edits::Resolve { has_notes } => resolve(rt, editing, *has_notes),
         Edits::Recode(recoding) => recode(rt, editing, recoding),
-        Edits::NoPair { word, pair } => {
-            let text = format!(in rt.alloc();
-                "`{word}` isn't {pair}; use `--file` for the name of the file"
-            )?;
-            Err(wrong_usage(rt.alloc(), &text)?)
-        }
+        Edits::NoPair { word, pair } => Err(no_pair_stop(rt.alloc(), word, pair)?),
     }
 }
 

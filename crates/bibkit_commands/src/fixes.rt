@@ -75,7 +75,7 @@ fn is_plain_doi(text: &str) -> bool {
     text.starts_with("10.") && text.contains('/') && !text.chars().any(|c| is_unfit(c))
 }
 
-// Returns the DOI in a text that is a DOI with its address, or `None` for any other text.
+// Returns the DOI in a text that is a DOI, as `is_plain_doi` tests it, with its address, or `None` for any other text.
 fn doi_in(text: &str) -> Option<&str> {
     let text = text.trim();
     'prefixes: for prefix in &DOI_PREFIXES {
@@ -217,7 +217,7 @@ fn names_of(change: &Change) -> (&str, &str) {
     }
 }
 
-// Returns how often each name in lowercase is that of a field of an entry, or the new name of one of these changes.
+// Returns how often each name in ASCII lowercase is that of a field of an entry, or the new name of one of these changes.
 fn field_counts(
     alloc: Global,
     entry: &RawEntry<'_>,

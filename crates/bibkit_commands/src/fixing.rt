@@ -68,7 +68,7 @@ fn finding_texts(alloc: Global, found: &[Finding]) -> Result<Vec<String>, AllocE
     Ok(texts)
 }
 
-// Inserts the key of the entry that begins before a byte offset and ends after it, or of the next entry.
+// Inserts the key of the first entry that doesn't end before a byte offset: the one at the offset, or else the next one.
 fn blame_place(
     alloc: Global,
     blamed: &mut BTreeSet<String>,
@@ -82,7 +82,7 @@ fn blame_place(
     Ok(())
 }
 
-// Inserts the key of the earlier entry that a message about two entries names at its end.
+// Inserts the text in quotes at the end of a message, if there is one. In a message about two entries, it is the key of the earlier one.
 fn blame_earlier(
     alloc: Global,
     blamed: &mut BTreeSet<String>,
@@ -170,7 +170,7 @@ fn safely_fixed(
     fixed_text(alloc, name, text, entries, &fixes)
 }
 
-// Returns the text of the file `name` with its fixes. It has no syntax error.
+// Returns the text of the file `name`, which has no syntax error, with its fixes, except those that would lead to a new finding.
 fn fix(alloc: Global, lint: &Lint<'_>, name: &str, text: &str) -> Result<String, Stop> {
     let entries = RawBibliography::recover(alloc, text)?.raw.entries;
     let found = findings(alloc, text)?;

@@ -1,5 +1,10 @@
 //! Runs `convert --from csl`, which converts CSL-JSON items to entries.
 
+ghost use Rattle.std.specs.Prelude.{◌≡◌, Some, IfOk, codes};
+ghost use Rattle.bib_source.specs.Positions.{position_at};
+ghost use Rattle.bibkit_commands.specs.Messages as spec;
+ghost use Rattle.bibkit_commands.specs.Messages.{says};
+
 use crate::edits::{after_mark, print};
 use crate::stops::{Stop, bytes_of, error_line, say};
 use bib_from_csl::converting::{Converted, ItemsError, Refusal, entries_of};
@@ -11,7 +16,9 @@ use std::alloc::{AllocError, Global};
 use std::str::from_utf8;
 
 // Returns the message for a fault of a text whose items can't be converted.
-fn fault_text(fault: Fault) -> &'static str {
+fn fault_text(fault: Fault) -> &'static str
+    ensures { result.now ≡ spec.fault_text fault }
+{
     match fault {
         Fault::NotJson => "expected JSON",
         Fault::NotAnArray => "expected an array of items",
@@ -24,12 +31,10 @@ fn fault_text(fault: Fault) -> &'static str {
 }
 
 // Returns the message and status 1 for a text whose items can't be converted. The message contains the position of the fault.
-fn fault_stop(
-    alloc: Global,
-    name: &str,
-    text: &str,
-    refusal: &Refusal,
-) -> Result<Stop, AllocError> {
+fn fault_stop(alloc: Global, name: &str, text: &str, refusal: &Refusal) -> Result<Stop, AllocError>
+    ensures { IfOk result (λ stop. says stop
+        ≡ Some (spec.line_of_error name.now (position_at text.now refusal.now.at) (spec.fault_text refusal.now.fault), 1)) }
+{
     let said = fault_text(refusal.fault);
     let line = error_line(alloc, name, text.as_bytes(), refusal.at, said)?;
     Ok(Stop::Said(line, 1))
@@ -62,7 +67,9 @@ fn convert_items(alloc: Global, name: &str, text: &str) -> Result<Converted, Sto
 }
 
 // Returns the text of a note on a member of an item that is lost or changed in the entry.
-fn loss_text(kind: LossKind) -> &'static str {
+fn loss_text(kind: LossKind) -> &'static str
+    ensures { result.now ≡ spec.loss_text kind }
+{
     match kind {
         LossKind::NoField => "is left out: no field for it",
         LossKind::Changed => "is changed: its field reads back as another value",
@@ -111,17 +118,22 @@ fn import_text(
     Ok(())
 }
 
+// Returns the message and status 1 for bytes that aren't UTF-8 from a byte offset on.
+fn encoding_stop(alloc: Global, name: &str, bytes: &[u8], at: usize) -> Result<Stop, AllocError>
+    ensures { IfOk result (λ stop. says stop
+        ≡ Some (spec.line_of_error name.now (position_at bytes.now at) (codes "not UTF-8 from here on"), 1)) }
+{
+    let line = error_line(alloc, name, bytes, at, "not UTF-8 from here on")?;
+    Ok(Stop::Said(line, 1))
+}
+
 // Prints the entries of the items of a file. `is_last` says whether it is the last one.
 fn import_file(rt: &HostRuntime, dialect: Dialect, name: &str, is_last: bool) -> Result<(), Stop> {
     let bytes = bytes_of(rt, name)?;
     let json = after_mark(&bytes);
     match from_utf8(json) {
         Ok(text) => import_text(rt, dialect, name, text, is_last),
-        Err(error) => {
-            let said = "not UTF-8 from here on";
-            let line = error_line(rt.alloc(), name, json, error.valid_up_to(), said)?;
-            Err(Stop::Said(line, 1))
-        }
+        Err(error) => { Err(encoding_stop(rt.alloc(), name, json, error.valid_up_to())?) }
     }
 }
 

@@ -25,8 +25,8 @@ impl Database {
     }
 }
 
-/// Returns the texts of files as one text, in which an entry of one file can use the definitions and the entries of the others, as in
-/// BibTeX and Biber. Reports each file that can't be read, and the skipped blocks of the others.
+/// Returns the texts of files as one text, in which an entry of one file can use the definitions and the entries of the others.
+/// Reports each file that can't be read, and the skipped blocks of the others.
 pub fn join(rt: &HostRuntime, names: &[&str]) -> Result<Database, AllocError> {
     let mut database = Database {
         text: String::new(rt.alloc()),

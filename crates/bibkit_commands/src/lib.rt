@@ -16,6 +16,7 @@ mod fixing;
 mod formatting;
 mod importing;
 mod joining;
+mod lint_arguments;
 mod misspellings;
 mod readable;
 mod recoding;

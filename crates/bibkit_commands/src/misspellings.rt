@@ -1,8 +1,8 @@
 //! Names of fields that are misspellings of exactly one known name.
 
-// The names that BibLaTeX knows, and from which another such name differs by at most two typing errors. Only these can be meant by a name
-// that differs from another known name by one typing error.
-static SIMILAR: [&str; 61] = [
+// The names that BibLaTeX knows, except those of custom fields, and from which another such name differs by at most two typing errors. Only
+// these can be meant by a name that differs from another known name by one typing error.
+static SIMILAR: [&str; 40] = [
     "annotation",
     "annotator",
     "annote",
@@ -31,18 +31,6 @@ static SIMILAR: [&str; 61] = [
     "issue",
     "iswc",
     "key",
-    "lista",
-    "listb",
-    "listc",
-    "listd",
-    "liste",
-    "listf",
-    "namea",
-    "nameatype",
-    "nameb",
-    "namebtype",
-    "namec",
-    "namectype",
     "note",
     "origdate",
     "origday",
@@ -52,15 +40,6 @@ static SIMILAR: [&str; 61] = [
     "title",
     "urldate",
     "urlday",
-    "usera",
-    "userb",
-    "userc",
-    "userd",
-    "usere",
-    "userf",
-    "verba",
-    "verbb",
-    "verbc",
     "volume",
     "volumes",
     "xdata",
@@ -105,8 +84,8 @@ fn is_like_other(name: &str, known: &str) -> bool {
         .any(|other| *other != known && differ_by_one(name, other))
 }
 
-/// Returns whether an unknown name in lowercase can only mean the known name that `lint` suggests for it. It is the plural of the known
-/// name, or differs by one typing error from it and from no other known name.
+/// Returns whether an unknown name in ASCII lowercase can only mean the known name that `lint` suggests for it. It is the plural of the
+/// known name, or differs by one typing error from it and from no other known name.
 pub fn is_meant(name: &str, known: &str) -> bool {
     name.strip_suffix("s") == Some(known)
         || (differ_by_one(name, known) && !is_like_other(name, known))

@@ -1,4 +1,8 @@
-//! Runs `recode`, which writes a file as UTF-8.
+//! Runs `recode`, which converts a file to UTF-8, and its line ends and accents if this is requested.
+
+ghost use Rattle.std.specs.Prelude.{◌≡◌, Some, codes, IfOk, string_bytes};
+ghost use Rattle.bibkit_commands.specs.Messages as spec;
+ghost use Rattle.bibkit_commands.specs.Messages.{on_file, says};
 
 use crate::edits::{Editing, Mode, write_new};
 use crate::refusals::unbalanced_quotes_line;
@@ -26,6 +30,17 @@ pub struct Recoding {
     pub accents: Option<Form>,
 }
 
+// Returns the message and status 2 for a file without a byte order mark that isn't UTF-8.
+fn encoding_stop(alloc: Global, name: &str) -> Result<Stop, AllocError>
+    ensures { IfOk result (λ stop. says stop
+        ≡ Some (on_file name.now (codes "not UTF-8; `--from` names its encoding, such as windows-1252"), 2)) }
+{
+    let said = format!(in alloc;
+        "bibkit: {name}: not UTF-8; `--from` names its encoding, such as windows-1252\n"
+    )?;
+    Ok(Stop::Said(said, 2))
+}
+
 // Returns the encoding of a file: that of its byte order mark, or else the one in `recoding`, or else UTF-8 if the bytes are valid UTF-8.
 // Otherwise fails with a message and status 2.
 fn encoding_of(
@@ -36,17 +51,14 @@ fn encoding_of(
 ) -> Result<Encoding, Stop> {
     match marked_as(bytes).or(recoding.from).or(detect(bytes)) {
         Some(encoding) => Ok(encoding),
-        None => {
-            let said = format!(in alloc;
-                "bibkit: {name}: not UTF-8; `--from` names its encoding, such as windows-1252\n"
-            )?;
-            Err(Stop::Said(said, 2))
-        }
+        None => Err(encoding_stop(alloc, name)?),
     }
 }
 
 // Returns the message for an error of decoding a file.
-fn decode_line(alloc: Global, name: &str, error: DecodeError) -> Result<String, AllocError> {
+fn decode_line(alloc: Global, name: &str, error: DecodeError) -> Result<String, AllocError>
+    ensures { IfOk result (λ line. string_bytes line ≡ spec.decode_line name.now error) }
+{
     match error {
         DecodeError::NotUtf8 { at } => {
             format!(in alloc; "bibkit: {name}: not UTF-8 from byte {at} on\n")

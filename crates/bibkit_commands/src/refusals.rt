@@ -1,5 +1,10 @@
 //! The messages of refused edits.
 
+ghost use Rattle.std.specs.Prelude.{◌≡◌, IfOk, string_bytes};
+ghost use Rattle.bib_source.specs.Positions.{position_at};
+ghost use Rattle.bibkit_commands.specs.Messages as spec;
+ghost use Rattle.bibkit_commands.specs.Messages.{cycle_text, early_use_text};
+
 use crate::edits::after_mark;
 use crate::stops::{Stop, error_line, syntax_line};
 use crate::unsetting::unset_line;
@@ -80,7 +85,7 @@ fn is_same_piece(one: &Spanned<RawChunk<'_>>, other: &Spanned<RawChunk<'_>>) -> 
     }
 }
 
-// Returns whether two definitions have the same value.
+// Returns whether the values of two definitions consist of the same pieces.
 fn have_same_value(one: &Pair<'_>, other: &Pair<'_>) -> bool {
     one.value.v.len() == other.value.v.len()
         && one
@@ -91,8 +96,8 @@ fn have_same_value(one: &Pair<'_>, other: &Pair<'_>) -> bool {
             .all(|(piece, second)| is_same_piece(piece, second))
 }
 
-// Returns, for each name that these definitions define in any ASCII case, its last definition, and whether all its definitions have one
-// value.
+// Returns, for each name that these definitions define in any ASCII case, its last definition, and whether the values of all its
+// definitions consist of the same pieces.
 fn definitions_by_name<'d, 's>(
     alloc: Global,
     definitions: &'d [Pair<'s>],
@@ -109,7 +114,7 @@ fn definitions_by_name<'d, 's>(
     Ok(by_name)
 }
 
-// Returns the name of the first added definition whose value isn't that of each definition of the name in the file.
+// Returns the name of the first added definition whose value doesn't consist of the same pieces as each definition of the name in the file.
 fn other_definition<'s>(
     alloc: Global,
     file: &RawBibliography<'_>,
@@ -287,7 +292,10 @@ fn definition_line(
     name: &str,
     text: &[u8],
     definition: &Pair<'_>,
-) -> Result<String, AllocError> {
+) -> Result<String, AllocError>
+    ensures { IfOk result (λ line. string_bytes line ≡ spec.line_of_error name.now
+        (position_at text.now definition.now.key.span.start) (early_use_text definition.now.key.v.now)) }
+{
     let said = format!(in alloc;
         "the definition of `{}` uses its own name, or one that is defined later",
         definition.key.v
@@ -315,6 +323,23 @@ fn early_use_line(
     )
 }
 
+// Returns the message for the entry with this key, which inherits from itself, with the position of the key.
+fn cycle_line(
+    alloc: Global,
+    name: &str,
+    text: &[u8],
+    key: &Spanned<&str>,
+) -> Result<String, AllocError>
+    ensures { IfOk result (λ line. string_bytes line
+        ≡ spec.line_of_error name.now (position_at text.now key.now.span.start) (cycle_text key.now.v.now)) }
+{
+    let said = format!(in alloc;
+        "entry `{}` inherits from itself [circular-reference]",
+        key.v
+    )?;
+    error_line(alloc, name, text, key.span.start, &said)
+}
+
 // Returns the message for an entry that inherits from itself, with the position of its key. The message has no position if `text` has no
 // entry with the index `entry`.
 fn reference_cycle_line(
@@ -326,12 +351,7 @@ fn reference_cycle_line(
     if let Ok(src) = from_utf8(text) {
         if let Ok(raw) = RawBibliography::parse(alloc, src) {
             if let Some(entry) = raw.entries.get(entry) {
-                let key = &entry.v.key;
-                let said = format!(in alloc;
-                    "entry `{}` inherits from itself [circular-reference]",
-                    key.v
-                )?;
-                return error_line(alloc, name, text, key.span.start, &said);
+                return cycle_line(alloc, name, text, &entry.v.key);
             }
         }
     }

@@ -1,11 +1,16 @@
-//! Gives entries the keys that a pattern makes.
+//! Runs `rekey`, which gives entries the keys that a pattern makes, or prints or checks these keys.
+
+ghost use Rattle.std.specs.Prelude.{◌≡◌, IfOk, string_bytes};
+ghost use Rattle.bib_source.specs.Positions.{position_at};
+ghost use Rattle.bibkit_commands.specs.Messages as spec;
+ghost use Rattle.bibkit_commands.specs.Messages.{key_message};
 
 use crate::edits::{Editing, Mode, after_mark, apply, new_text};
 use crate::stops::{Stop, bytes_of, error_line, output_stop};
 use bib_entry::entry::Entry;
 use bib_keys::{KeyPattern, PatternError};
 use bib_queries::names::entry_names;
-use bib_source::positions::Positions;
+use bib_source::positions::{Position, Positions};
 use bib_syntax::raw::{Pair, RawBibliography, RawChunk, RawEntry};
 use bib_tables::fields::is_reference_field;
 use bib_text::spanned::Spanned;
@@ -96,6 +101,21 @@ fn map_text(
     Ok(map)
 }
 
+// Returns the message for a key that changes, with its position.
+fn key_line(
+    alloc: Global,
+    name: &str,
+    text: &str,
+    old: &Spanned<&str>,
+    new: &str,
+) -> Result<String, AllocError>
+    ensures { IfOk result (λ line. string_bytes line
+        ≡ spec.line_of_error name.now (position_at text.now old.now.span.start) (key_message old.now.v.now new.now)) }
+{
+    let said = format!(in alloc; "the key of `{}` isn't `{new}`", old.v)?;
+    error_line(alloc, name, text.as_bytes(), old.span.start, &said)
+}
+
 // Returns a message for each key that changes, with the position of the key.
 fn check_text(
     alloc: Global,
@@ -108,8 +128,7 @@ fn check_text(
     'entries: for (entry, key) in entries.iter().zip(keys) {
         if let Some(key) = key {
             let old = &entry.v.key;
-            let said = format!(in alloc; "the key of `{}` isn't `{}`", old.v, key)?;
-            let line = error_line(alloc, name, text.as_bytes(), old.span.start, &said)?;
+            let line = key_line(alloc, name, text, old, key)?;
             lines.push_str(&line)?;
         }
     }
@@ -170,7 +189,7 @@ fn push_caught<'s>(
     Ok(())
 }
 
-// Appends the names in a field that refers to entries, as `push_caught` does for a list.
+// Appends names in the literals of a field that refers to entries, as `push_caught` does for a list.
 fn push_caught_in_field<'s>(
     caught: &mut Vec<&'s str>,
     alloc: Global,
@@ -201,6 +220,21 @@ fn caught_names<'s>(
     Ok(caught)
 }
 
+// Returns the note on an entry that refers to a name which no entry had.
+fn caught_line(
+    alloc: Global,
+    name: &str,
+    position: Position,
+    first: &str,
+) -> Result<String, AllocError>
+    ensures { IfOk result (λ line. string_bytes line ≡ spec.caught_line name.now position first.now) }
+{
+    format!(in alloc;
+        "{name}:{}:{}: note: the reference to `{first}` led to no entry, and now leads to one with this new key\n",
+        position.line, position.column
+    )
+}
+
 // Returns a note for each entry that refers to names which no entry had, but which are new keys.
 fn caught_text(
     alloc: Global,
@@ -216,11 +250,7 @@ fn caught_text(
         let caught = caught_names(alloc, &names, &entry.v)?;
         if let Some(first) = caught.first() {
             let position = positions.position(entry.v.key.span.start);
-            let note = format!(in alloc;
-                "{name}:{}:{}: note: the reference to `{}` led to no entry, and now leads to one with this new key\n",
-                position.line, position.column, first
-            )?;
-            notes.push_str(&note)?;
+            notes.push_str(&caught_line(alloc, name, position, first)?)?;
         }
     }
     Ok(notes)

@@ -1,5 +1,9 @@
 //! Runs `convert` from bibliography files to BibTeX and BibLaTeX.
 
+ghost use Rattle.std.specs.Prelude.{◌≡◌, IfOk, string_bytes};
+ghost use Rattle.bib_source.specs.Positions.{position_at};
+ghost use Rattle.bibkit_commands.specs.Messages.{text_of_note, line_of_note};
+
 use crate::edits::{after_mark, new_text, print};
 use crate::stops::{Stop, bytes_of, say};
 use bib_source::positions::Positions;
@@ -30,7 +34,9 @@ fn edit_of<'a>(dialect: Dialect) -> Edit<'a> {
 }
 
 // Returns the text of a note on the field with the name `field`.
-fn note_text(alloc: Global, kind: NoteKind, field: &str) -> Result<String, AllocError> {
+fn note_text(alloc: Global, kind: NoteKind, field: &str) -> Result<String, AllocError>
+    ensures { IfOk result (λ text. string_bytes text ≡ text_of_note kind field.now) }
+{
     match kind {
         NoteKind::NameIsThere => {
             format!(in alloc;
@@ -61,7 +67,11 @@ fn note_line(
     positions: &mut Positions<'_>,
     field: &Pair<'_>,
     kind: NoteKind,
-) -> Result<String, AllocError> {
+) -> Result<String, AllocError>
+    ensures line { IfOk result (λ line. string_bytes line
+        ≡ line_of_note name.now (position_at positions.old field.now.key.span.start) (text_of_note kind field.now.key.v.now)) }
+    ensures same { positions.new ≡ positions.old }
+{
     let position = positions.position(field.key.span.start);
     let said = note_text(alloc, kind, field.key.v)?;
     format!(in alloc;
@@ -132,7 +142,7 @@ fn rewrite_in_turn(rt: &HostRuntime, dialect: Dialect, inputs: &[Input<'_>]) -> 
     status
 }
 
-// Returns whether a file defines the abbreviation of a month. A file with a syntax error counts as one that doesn't.
+// Returns whether a file defines the abbreviation of a month. A file that isn't UTF-8 or has a syntax error counts as one that doesn't.
 fn defines_month(alloc: Global, input: &Input<'_>) -> Result<bool, AllocError> {
     let Ok(text) = from_utf8(after_mark(&input.bytes)) else {
         return Ok(false);

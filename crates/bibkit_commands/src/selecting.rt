@@ -1,17 +1,20 @@
 //! Prints the entries that conditions select, and edits them. An entry is selected if its key is that of an entry that meets all
 //! conditions.
 
+ghost use Rattle.bib_syntax.specs.Recovery.{IsRecovery};
+ghost use Rattle.bib_syntax.specs.Views.{file_of};
+
 use crate::edits::{Editing, after_mark, apply};
 use crate::joining::join;
-use crate::stops::{Stop, bytes_of, output_stop, report_skipped, say};
-use bib_queries::excerpts::answer;
+use crate::stops::{Stop, bytes_of, output_stop, report_skipped_of, say};
+use bib_queries::excerpts::{answer, answer_of};
 use bib_queries::request::{CitedKeys, Request as Excerpts};
 use bib_select::errors::SelectionError;
 use bib_select::selection::Selection;
 use bib_source::decoding::decode;
 use bibkit_core::conditions::{keys_of_selected, resolved_entries};
 use bibkit_edits::edit::Edit;
-use biblatex::{Output, RawBibliography, Sink};
+use biblatex::{Output, RawBibliography, RawRecovery, Sink};
 use edit_entries::field_edits::FieldEdit;
 use edit_entries::field_value::FieldValue;
 use std::alloc::{AllocError, Global};
@@ -71,16 +74,18 @@ pub fn parse_conditions(alloc: Global, conditions: &[&str]) -> Result<Vec<Select
     Ok(selections)
 }
 
-// Returns the text to print for a file's text, and whether it has an entry or a key. Blocks with a syntax error are skipped, except
-// preambles if `printed.is_complete`.
+// Returns the text to print for a file's text with this recovery, and whether it has an entry or a key. Blocks with a syntax error are
+// skipped, except preambles in braces if `printed.is_complete`.
 fn selected_text(
     alloc: Global,
     selections: &[Selection],
     printed: Printed,
     text: &str,
-) -> Result<(String, bool), AllocError> {
-    let raw = RawBibliography::recover(alloc, text)?.raw;
-    let entries = resolved_entries(alloc, &raw)?;
+    found: &RawRecovery<'_>,
+) -> Result<(String, bool), AllocError>
+    requires { IsRecovery text.now (file_of found.now.raw) found.now.skipped.items }
+{
+    let entries = resolved_entries(alloc, &found.raw)?;
     let keys = keys_of_selected(alloc, selections, &entries)?;
     if keys.is_empty() {
         return Ok((String::new(alloc), false));
@@ -90,23 +95,26 @@ fn selected_text(
     } else {
         Excerpts::Get(keys)
     };
-    let found = answer(alloc, &request, text)?;
+    let excerpts = answer_of(alloc, &request, text, found)?;
     if printed.has_keys {
-        let keys = answer(alloc, &Excerpts::Keys, &found.text)?;
+        let keys = answer(alloc, &Excerpts::Keys, &excerpts.text)?;
         return Ok((keys.text, keys.has_entry));
     }
-    Ok((found.text, found.has_entry))
+    Ok((excerpts.text, excerpts.has_entry))
 }
 
-// Prints the selected entries of a text, as `printed` requests. Returns whether there is one.
+// Prints the selected entries of a text with this recovery, as `printed` requests. Returns whether there is one.
 fn select_text<K: Sink>(
     alloc: Global,
     selections: &[Selection],
     printed: Printed,
     text: &str,
+    found: &RawRecovery<'_>,
     output: &mut K,
-) -> Result<bool, Stop> {
-    let (text, is_found) = selected_text(alloc, selections, printed, text)?;
+) -> Result<bool, Stop>
+    requires { IsRecovery text.now (file_of found.now.raw) found.now.skipped.items }
+{
+    let (text, is_found) = selected_text(alloc, selections, printed, text, found)?;
     if output.write_str(&text) {
         Ok(is_found)
     } else {
@@ -125,8 +133,10 @@ fn select_file<K: Sink>(
 ) -> Result<(bool, u8), Stop> {
     let bytes = bytes_of(rt, name)?;
     let decoded = decode(rt.alloc(), &bytes)?;
-    let status = report_skipped(rt, name, &decoded.text)?;
-    let is_found = select_text(rt.alloc(), selections, printed, &decoded.text, output)?;
+    let text = decoded.text.as_str();
+    let found = RawBibliography::recover(rt.alloc(), text)?;
+    let status = report_skipped_of(rt, name, text, &found)?;
+    let is_found = select_text(rt.alloc(), selections, printed, text, &found, output)?;
     Ok((is_found, status))
 }
 
@@ -139,7 +149,9 @@ fn select_joined<K: Sink>(
     output: &mut K,
 ) -> Result<(bool, u8), Stop> {
     let database = join(rt, names)?;
-    let is_found = select_text(rt.alloc(), selections, printed, &database.text, output)?;
+    let text = database.text.as_str();
+    let found = RawBibliography::recover(rt.alloc(), text)?;
+    let is_found = select_text(rt.alloc(), selections, printed, text, &found, output)?;
     Ok((is_found, database.status))
 }
 

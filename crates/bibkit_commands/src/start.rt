@@ -1,5 +1,8 @@
 //! Starts the program: reads the arguments and runs the command.
 
+ghost use Rattle.std.specs.Prelude.{◌≡◌, Some, codes, IfOk};
+ghost use Rattle.bibkit_commands.specs.Messages.{on_file, says};
+
 use crate::arguments::{Asked, Words, read};
 use crate::converting::run_convert;
 use crate::document::run_cited;
@@ -61,7 +64,7 @@ fn refuses_color(rt: &HostRuntime) -> bool {
     }
 }
 
-// Returns whether colours are shown: standard output and standard error are terminals, and the user hasn't disabled colours.
+// Returns whether colours are shown by default: standard output and standard error are terminals, and the user hasn't disabled colours.
 fn are_colors_shown(rt: &HostRuntime) -> bool {
     rt.stdout().is_terminal() && rt.stderr().is_terminal() && !refuses_color(rt)
 }
@@ -124,7 +127,7 @@ fn lint_of<'a>(
     Ok(lint)
 }
 
-// Returns whether a line is one of the output of `lint` in the format `text`: a finding, or the counts of no errors and warnings.
+// Returns whether a line can be one of the output of `lint` in the format `text`: a finding, or the counts of no errors and warnings.
 fn is_line_of_lint(line: &str) -> bool {
     line.starts_with("errors: 0, warnings: 0")
         || line.contains(": error: ")
@@ -138,14 +141,18 @@ fn is_output_of_lint(text: &str) -> bool {
 }
 
 // Returns the message for a file that isn't the output of `lint`, with status 2.
-fn other_output_stop(alloc: Global, name: &str) -> Result<Stop, AllocError> {
+fn other_output_stop(alloc: Global, name: &str) -> Result<Stop, AllocError>
+    ensures { IfOk result (λ stop. says stop
+        ≡ Some (on_file name.now (codes "it isn't the output of `lint` with `--format text` and without colours"), 2)) }
+{
     let said = format!(in alloc;
         "bibkit: {name}: it isn't the output of `lint` with `--format text` and without colours\n"
     )?;
     Ok(Stop::Said(said, 2))
 }
 
-// Returns the texts of the findings in the file with this name, if there is a name. Fails if the file isn't the output of `lint`.
+// Returns the texts of the findings in the file with this name, if there is a name. Fails if the file can't be read, or can't
+// be the output of `lint`.
 fn accepted_by(rt: &HostRuntime, name: Option<&str>) -> Result<Option<BTreeSet<String>>, Stop> {
     let Some(name) = name else {
         return Ok(None);

@@ -1,10 +1,18 @@
 //! The reasons why a command ends early, and their messages.
 
+ghost use Rattle.std.specs.Prelude.{◌≡◌, ◌++◌, ℕ, List, Some, codes, IfOk, string_bytes};
+ghost use Rattle.bib_source.specs.Positions.{position_at};
+ghost use Rattle.bib_syntax.specs.Errors.{kind_text};
+ghost use Rattle.bib_syntax.specs.Recovery.{IsRecovery};
+ghost use Rattle.bib_syntax.specs.Views.{file_of};
+ghost use Rattle.bibkit_commands.specs.Messages as spec;
+ghost use Rattle.bibkit_commands.specs.Messages.{of_program, says};
+
 use crate::files::SystemFiles;
 use bib_source::positions::Positions;
-use bib_syntax::raw::ParseError;
+use bib_syntax::raw::{ParseError, RawRecovery};
 use bibkit_core::files::Files;
-use bibkit_core::skipped::skipped_lines;
+use bibkit_core::skipped::{skipped_lines, skipped_lines_of};
 use std::alloc::{AllocError, AllocFailed, Global};
 
 /// The reason why a command on a file ends early.
@@ -65,7 +73,9 @@ pub fn error_line(
     bytes: &[u8],
     at: usize,
     text: &str,
-) -> Result<String, AllocError> {
+) -> Result<String, AllocError>
+    ensures { IfOk result (λ line. string_bytes line ≡ spec.line_of_error name.now (position_at bytes.now at) text.now) }
+{
     let position = Positions::of_bytes(bytes).position(at);
     format!(in alloc;
         "{name}:{}:{}: error: {text}\n",
@@ -79,13 +89,18 @@ pub fn syntax_line(
     name: &str,
     text: &[u8],
     error: &ParseError,
-) -> Result<String, AllocError> {
+) -> Result<String, AllocError>
+    ensures { IfOk result (λ line. (said : List ℕ) → kind_text error.now.kind ≡ Some said
+        → string_bytes line ≡ spec.line_of_error name.now (position_at text.now error.now.span.start) (said ++ codes " [syntax]")) }
+{
     let said = format!(in alloc; "{} [syntax]", error.kind)?;
     error_line(alloc, name, text, error.span.start, &said)
 }
 
 /// Returns the message and status 2 for an output that can't be written.
-pub fn output_stop(alloc: Global) -> Result<Stop, AllocError> {
+pub fn output_stop(alloc: Global) -> Result<Stop, AllocError>
+    ensures { IfOk result (λ stop. says stop ≡ Some (of_program (codes "the output can't be written"), 2)) }
+{
     let said = String::from_str(alloc, "bibkit: the output can't be written\n")?;
     Ok(Stop::Said(said, 2))
 }
@@ -104,13 +119,31 @@ pub fn say(rt: &HostRuntime, stop: &Stop) -> u8 {
     }
 }
 
+// Prints the lines for skipped blocks to standard error. Returns the status: 1 if there is one, otherwise 0.
+fn report_lines(rt: &HostRuntime, lines: &str) -> u8 {
+    if lines.is_empty() {
+        return 0;
+    }
+    let _ = eprint!(rt; "{lines}");
+    1
+}
+
 /// Reports the skipped blocks of the file `name` with this decoded text to standard error. Returns the status: 1 if there is one, otherwise
 /// 0.
 pub fn report_skipped(rt: &HostRuntime, name: &str, text: &str) -> Result<u8, AllocError> {
     let lines = skipped_lines(rt.alloc(), name, text)?;
-    if lines.is_empty() {
-        return Ok(0);
-    }
-    let _ = eprint!(rt; "{lines}");
-    Ok(1)
+    Ok(report_lines(rt, &lines))
+}
+
+/// Reports the skipped blocks of a file as `report_skipped` does. `found` is the result of `RawBibliography::recover` for its decoded text.
+pub fn report_skipped_of(
+    rt: &HostRuntime,
+    name: &str,
+    text: &str,
+    found: &RawRecovery<'_>,
+) -> Result<u8, AllocError>
+    requires { IsRecovery text.now (file_of found.now.raw) found.now.skipped.items }
+{
+    let lines = skipped_lines_of(rt.alloc(), name, text, found)?;
+    Ok(report_lines(rt, &lines))
 }

@@ -5,7 +5,7 @@ use bibkit_edits::edit::Edit;
 use edit_entries::errors::EditError;
 use std::alloc::{AllocError, Global};
 
-// Returns whether some edit removes the fields with this name from the entries with these keys.
+// Returns whether one of these edits is an `UnsetAll` of the fields with this name.
 fn is_unset(edits: &[Edit<'_>], field: &str) -> bool {
     edits.iter().any(
         |edit| matches!(edit, Edit::UnsetAll { name, .. } if name.eq_ignore_ascii_case(field)),

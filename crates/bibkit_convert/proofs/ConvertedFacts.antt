@@ -24,7 +24,7 @@ text_push target is_first (x ∷ es) e =
     (append_assoc (text_after target is_first x) (texts_after target (is_still_first target is_first x) es)
     (text_after target (is_first_after target (is_still_first target is_first x) es) e))
 
--- whether no entry is printed yet after one more entry
+-- after entries and one more, the output still has no entry exactly if it has none after them, and the format doesn't have that one
 pub first_push : (target : Target) (is_first : Bool) (es : List Entry) (e : Entry)
     → is_first_after target is_first (es ++ e ∷ []) ≡ is_still_first target (is_first_after target is_first es) e
 first_push target is_first [] e = refl

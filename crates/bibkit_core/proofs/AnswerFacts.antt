@@ -26,7 +26,8 @@ use Rattle.bibkit_core.specs.declared.tally.Tally.{Tally}
 use Rattle.bibkit_core.specs.declared.run.Stop.{Stop}
 use Rattle.bibkit_core.specs.declared.run.Stop.TheVariants.{Refused, NoDocument, OutOfMemory}
 
--- the output of `lint` without a document is an output of the request for it; the next lemmas state this for the other tasks
+-- the output of `lint` without a document, if the files aren't one database, is an output of its request; the next lemmas state this for
+-- the other tasks
 pub findings_answer : {F : Type 0} {reads : F → List ℕ → Option (List ℕ) → F → Type 0} {files : F}
     {names : List (List ℕ)} {lint : Lint} → is_database lint names ≡ false → lint.cited ≡ None → (text : List ℕ) (status : Option ℕ)
     → AreFindingsPrinted reads lint files names text status → IsCallAnswer reads files names (request.Lint lint) text status

@@ -7,12 +7,12 @@ use Rattle.std.proofs.lemmas.List.Folds.{list_any-append}
 use Rattle.bib_queries.specs.Needed.{is_listed}
 use Rattle.bibkit_core.specs.Baselines.{texts_of_line}
 
--- a text is the one in a list, or another condition holds
+-- the step of `one_listed`, in Booleans
 or_of_one : (b c : Bool) → ((b || false) || c) ≡ cond b true c
 or_of_one true c = refl
 or_of_one false c = refl
 
--- a list of one text contains a text exactly if they are equal
+-- a list of one text contains a text, or `c` is true, exactly if the two texts are equal, or `c` is true
 pub one_listed : (t text : List ℕ) (c : Bool) → (is_listed (t ∷ []) text || c) ≡ cond (bytes_eq t text) true c
 one_listed t text c = or_of_one (bytes_eq t text) c
 

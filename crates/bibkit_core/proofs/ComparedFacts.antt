@@ -157,7 +157,7 @@ pub unused_unasked : (document : Document) (text : List ℕ) → (document.has_u
 unused_unasked document text unasked says skipped recovery =
     ap (λ b. cond b (map unused_finding (uncited_keys (cited_keys document.citations) says.entries)) []) (sym unasked)
 
--- the task has the same settings, document, counts and known citations as the state `s` of the specification
+-- the task has these settings, this document, and the counts and the known citations of the state `s` of the specification
 record IsSeen (lint : Lint) (has_unused : Bool) (name document : List ℕ) (found : Citations) (task : Comparing)
     (s : ComparisonState) : Type 0 where
   pub lint_is : task.linting.lint.now ≡ lint
@@ -168,7 +168,7 @@ record IsSeen (lint : Lint) (has_unused : Bool) (name document : List ℕ) (foun
   pub citations : task.document.citations ≡ found
   pub known : task.document.known.items ≡ map (λ c. is_in_files s.readings c.key) found.keys.items
 
--- a new task has the settings, document, counts and citations of the state before the first file
+-- a new task has its settings, its document, and the counts and the known citations of the state before the first file
 begins_seen : (lint : Lint) (has_unused : Bool) (name document : List ℕ) (task : Comparing)
     → BeginsLinting lint task.linting → BeginsDocument name document has_unused task.document
     → IsSeen lint has_unused name document task.document.citations task none_compared

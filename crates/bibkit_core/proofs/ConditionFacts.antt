@@ -10,7 +10,7 @@ use Rattle.std.proofs.lemmas.List.Elements.{filter-append}
 use Rattle.std.proofs.lemmas.Slice.Eq.{ends_is}
 use Rattle.std.proofs.lemmas.Str.Pattern.{ends_text}
 
--- `strip_suffix` of std returns the text before the suffix
+-- `strip_suffix` of std returns the text before the suffix, or `None` if the text doesn't end with it
 pub suffix_before : (suffix text : List ℕ) (r : Option (Bor (List ℕ)))
     → MatchOption r (FindsTextSuffix suffix text None)
     (λ x. (n : ℕ) × FindsTextSuffix suffix text (Some n) × (x.now ≡ take (length text - n) text) × (length x.now + n ≡ length text))
@@ -53,7 +53,7 @@ one_passes test old y is = sym (ap (λ b. old ++ cond b (y ∷ []) []) is)
 pub one_fails : {Y : Type 0} (test : Y → Bool) (old : List Y) (y : Y) → test y ≡ false → old ≡ old ++ filter test (y ∷ [])
 one_fails test old y isnt = sym (ap (λ b. old ++ cond b (y ∷ []) []) isnt ∙ append-nil old)
 
--- if a range that began at `s` ended at `a`, an offset is in it exactly if it is from `s` to before `e`
+-- if `a` is the greater of `s` and `e`, an offset is from `s` to before `a` exactly if it is from `s` to before `e`
 pub range_ends : (s e a at : ℕ) → s ≤ a → a ≤ max s e → e ≤ a → (nat_le s at && nat_lt at a) ≡ (nat_le s at && nat_lt at e)
 range_ends s e a at from to ended = grind (arith, nat_tests)
 

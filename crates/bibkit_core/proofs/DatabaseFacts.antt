@@ -19,14 +19,14 @@ use Rattle.bibkit_core.specs.declared.lint.Printed.{Printed}
 use Rattle.bibkit_core.specs.declared.request.Lint.{Lint}
 use Rattle.bibkit_core.specs.declared.tally.Tally.{Tally}
 
--- the findings of a citation, by whether it is known
+-- a citation has no finding if it is known, and otherwise its finding
 one_missing : (known : List ℕ → Bool) (c : Citation) → map missing_finding (filter (λ x. not (known x.key)) (c ∷ []))
     ≡ (if known c.key then [] else missing_finding c ∷ [])
 one_missing known c =
     elim (known c.key) as (λ b. map missing_finding (cond (not b) (c ∷ []) []) ≡ (if b then [] else missing_finding c ∷ []))
     [ true ↦ refl | false ↦ refl ]
 
--- the findings of the citations up to an index, and of the citation there
+-- the first `i + 1` citations have the findings of the first `i`, and that of the next one unless it is known
 pub missing_more : (known : List ℕ → Bool) (cs : List Citation) (i : ℕ) (c : Citation) → i < length cs → c ≡ get_or cs i c
     → map missing_finding (filter (λ x. not (known x.key)) (take (i + 1) cs))
     ≡ map missing_finding (filter (λ x. not (known x.key)) (take i cs)) ++ (if known c.key then [] else missing_finding c ∷ [])
@@ -37,11 +37,11 @@ missing_more known cs i c within is =
     ∙ map-append missing_finding (filter test (take i cs)) (filter test (c ∷ []))
     ∙ ap (λ l. map missing_finding (filter test (take i cs)) ++ l) (one_missing known c)
 
--- the elements from an index on
+-- the elements from an index to the end are the elements from it on
 pub left_is : {A : Type 0} (xs : List A) (first : ℕ) → take (length xs - first) (drop first xs) ≡ drop first xs
 left_is xs first = take_all (length xs - first) (drop first xs) (omega (arith, length-drop first xs))
 
--- the output for the files up to an index, and for the file there
+-- if the output so far begins that for all files, it still does with the output for the file at the index
 pub files_more : {lint : Lint} (files : List StoredFile) (ends : List ℕ) (found slice : List Finding) (start first count index : ℕ)
     (file : StoredFile) {old new : Printed} → index < length files → index < length ends → file ≡ get_or files index file
     → count ≡ count_of_file (drop (index + 1) ends) (get_or ends index 0) (drop first found) → slice ≡ take count (drop first found)
@@ -75,7 +75,7 @@ files_more {lint} files ends found slice start first count index file {old} {new
     subst (λ t. AreFilesPrinted lint 0 files ends found no_findings t after)
     (sym (ap (λ t. t ++ rest) added.printed ∙ append_assoc (string_bytes old.text) added.text rest)) all
 
--- the output for the files up to their end is that for all files
+-- if the output so far begins that for all files, and no file is left, it is that for all files
 pub files_all : {lint : Lint} (files : List StoredFile) (ends : List ℕ) (found : List Finding) (start first index : ℕ)
     (old : Printed) → length files ≤ index → length ends ≤ index
     → ((rest : List ℕ) (after : Tally)
@@ -91,7 +91,7 @@ files_all {lint} files ends found start first index old in_files in_ends before 
     subst (λ t. AreFilesPrinted lint 0 files ends found no_findings t old.tally) (append-nil (string_bytes old.text))
     (before [] old.tally none)
 
--- each file has an end
+-- joining files adds as many ends as there are files
 joined_count : (texts : FilesText) (files : List StoredFile)
     → length (fold (λ t f. with_next t (string_bytes f.decoded.text)) texts files).ends ≡ length texts.ends + length files
 joined_count texts [] = omega arith

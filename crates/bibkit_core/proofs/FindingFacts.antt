@@ -21,7 +21,8 @@ use Rattle.bib_findings.specs.Findings.{AreFindings}
 use Rattle.bibkit_core.specs.declared.request.Lint.{Lint}
 use Rattle.bibkit_core.specs.OwnNames.{without_own}
 use Rattle.bibkit_core.specs.declared.rules.Rule.{Rule}
-use Rattle.bibkit_core.specs.Linted.{IsPrintedKept, AreShown, ArePrinted, IsPrintedFile, off_in, tally_after, unread_findings}
+use Rattle.bibkit_core.specs.Encodings.{byte_findings}
+use Rattle.bibkit_core.specs.Linted.{IsPrintedKept, AreShown, ArePrinted, IsPrintedFile, off_in, tally_after}
 use Rattle.bibkit_core.specs.Linted.AreShown.{none, next}
 use Rattle.bibkit_core.specs.Regions.{region_at}
 use Rattle.bibkit_core.specs.Printed.{IsShown, has_no_finding, one_more}
@@ -132,12 +133,12 @@ step_passed {style} {name} {bytes} s off xs more f {a} {b} {d} grows isnt before
     (subst (λ ys. IsAdded (ArePrinted style name bytes ys) a b) (sym (ap (selected_findings s off) grows ∙ asked_same s off xs f isnt))
     before)
 
--- the output for the finding that a file isn't UTF-8, followed by the output for the findings of its text, is that for the file
+-- the output for the findings of a file's bytes, followed by the output for the findings of its text, is that for the file
 pub kept_added : {lint : Lint} {name bytes : List ℕ} {decoded : Decoded} (kept : List Finding) {a b c : Printed}
     → IsAdded
     (ArePrinted lint.style name bytes
     (selected_findings lint.selection (off_in lint (string_bytes decoded.text))
-    (findings_of_no_entry lint.conditions.items (unread_findings decoded.invalid)))) a b
+    (findings_of_no_entry lint.conditions.items (byte_findings bytes decoded.invalid)))) a b
     → IsAdded
     (ArePrinted lint.style name (string_bytes decoded.text)
     (selected_findings lint.selection (off_in lint (string_bytes decoded.text)) kept)) b c
@@ -148,14 +149,14 @@ kept_added kept {a} {b} {c} first second = record {
     between = b.tally;
     first = first.text;
     second = second.text;
-    unread = first.are;
+    of_bytes = first.are;
     of_text = second.are;
     is = refl;
   };
   printed = second.printed ∙ ap (λ t. t ++ second.text) first.printed ∙ append_assoc (string_bytes a.text) first.text second.text;
 }
 
--- the output for the reported findings of a file is that for the file
+-- the output for the reported findings of a file, except those that report a name of the project as unknown, is that for the file
 pub file_added : {lint : Lint} {name bytes : List ℕ} {decoded : Decoded} (found kept : List Finding) {a c : Printed}
     → AreFindings (string_bytes decoded.text) found
     → AreReportedFindings lint.conditions.items (string_bytes decoded.text) found kept

@@ -1,4 +1,4 @@
--- Positions of the end of two texts, one after the other.
+-- The position after two texts in a row, from the position after each of them.
 use Rattle.std.proofs.Common.{◌≡◌, ◌≤◌, ◌<◌, ◌+◌, ◌-◌, ◌==◌, ◌^◌, if◌then◌else◌, ℕ, zero, suc, Bool, true, false, cond, List, [], ◌∷◌, ◌++◌, length, take, drop, get_or, min, refl, sym, ap, ap₂, subst, ◌∙◌, arith, append_assoc, append-nil, not}
 use Rattle.std.proofs.Math.Seq.{take-suc, take-add}
 use Rattle.std.proofs.lemmas.Bool.Decides.{nat_tests}
@@ -83,7 +83,7 @@ both_texts xs ys =
     ∙ both_taken xs ys (length ys) (omega arith)
     ∙ ap (λ zs. position_after (xs ++ zs)) (take_all (length ys) ys (omega arith))
 
--- a line and a column are at most one more than the number of bytes
+-- the line is at most one more than the number of bytes; so is the column, by the next lemma
 line_bound : (text : List ℕ) → (position_after text).line ≤ length text + 1
 line_bound text = omega (arith, count_by-le-length is_line_feed text)
 

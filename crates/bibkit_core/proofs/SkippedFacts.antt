@@ -1,12 +1,49 @@
--- Facts about the findings of skipped blocks.
-use Rattle.std.proofs.Common.{◌≡◌, Bool, List, [], ◌++◌, map, refl, ap, subst, ◌∙◌, append-nil}
+-- Facts about the findings and the lines of skipped blocks.
+use Rattle.std.proofs.Common.{◌≡◌, ℕ, Bool, true, false, List, [], ◌∷◌, ◌++◌, map, refl, ap, subst, ◌∙◌, append-nil, arith, eqb, length, rules}
+use Rattle.std.proofs.lemmas.List.{nil_from_length}
+use Rattle.std.proofs.lemmas.List.Sorted.{IsPermutation-refl}
+use Rattle.bib_text.specs.Places.{Place}
 use Rattle.bib_findings.specs.Entries.{AreOfEach}
 use Rattle.bib_findings.specs.Entries.AreOfEach.{none}
 use Rattle.bib_findings.specs.Errors.{block_finding}
 use Rattle.bib_findings.specs.Findings.{AreFindingsIn, AreSortedByPlace}
 use Rattle.bib_findings.specs.declared.finding.Finding.{Finding}
-use Rattle.bib_syntax.specs.Reading.{EntryReading}
+use Rattle.bib_syntax.specs.Reading.{EntryReading, FileReading}
+use Rattle.bib_syntax.specs.Recovery.{IsFullRecovery, IsRecovery, Recovered, skipped_block}
+use Rattle.bib_syntax.specs.Recovery.{Recovered as recovered}
 use Rattle.bib_syntax.specs.declared.raw.recovery.SkippedBlock.{SkippedBlock}
+use Rattle.bibkit_core.specs.Skipped.{AreSkippedLines}
+
+-- numbers that compare as equal are equal
+same_number : (m n : ℕ) → eqb m n ≡ true → m ≡ n
+same_number m n is = grind (arith, is)
+
+-- a recovery that skips no block is the same whether parts are kept or not
+recovery_with_parts : {u : Place} {says : FileReading} {skipped : List SkippedBlock} → skipped ≡ [] → Recovered false u says skipped
+    → Recovered true u says skipped
+recovery_with_parts no_blocks (recovered.end end) = recovered.end end
+recovery_with_parts no_blocks (recovered.skipped char passes x) = recovered.skipped char passes (recovery_with_parts no_blocks x)
+recovery_with_parts no_blocks (recovered.line_comment m x) = recovered.line_comment m (recovery_with_parts no_blocks x)
+recovery_with_parts no_blocks (recovered.block b x) = recovered.block b (recovery_with_parts no_blocks x)
+recovery_with_parts {u} no_blocks (recovered.unread {w = w} {e = e} {errors = errors} sign unread on held x) =
+    let clash : skipped_block e u w ∷ errors ≡ [] = no_blocks in
+    absurd (cc)
+
+-- the lines for a text whose recovery skips no block: none
+pub no_lines : {text : List ℕ} {says : FileReading} (skipped : List SkippedBlock) {lines : List ℕ} (name : List ℕ)
+    → eqb (length skipped) 0 ≡ true → IsRecovery text says skipped → lines ≡ [] → AreSkippedLines name text lines
+no_lines {text} {says} skipped name is_empty recovery empty =
+    let no_blocks : skipped ≡ [] = nil_from_length skipped (same_number (length skipped) 0 is_empty) in
+    record {
+      found = [];
+      are = record {
+        says = says;
+        skipped = [];
+        recovery = subst (λ s. IsFullRecovery text says s) no_blocks (recovery_with_parts no_blocks recovery);
+        sorted = record { same = IsPermutation-refl []; sorted = search rules; stable = search rules };
+      };
+      lines_are = empty;
+    }
 
 -- no entries have no findings
 none_of_each : {A : Type 0} {Are : EntryReading → A → List Finding → Type 0} {said : List EntryReading} {found : List Finding}

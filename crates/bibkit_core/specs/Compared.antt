@@ -89,8 +89,8 @@ none_compared = record { tally = record { errors = 0; warnings = 0; infos = 0 };
 abbrev pub compared_begins : Lint → ComparisonState → List ℕ
 compared_begins lint before = opening lint.style
 
--- the output for a file: the findings of `lint`, and then those of the entries that the document doesn't cite, at their keys; with
--- conditions, only those about the selected entries
+-- the output for a file: the selected findings of `lint`, and then the selected ones of the entries that the document doesn't cite, at
+-- their keys; with conditions, only those about the selected entries
 pub record PrintsCompared (lint : Lint) (has_unused : Bool) (found : Citations) (before : ComparisonState)
     (name bytes text : List ℕ) (after : ComparisonState) : Type 0 where
   pub first : List ℕ
@@ -109,8 +109,8 @@ pub record PrintsCompared (lint : Lint) (has_unused : Bool) (found : Citations) 
   pub is : text ≡ in_file lint.style name (first ++ second)
   pub readings : after.readings ≡ before.readings ++ says ∷ []
 
--- the output after all files, and the status. Without conditions, the findings of the citations for which no file has an entry come first,
--- at their positions in the file of the document. The text after findings follows.
+-- the output after all files, and the status. Without conditions, the selected findings of the citations for which no file has an entry
+-- come first, at their positions in the file of the document. The text after findings follows.
 pub record EndsCompared (lint : Lint) (name document : List ℕ) (found : Citations) (before : ComparisonState) (text : List ℕ)
     (status : ℕ) : Type 0 where
   pub first : List ℕ

@@ -110,7 +110,8 @@ pub record AreAboutSelected (conditions : List Selection) (says : FileReading) (
   pub selected : AreSelectedKeys conditions says keys
   pub are : kept ≡ filter (is_about skipped (entries_with keys says.entries)) found
 
--- `kept` are the findings of a recovered text that are reported: all without conditions, otherwise those about the selected entries
+-- `kept` are the findings of a recovered text that are reported if the rules select them: all without conditions, otherwise those about the
+-- selected entries
 abbrev pub AreReportedAmong : List Selection → FileReading → List SkippedBlock → List Finding → List Finding → Type 0
 AreReportedAmong [] says skipped found kept = kept ≡ found
 AreReportedAmong (condition ∷ rest) says skipped found kept = AreAboutSelected (condition ∷ rest) says skipped found kept
@@ -122,7 +123,8 @@ pub record AreAboutText (conditions : List Selection) (text : List ℕ) (found k
   pub recovery : IsFullRecovery text says skipped
   pub are : AreAboutSelected conditions says skipped found kept
 
--- `kept` are the findings of a text that are reported: all without conditions, otherwise those about the selected entries
+-- `kept` are the findings of a text that are reported if the rules select them: all without conditions, otherwise those about the selected
+-- entries
 abbrev pub AreReportedFindings : List Selection → List ℕ → List Finding → List Finding → Type 0
 AreReportedFindings [] text found kept = kept ≡ found
 AreReportedFindings (condition ∷ rest) text found kept = AreAboutText (condition ∷ rest) text found kept

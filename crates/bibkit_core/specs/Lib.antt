@@ -7,6 +7,7 @@ pub mod Commands
 pub mod Compared
 pub mod Conditions
 pub mod Database
+pub mod Encodings
 pub mod Escapes
 pub mod Joining
 pub mod Linted

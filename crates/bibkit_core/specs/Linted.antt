@@ -1,14 +1,14 @@
 -- Meaning: words of public contracts.
 -- The output for the findings of a file.
-use Rattle.std.specs.Prelude.{◌≡◌, ℕ, Bool, false, List, [], ◌∷◌, ◌++◌, Option, Some, None, codes, fold, if◌then◌else◌, string_bytes}
+use Rattle.std.specs.Prelude.{◌≡◌, ℕ, Bool, false, List, [], ◌∷◌, ◌++◌, fold, if◌then◌else◌, string_bytes}
 use Rattle.bib_findings.specs.Codes.{severity_of}
 use Rattle.bib_source.specs.declared.decoding.Decoded.{Decoded}
 use Rattle.bib_findings.specs.Findings.{AreFindings}
-use Rattle.bib_findings.specs.declared.codes.Code.TheVariants.{UnreadBytes}
 use Rattle.bib_findings.specs.declared.finding.Finding.{Finding}
 use Rattle.bibkit_core.specs.Asked.{selected_findings}
 use Rattle.bibkit_core.specs.Regions.{region_at}
 use Rattle.bibkit_core.specs.Conditions.{AreReportedFindings, findings_of_no_entry}
+use Rattle.bibkit_core.specs.Encodings.{byte_findings}
 use Rattle.bibkit_core.specs.OwnNames.{without_own}
 use Rattle.bibkit_core.specs.Rules.{switched_off}
 use Rattle.bibkit_core.specs.declared.request.Lint.{Lint}
@@ -35,34 +35,21 @@ pub record ArePrinted (style : Style) (name bytes : List ℕ) (found : List Find
   pub shown : AreShown style name bytes (has_no_finding before) found text
   pub tally : after ≡ tally_after before found
 
--- the finding that the byte at this offset is the first that isn't UTF-8
-abbrev pub unread_finding : ℕ → Finding
-unread_finding at = record {
-  code = UnreadBytes;
-  span = record { start = at; end = at };
-  message = codes "not UTF-8 from here on, so the file is read as Windows-1252";
-}
-
--- the finding that the byte at this offset isn't UTF-8, or no finding for `None`
-abbrev pub unread_findings : Option ℕ → List Finding
-unread_findings None = []
-unread_findings (Some at) = unread_finding at ∷ []
-
 -- the rules that the lines of a text switch off, if the request has switches
 abbrev pub off_in : Lint → List ℕ → List Rule
 off_in lint text = if lint.has_switches then switched_off text else []
 
--- `text` is the output for a file with the reported findings `kept` of its decoded text, with the counts before and after them. If the file
--- isn't UTF-8 and there are no conditions, the finding that says so comes first, at its position in the bytes. The selected findings among
+-- `text` is the output for a file with the reported findings `kept` of its decoded text, with the counts before and after them. If there
+-- are no conditions, the selected findings of the file's bytes come first, at their positions in the bytes. The selected findings among
 -- `kept` follow, at their positions in the decoded text. Findings that the file switches off are left out.
 pub record IsPrintedKept (lint : Lint) (name bytes : List ℕ) (decoded : Decoded) (kept : List Finding) (before : Tally)
     (text : List ℕ) (after : Tally) : Type 0 where
   pub between : Tally
   pub first : List ℕ
   pub second : List ℕ
-  pub unread : ArePrinted lint.style name bytes
+  pub of_bytes : ArePrinted lint.style name bytes
       (selected_findings lint.selection (off_in lint (string_bytes decoded.text))
-      (findings_of_no_entry lint.conditions.items (unread_findings decoded.invalid))) before first between
+      (findings_of_no_entry lint.conditions.items (byte_findings bytes decoded.invalid))) before first between
   pub of_text : ArePrinted lint.style name (string_bytes decoded.text)
       (selected_findings lint.selection (off_in lint (string_bytes decoded.text)) kept) between second after
   pub is : text ≡ first ++ second

@@ -73,7 +73,7 @@ year_in fields = option_and_then leading_year (text_of_date fields)
 abbrev pub years_in : List FieldReading → List (List ℕ)
 years_in fields = option_map_or (λ year. year ∷ []) (year_in fields) []
 
--- all entries and all findings of the files so far
+-- the entries of the files so far that can be parsed, and the findings of their decoded texts
 pub record FilesSoFar : Type 0 where
   pub entries : List EntryReading
   pub found : List Finding

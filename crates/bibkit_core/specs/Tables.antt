@@ -19,7 +19,8 @@ times_met names name = if list_any (bytes_eq name) names then Some (min (count_b
 abbrev pub name_and_count : Row → List ℕ × ℕ
 name_and_count row = (row.name.now, row.count)
 
--- `rows` has one row for each name that occurs in `names`, with the number of its occurrences, in the order of the names' bytes
+-- `rows` has one row for each name that occurs in `names`, with the number of its occurrences, at most 2 ^ 64 - 1, in the order of the
+-- names' bytes
 pub record AreByName (names : List (List ℕ)) (rows : List Row) : Type 0 where
   pub counts : (name : List ℕ) → lookup (bytes_eq name) (map name_and_count rows) ≡ times_met names name
   pub sorted : IsStrictlySortedBy (slice_cmp nat_cmp) (map (λ row. row.name.now) rows)

@@ -14,15 +14,15 @@ use Rattle.bibkit_core.specs.Tables.{times_met}
 use Rattle.bibkit_core.specs.declared.counting.Counting.{Counting}
 use Rattle.bibkit_core.specs.declared.tables.Counts.{Counts}
 
--- `counts` has for each name the number of its occurrences in this list
+-- `counts` has for each name that occurs in this list the number of its occurrences, at most 2 ^ 64 - 1, and nothing for any other name
 pub record AreCounted (names : List (List ℕ)) (counts : Counts) : Type 0 where
   pub held : (name : List ℕ) → get_by_text counts.counts name ≡ times_met names name
 
--- the count of each name is increased by the number of its occurrences in this list
+-- the count of each name is increased by the number of its occurrences in this list, to at most 2 ^ 64 - 1
 pub record AddsNames (names : List (List ℕ)) (old new : Counts) : Type 0 where
   pub adds : (before : List (List ℕ)) → AreCounted before old → AreCounted (before ++ names) new
 
--- the counts are those of these entries and findings
+-- the counts are those of these entries and findings; a count stays at its maximum
 pub record AreCountsOf (all : FilesSoFar) (task : Counting) : Type 0 where
   pub entries : task.entries ≡ min (length all.entries) (2 ^ 64 - 1)
   pub types : AreCounted (map type_name all.entries) task.types

@@ -410,8 +410,8 @@ fn about_selected(
     Ok(kept)
 }
 
-/// Returns the findings of a text that are reported. Without conditions, these are all findings. Otherwise, they are those about entries
-/// whose key is that of an entry that meets all conditions. The only error is out of memory.
+/// Returns the findings of a text that are reported if the rules select them. Without conditions, these are all findings. Otherwise, they
+/// are those about entries whose key is that of an entry that meets all conditions. The only error is out of memory.
 pub fn reported_findings(
     alloc: Global,
     conditions: &[Selection],
@@ -428,7 +428,7 @@ pub fn reported_findings(
     Ok(kept)
 }
 
-/// Returns the findings of a recovered text that are reported, as `reported_findings` does. The only error is out of memory.
+/// Returns the findings of a recovered text as `reported_findings` does. The only error is out of memory.
 pub fn reported_among(
     alloc: Global,
     conditions: &[Selection],

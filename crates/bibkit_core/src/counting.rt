@@ -123,7 +123,7 @@ fn is_number(text: &str) -> bool
     !text.is_empty() && are_digits(text)
 }
 
-// Returns the text before the first hyphen or slash, or the whole text without one. Returns `None` if it isn't one or more digits.
+// Returns the text before the first hyphen or slash, or the whole text without one. Returns `None` if it isn't one or more ASCII digits.
 fn leading_year(text: &str) -> Option<&str>
     ensures { option_map (λ year. year.now) result ≡ spec.leading_year text.now }
 {

@@ -202,8 +202,8 @@ fn print_file(
     Ok(())
 }
 
-// Returns the output for files with these reported findings, which are in order of their places in the text of all files. Each file ends
-// at one of the offsets `ends`.
+// Returns the output for files with these reported findings, which are in order of their places in the text of all files. `texts` has this
+// text, and the offset at which each file ends in it.
 fn print_files(
     alloc: Global,
     lint: &Lint<'_>,

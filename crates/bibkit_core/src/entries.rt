@@ -7,8 +7,9 @@ ghost use Rattle.bibkit_core.specs.Tasks as spec;
 use crate::decoding::decode_bytes;
 use crate::skipped::Skipped;
 use crate::task::{End, Task};
-use bib_queries::excerpts::answer;
+use bib_queries::excerpts::answer_of;
 use bib_queries::request::Request as Excerpts;
+use biblatex::RawBibliography;
 use std::alloc::{AllocError, Global};
 
 /// Prints the requested entries of files, or the keys of their entries.
@@ -75,9 +76,11 @@ impl<'r, 'a> Task for Entries<'r, 'a> {
 
     fn file(&mut self, alloc: Global, name: &str, bytes: &[u8]) -> Result<String, AllocError> {
         let decoded = decode_bytes(alloc, bytes)?;
-        let answer = answer(alloc, self.request, decoded.text.as_str())?;
+        let text = decoded.text.as_str();
+        let found = RawBibliography::recover(alloc, text)?;
+        let answer = answer_of(alloc, self.request, text, &found)?;
         self.is_found = is_found_with(self.is_found, answer.has_entry);
-        self.skipped.next(alloc, name, decoded.text.as_str())?;
+        self.skipped.next(alloc, name, text, &found)?;
         Ok(answer.text)
     }
 

@@ -48,7 +48,7 @@ pub trait Files {
     // out of memory (`None`).
     ghost reads: { Self → List ℕ → Option (List ℕ) → Self → Type 0 };
 
-    /// Returns all bytes of the file with this name. `-` is standard input.
+    /// Returns all bytes of the file with this name, which may be a name for standard input.
     fn read(&mut self, alloc: Global, name: &str) -> Result<Vec<u8>, FileError>
         ensures given { IfOk result (λ bytes. reads self.old name.now (Some bytes.items) self.new) }
         ensures failed { IfErr result (λ e. e ≢ FileError.OutOfMemory →

@@ -10,7 +10,7 @@ use std::io;
 /// Most contracts of these calls apply only if something is known of the files. No contract of std describes the contents of the
 /// system's files, so an adapter for them has `unknown_disk`. For it, only the count of failed calls is proved. These facts are
 /// assumed:
-/// - Each method makes the system call with its name.
+/// - Each method makes the system calls for what its contract states, such as `fsync` for `sync`.
 /// - The system then meets the contract, which is no more than POSIX promises.
 /// - Nobody else changes these files meanwhile.
 pub trait Folder {

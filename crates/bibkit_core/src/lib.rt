@@ -5,12 +5,13 @@
 //! `counting` prints counts, and `comparing` prints findings and checks the citations of a document with `cited`. `database` prints the
 //! findings of several files together. `run` reads the files in turn and prints those texts. `lint_run` chooses the task for `lint`.
 //!
-//! `selection` selects findings by `rules` and by the findings of an earlier run (`baseline`), and `conditions` by the conditions that entries
-//! meet. `own_names` leaves out findings that report names of a project as unknown. `decoding` decodes a file. `lint` prints the selected findings, and counts them (`tally`). It
-//! prints each as a line (`lines`), as a line in colours (`frames`), as a JSON object (`objects`), as a workflow command of GitHub Actions
-//! (`commands`), as an element for Checkstyle (`checkstyle`) or as a result of SARIF (`sarif`). `regions` finds the lines and columns of
-//! findings, and `escapes` and `uris` escape texts. `tables` prints counts. `messages` prints messages and progress, and
-//! `skipped` returns the lines that report the skipped blocks of a file.
+//! `selection` selects findings by `rules` and by the findings of an earlier run (`baseline`), and `conditions` by the conditions that
+//! entries meet. `own_names` leaves out findings that report names of a project as unknown. `decoding` decodes a file, and `encodings`
+//! has the findings of its bytes. `lint` prints the selected findings, and counts them (`tally`). It prints each as a line (`lines`), as
+//! a line in colours (`frames`), as a JSON object (`objects`), as a workflow command of GitHub Actions (`commands`), as an element for
+//! Checkstyle (`checkstyle`) or as a result of SARIF (`sarif`). `regions` finds the lines and columns of findings, and `escapes` and
+//! `uris` escape texts. `tables` prints counts. `messages` prints messages and progress, and `skipped` returns the lines that report
+//! the skipped blocks of a file. `version` has the program's version.
 //!
 //! `folder` specifies each call on the files of a folder, and the contents that a crash may leave. `replacing` replaces the text
 //! of a file as a whole: it writes a new file beside the old one, and renames it. `laws` proves that the contracts of `folder`,
@@ -26,6 +27,7 @@ pub mod conditions;
 mod counting;
 mod database;
 mod decoding;
+mod encodings;
 mod entries;
 mod escapes;
 pub mod files;

@@ -7,12 +7,14 @@ ghost use Rattle.bibkit_core.specs.Asked.{selected_findings};
 ghost use Rattle.bibkit_core.specs.Adding.{IsAdded, IsPrintedOne};
 ghost use Rattle.bibkit_core.specs.Conditions.{findings_of_no_entry};
 ghost use Rattle.bibkit_core.specs.Linted as linted;
-ghost use Rattle.bibkit_core.specs.Linted.{IsPrintedKept, ArePrinted, IsPrintedFile, unread_finding, unread_findings};
+ghost use Rattle.bibkit_core.specs.Encodings.{byte_findings};
+ghost use Rattle.bibkit_core.specs.Linted.{IsPrintedKept, ArePrinted, IsPrintedFile};
 ghost use Rattle.bibkit_core.specs.Printed as spec;
 
 use crate::checkstyle::error_element;
 use crate::commands::finding_command;
 use crate::conditions::{findings_of_no_entry, reported_findings};
+use crate::encodings::byte_findings;
 use crate::frames::framed_finding;
 use crate::lines::finding_line;
 use crate::objects::{object_element, object_line};
@@ -22,11 +24,9 @@ use crate::request::{Lint, Style};
 use crate::rules::{Rule, switched_off};
 use crate::sarif::result_element;
 use crate::tally::Tally;
-use bib_findings::codes::Code;
 use bib_findings::finding::Finding;
 use bib_findings::findings::findings;
 use bib_source::positions::Positions;
-use bib_text::text::Text;
 use biblatex::Decoded;
 use std::alloc::{AllocError, Global};
 
@@ -111,34 +111,9 @@ pub fn print_findings(
     Ok(())
 }
 
-// Returns the finding that the byte at the offset `at` is the first that isn't UTF-8.
-fn unread_bytes(alloc: Global, at: usize) -> Result<Finding, AllocError>
-    ensures { IfOk result (λ finding. finding ≡ unread_finding at) }
-{
-    Ok(Finding {
-        code: Code::UnreadBytes,
-        span: at..at,
-        message: Text::from_str(
-            alloc,
-            "not UTF-8 from here on, so the file is read as Windows-1252",
-        )?,
-    })
-}
-
-// Returns the finding that the byte at the offset `invalid` isn't UTF-8, or no finding for `None`.
-fn unread_findings(alloc: Global, invalid: Option<usize>) -> Result<Vec<Finding>, AllocError>
-    ensures { IfOk result (λ found. found.items ≡ unread_findings invalid) }
-{
-    let mut found = Vec::new(alloc);
-    if let Some(at) = invalid {
-        found.push(unread_bytes(alloc, at)?)?;
-    }
-    Ok(found)
-}
-
-// Appends the finding that a file isn't UTF-8, and counts it, if `invalid` is an offset, the finding is selected, no rule in `off` means it,
-// and there are no conditions.
-fn print_unread(
+// Appends the findings of a file's bytes that are selected and that no rule in `off` means, and counts them. Appends none if there are
+// conditions. `invalid` is the offset of the first byte that isn't UTF-8, if there is one.
+fn print_byte_findings(
     alloc: Global,
     printed: &mut Printed,
     lint: &Lint<'_>,
@@ -148,9 +123,9 @@ fn print_unread(
 ) -> Result<(), AllocError>
     ensures { OnOk result (IsAdded (ArePrinted lint.now.style origin.now.name.now origin.now.bytes.now
         (selected_findings lint.now.selection off.now
-        (findings_of_no_entry lint.now.conditions.items (unread_findings invalid)))) printed.old printed.new) }
+        (findings_of_no_entry lint.now.conditions.items (byte_findings origin.now.bytes.now invalid)))) printed.old printed.new) }
 {
-    let found = unread_findings(alloc, invalid)?;
+    let found = byte_findings(alloc, origin.bytes, invalid)?;
     let kept = findings_of_no_entry(alloc, &lint.conditions, found);
     print_findings(alloc, printed, lint, off, origin, &kept)
 }
@@ -165,9 +140,9 @@ pub fn off_in(alloc: Global, lint: &Lint<'_>, text: &str) -> Result<Vec<Rule>, A
     switched_off(alloc, text)
 }
 
-/// Appends the selected findings among `kept` to `printed`, and counts them. `kept` are the reported findings of the file's decoded text. If
-/// the file isn't UTF-8 and there are no conditions, a finding says so first, with its position in the file's bytes. Findings that the file
-/// switches off are left out.
+/// Appends the selected findings among `kept` to `printed`, and counts them. `kept` are the reported findings of the file's decoded text.
+/// If there are no conditions, the selected findings of the file's bytes come first, with their positions in the bytes. Findings that the
+/// file switches off are left out.
 pub fn print_kept(
     alloc: Global,
     printed: &mut Printed,
@@ -180,7 +155,7 @@ pub fn print_kept(
         printed.old printed.new) }
 {
     let off = off_in(alloc, lint, &decoded.text)?;
-    print_unread(alloc, printed, lint, &off, origin, decoded.invalid)?;
+    print_byte_findings(alloc, printed, lint, &off, origin, decoded.invalid)?;
     let text = Origin {
         name: origin.name,
         bytes: decoded.text.as_bytes(),
@@ -189,8 +164,8 @@ pub fn print_kept(
     Ok(())
 }
 
-/// Appends the selected findings of a file to `printed`, and counts them. If the file isn't UTF-8, a finding says so first, with its
-/// position in the file's bytes. The findings of the decoded text follow, with their positions in this text. If there are conditions,
+/// Appends the selected findings of a file to `printed`, and counts them. The findings of its bytes come first, with their positions in
+/// the bytes. The findings of the decoded text follow, with their positions in this text. If there are conditions,
 /// only findings about entries whose key is that of an entry that meets all of them are appended. Findings that report one of the names
 /// `lint.own` as unknown are left out.
 pub fn print_file(

@@ -20,7 +20,7 @@ pub enum ReplaceError {
     OutOfMemory,
     /// All names for the new file are in use. The file is unchanged.
     NamesTaken,
-    /// The new file can't be created, written or synced. The old file is unchanged.
+    /// The error occurred before the rename; for example, the new file can't be created, written or synced. The old file is unchanged.
     NotReplaced(io::Error),
     /// Renaming the new file failed. The file has the old text or the new one.
     Unsure(io::Error),

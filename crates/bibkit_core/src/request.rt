@@ -50,7 +50,7 @@ pub struct Cited<'a> {
 /// The findings to print, and their style.
 #[derive(Drop)]
 pub struct Lint<'a> {
-    /// The codes to report.
+    /// The findings to report, by their codes, by words of their messages, and by the findings of an earlier run.
     pub selection: Selection,
     /// The style of the output.
     pub style: Style,
@@ -90,7 +90,8 @@ pub enum Request<'a> {
     Entries(Excerpts<'a>),
     /// Prints entries of files that conditions select, or their keys.
     Selected(Selected<'a>),
-    /// Prints the entries that the document of this .aux or .bcf file cites, and everything that they refer to, transitively.
+    /// Prints the entries that the document of this .aux or .bcf file cites, everything that they refer to, transitively, and the
+    /// preambles.
     Cited(&'a str),
     /// Prints the number of entries, and the counts of types, fields, years and codes of findings.
     Stats,
@@ -101,10 +102,10 @@ pub enum Request<'a> {
 pub struct Call<'a> {
     /// The request.
     pub request: Request<'a>,
-    /// The names of the files; `-` is standard input.
+    /// The names of the files, by which `Files` reads them.
     pub names: Vec<&'a str>,
     /// Whether progress is shown: the number and the name of each file while it is processed.
     pub has_progress: bool,
-    /// Whether the skipped blocks of each file are reported. They count for the status in both cases.
+    /// Whether a request for entries reports the skipped blocks of each file. They count for its status in both cases.
     pub has_skipped_lines: bool,
 }

@@ -115,8 +115,8 @@ impl Rule {
         }
     }
 
-    /// Returns whether this rule means a finding: the finding has the code. If the rule has a field, the finding's message contains its name
-    /// as a word, in any ASCII case, after the key of the entry.
+    /// Returns whether this rule means a finding: the finding has the code. If the rule has a field, the finding's message contains its
+    /// name as a word, in any ASCII case, after the key of the entry.
     pub fn means(&self, finding: &Finding) -> bool
         ensures { result ≡ spec.means finding.now self.now }
     {

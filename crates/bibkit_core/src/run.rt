@@ -219,7 +219,7 @@ fn run_selected<F: Files, K: Sink, M: Sink>(
     Ok(status)
 }
 
-// Prints the entries of files that a document cites, and everything that they refer to, transitively. Returns the status.
+// Prints the entries of files that a document cites, everything that they refer to, transitively, and the preambles. Returns the status.
 fn run_cited<F: Files, K: Sink, M: Sink>(
     alloc: Global,
     document: &str,

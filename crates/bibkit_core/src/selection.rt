@@ -12,7 +12,7 @@ use std::collections::BTreeSet;
 /// The findings to report. `ignored` takes precedence over `only`.
 #[derive(Debug, Drop)]
 pub struct Selection {
-    /// The findings to report. If there are no rules, all findings except the ignored ones are reported.
+    /// The findings to report. If there are no rules, they exclude no finding.
     pub only: Vec<Rule>,
     /// The findings not to report.
     pub ignored: Vec<Rule>,

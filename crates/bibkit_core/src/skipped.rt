@@ -2,6 +2,8 @@
 
 ghost use Rattle.std.specs.Prelude.{◌≡◌, ◌||◌, ◌==◌, false, length, not, IfOk, OnOk};
 ghost use Rattle.std.specs.String.{string_bytes};
+ghost use Rattle.bib_syntax.specs.Recovery.{IsRecovery};
+ghost use Rattle.bib_syntax.specs.Views.{file_of};
 ghost use Rattle.bibkit_core.specs.Skipped as spec;
 ghost use Rattle.bibkit_core.specs.Skipped.{AddsSkipped, AreBlockFindings, AreSkippedLines};
 
@@ -9,7 +11,7 @@ use crate::lines::finding_line;
 use bib_findings::finding::Finding;
 use bib_findings::findings::findings_in;
 use bib_source::positions::Positions;
-use biblatex::RawBibliography;
+use biblatex::{RawBibliography, RawRecovery};
 use std::alloc::{AllocError, Global};
 
 // Returns the findings of `lint` for the skipped blocks of a text, in order of their places.
@@ -48,14 +50,31 @@ fn block_lines(
     Ok(lines)
 }
 
-/// Returns the line that `lint` prints for each skipped block of the file `name` with this decoded text, in order of their places. Fails only
-/// if out of memory.
+/// Returns the line that `lint` prints for each skipped block of the file `name` with this decoded text, in order of their places.
+/// Fails only if out of memory.
 pub fn skipped_lines(alloc: Global, name: &str, text: &str) -> Result<String, AllocError>
     ensures { IfOk result (λ lines. AreSkippedLines name.now text.now (string_bytes lines)) }
 {
     let found = block_findings(alloc, text)?;
     let lines = block_lines(alloc, name, text, &found)?;
     Ok(lines)
+}
+
+/// Returns the lines that `skipped_lines` returns for the file `name` with this decoded text. `found` is the result of
+/// `RawBibliography::recover` for the text. If it has no skipped block, the text isn't parsed again. Fails only if out of memory.
+pub fn skipped_lines_of(
+    alloc: Global,
+    name: &str,
+    text: &str,
+    found: &RawRecovery<'_>,
+) -> Result<String, AllocError>
+    requires { IsRecovery text.now (file_of found.now.raw) found.now.skipped.items }
+    ensures { IfOk result (λ lines. AreSkippedLines name.now text.now (string_bytes lines)) }
+{
+    if found.skipped.is_empty() {
+        return Ok(String::new(alloc));
+    }
+    skipped_lines(alloc, name, text)
 }
 
 // Returns whether a file so far has a skipped block: one before this file, or this file, which has these lines.
@@ -65,7 +84,7 @@ fn has_any_with(has_any: bool, lines: &str) -> bool
     has_any || !lines.is_empty()
 }
 
-/// The lines of the file that was processed last, and whether a file so far has one.
+/// The lines for the skipped blocks of the file that was processed last, and whether a file so far has a skipped block.
 #[derive(Drop)]
 pub struct Skipped {
     /// The lines for the skipped blocks of the last file.
@@ -85,11 +104,19 @@ impl Skipped {
         }
     }
 
-    /// Makes the lines of the next file, which has this name and this decoded text.
-    pub fn next(&mut self, alloc: Global, name: &str, text: &str) -> Result<(), AllocError>
+    /// Makes the lines of the next file, which has this name and this decoded text. `found` is the result of
+    /// `RawBibliography::recover` for the text.
+    pub fn next(
+        &mut self,
+        alloc: Global,
+        name: &str,
+        text: &str,
+        found: &RawRecovery<'_>,
+    ) -> Result<(), AllocError>
+        requires { IsRecovery text.now (file_of found.now.raw) found.now.skipped.items }
         ensures { OnOk result (AddsSkipped self.old name.now text.now self.new) }
     {
-        self.lines = skipped_lines(alloc, name, text)?;
+        self.lines = skipped_lines_of(alloc, name, text, found)?;
         self.has_any = has_any_with(self.has_any, &self.lines);
         Ok(())
     }

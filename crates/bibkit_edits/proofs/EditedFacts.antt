@@ -199,7 +199,7 @@ edits_parts edits i d below =
     sym (take-append-drop (i + 1) edits) ∙ ap (λ first. first ++ drop (i + 1) edits) (take_more edits i d below)
     ∙ append_assoc (take i edits) (get_or edits i d ∷ []) (drop (i + 1) edits)
 
--- no edits leave the text unchanged
+-- without edits, the text is unchanged
 pub first_none : (text : List ℕ) → AreFirstMade [] text text
 first_none text = record { made = none; read = inl refl }
 

@@ -206,7 +206,7 @@ pub data AreRefused (edits : List Edit) (text : List ℕ) : Refusal → Type 0 w
       → is_safe edit d ≡ false → AreRefused edits text (refusal.UnbalancedQuotes (length done))
   no_memory : AreRefused edits text refusal.OutOfMemory
 
--- the byte order mark at the start of bytes, or no bytes without one
+-- the byte order mark of UTF-8 at the start of bytes, or no bytes without it
 abbrev pub mark_of : List ℕ → List ℕ
 mark_of bytes = if starts_with nat_eq bytes byte_order_mark then byte_order_mark else []
 

@@ -14,7 +14,7 @@ use Rattle.bibkit_edits.specs.Edited.{IsDocumentOf}
 use Rattle.bibkit_edits.specs.declared.edit.Edit.{Edit}
 use Rattle.bibkit_edits.specs.declared.edit.Edit.TheVariants.{Rename, RenameAll}
 
--- the entry at an index gets a new key, if there is such an index
+-- the new key of the entry at `index`: `new` if the first argument is this index, and none otherwise
 abbrev pub new_key_at : Option ℕ → List ℕ → ℕ → Option (List ℕ)
 new_key_at None new index = None
 new_key_at (Some one) new index = only one new index

@@ -66,7 +66,8 @@ pub enum Edit<'a> {
         /// The keys of the entries.
         keys: &'a [&'a str],
     },
-    /// Appends a line end and another text with its entries, with the line ends of the file.
+    /// Appends a line end and another text with its entries. If the first line of the file ends with `\r\n`, each line end of this text
+    /// becomes `\r\n`.
     Add {
         /// The text to append.
         text: &'a str,
@@ -110,7 +111,7 @@ pub enum Refusal {
     },
     /// The text of the file has an error that makes parsing fail.
     File(ParseError),
-    /// The text to be added, with the line ends of the file, has an error that makes parsing fail.
+    /// The text to be added, with line ends by `with_line_ends_of`, has an error that makes parsing fail.
     Added(ParseError),
     /// An edit is refused.
     Edit {

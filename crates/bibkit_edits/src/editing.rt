@@ -213,7 +213,7 @@ fn format_document(
     Ok(format(alloc, document, style)?)
 }
 
-// Returns a text with the line ends of a document. Fails only if out of memory.
+// Returns a text with line ends by `with_line_ends_of` for a document. Fails only if out of memory.
 fn text_to_add(alloc: Global, document: &RawDocument<'_>, text: &str) -> Result<String, EditError>
     ensures same { IfOk result (λ new. string_bytes new ≡ line_ends.with_line_ends_of document.now.text text.now) }
     ensures refused { IfErr result (λ why. why ≡ OutOfMemory) }
@@ -355,7 +355,7 @@ fn edit_parsed(
 }
 
 // Applies an edit to a text, and returns the new text. `index` is the index of the edit, for its refusal. `is_last` says whether the
-// process ends after this edit, so that memory needn't be freed. To format a text takes no document of it, which would need more memory.
+// process ends after this edit, so that memory needn't be freed. A format makes no document of the text, which would need more memory.
 fn edit_once(
     alloc: Global,
     text: &str,

@@ -1,4 +1,4 @@
-//! Splits the bytes of a file into a byte order mark and a text.
+//! Splits the bytes of a UTF-8 file into a byte order mark and a text, and puts the mark before a new text.
 
 ghost use Rattle.std.specs.Prelude.{◌≡◌, ◌≤◌, ◌++◌, length, IfErr, IfOk, string_bytes};
 ghost use Rattle.std.specs.Str.{IsUtf8};
@@ -8,7 +8,7 @@ ghost use Rattle.bibkit_edits.specs.Edited.{mark_of};
 use std::alloc::{AllocError, Global};
 use std::str::from_utf8;
 
-// Returns the length in bytes of the byte order mark at the start of a file, or 0 if there is none.
+// Returns the length in bytes of the byte order mark of UTF-8 at the start of a file, or 0 if the file doesn't begin with it.
 fn mark_length(bytes: &[u8]) -> usize
     ensures value { result ≡ mark_length bytes.now }
     ensures within { result ≤ length bytes.now }
@@ -43,7 +43,7 @@ fn concat(alloc: Global, first: &str, second: &str) -> Result<String, AllocError
     Ok(text)
 }
 
-/// Returns `text`, after a byte order mark if `bytes` begin with one.
+/// Returns `text`, after a byte order mark if `bytes` begin with that of UTF-8.
 pub fn with_mark(alloc: Global, bytes: &[u8], text: String) -> Result<String, AllocError>
     ensures { IfOk result (λ whole. string_bytes whole ≡ mark_of bytes.now ++ string_bytes text) }
 {

@@ -13,7 +13,8 @@ use std::path::Path;
 use std::rt::Files;
 use toml::{Table, Value};
 
-/// The command that reads the settings of a project. It keeps only its own settings, and doesn't check those of the other command.
+/// The command that reads the settings of a project. It keeps only its own settings, and doesn't check those of the other command. The
+/// table `own` belongs to `lint`.
 #[derive(Clone, Copy, PartialEq, Eq)]
 pub enum Reader {
     /// The command `lint`.
@@ -407,11 +408,11 @@ fn settings_in<R: Files + AllocGlobal>(
     }
 }
 
-// The number of folders that are searched if the path of the first one can't be resolved.
+// The maximum number of folders that are searched if the path of the first one can't be resolved.
 const FOLDERS: usize = 100;
 
-// Returns the settings in the nearest of a folder and those above it that has a file `bibkit.toml`. Searches no more than `FOLDERS` folders.
-// The path may not be UTF-8, so the root can't be recognized.
+// Returns the settings in the nearest of a folder and those above it that has a file `bibkit.toml`. Searches no more than `FOLDERS`
+// folders. The path may not be UTF-8, so the root can't be recognized.
 fn settings_above<R: Files + AllocGlobal>(
     rt: &R,
     reader: Reader,

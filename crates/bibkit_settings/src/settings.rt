@@ -43,8 +43,9 @@ pub enum OutputFormat {
 }
 
 // The names of the codes of findings, in the order in which they are listed.
-static CODES: [&str; 36] = [
+static CODES: [&str; 37] = [
     "unread-bytes",
+    "escape-sequence",
     "syntax",
     "unread-field",
     "unknown-abbreviation",
@@ -157,7 +158,7 @@ pub fn fail_on_named(name: &str) -> Option<FailOn>
 /// The settings of `lint`. Each is `None` if it isn't set.
 #[derive(Drop)]
 pub struct Settings {
-    /// The findings to report. If the list is empty, all findings except the ignored ones are reported.
+    /// The findings to report. If the list is empty or isn't set, it excludes no finding.
     pub only: Option<Vec<Rule>>,
     /// The findings not to report.
     pub ignored: Option<Vec<Rule>>,
@@ -204,11 +205,10 @@ impl Settings {
         }
     }
 
-    /// Returns the request for `lint` with these settings. If `only` is empty or isn't set, all findings except the ignored ones are
-    /// reported.
-    /// If `color` is `Auto` or isn't set, `are_colors_shown` says whether lines are printed in colours. Only lines have colours. If
-    /// `fail_on` isn't set, the status is 1 for errors and warnings. `is_each` says whether each of several files is a database of its own.
-    /// Lines of a file can switch off rules. There are no conditions, no own names and no accepted findings.
+    /// Returns the request for `lint` with these settings. If `only` is empty or isn't set, it excludes no finding. If `color`
+    /// is `Auto` or isn't set, `are_colors_shown` says whether lines are printed in colours. Only lines have colours. If `fail_on`
+    /// isn't set, the status is 1 for errors and warnings. `is_each` says whether each of several files is a database of its own. Lines
+    /// of a file can switch off rules. There are no conditions, no own names and no accepted findings.
     pub fn lint<'a>(
         self,
         alloc: Global,

@@ -1,4 +1,4 @@
--- Entries that refer to nothing: inheriting leaves their types and fields unchanged.
+-- Entries without `crossref` and `xdata`: inheriting leaves their types and the styled texts of their fields unchanged.
 use Rattle.std.proofs.Common.{◌≡◌, ℕ, zero, suc, ◌<◌, List, [], ◌∷◌, length, map, refl, sym, ap, ◌∙◌, subst, Option, Some, None, arith, inl, inr}
 use Rattle.std.specs.Prelude.{◌&&◌, slice_index_or, codes, bytes_eq, option_map}
 use Rattle.std.specs.List.{AllByRecursion, AllZip, Contains}
@@ -86,7 +86,7 @@ pub record IsAsWritten (own entry : Entry) : Type 0 where
   pub entry_type : entry.entry_type ≡ own.entry_type
   pub fields : (name : List ℕ) → option_map styled (by_name.get entry.fields name) ≡ option_map styled (by_name.get own.fields name)
 
--- if an own entry refers to nothing, the entry with its texts after inheriting from nothing has its type and styled texts
+-- if `RefersToNothing` holds for an own entry, the entry with its texts after inheriting from nothing has its type and styled texts
 as_written : (own entry : Entry) → RefersToNothing own
     → texts_of_entry entry ≡ with_inherited_fields (texts_of_entry own) [] → IsAsWritten own entry
 as_written own entry none same = record {
@@ -94,7 +94,7 @@ as_written own entry none same = record {
   fields = λ name. ap (λ s. s.fields name) same ∙ rule_alone (texts_of_entry own) name (rw none.xdata refl);
 }
 
--- if no own entry refers to another, entries with their texts after inheriting from nothing have their types and styled texts
+-- if own entries have no `crossref` and `xdata`, entries with their texts after inheriting from nothing have their types and styled texts
 all_as_written : (own entries : List Entry) → AllByRecursion RefersToNothing own → length entries ≡ length own
     →
     ((index : ℕ) → index < length own
@@ -112,7 +112,7 @@ length-map : {A B : Type 0} (f : A → B) (xs : List A) → length (map f xs) �
 length-map f [] = refl
 length-map f (x ∷ xs) = ap suc (length-map f xs)
 
--- if no entry refers to another, the entries of a solution have the types and styled texts of the own entries
+-- if no own entry has `crossref` or `xdata`, the entries of a solution have the types and styled texts of the own entries
 pub entries_as_written : (own entries : List Entry) → AllByRecursion RefersToNothing own
     → Inherits (texts_of_entries own) (graph_of own) (texts_of_entries entries) → AllZip IsAsWritten own entries
 entries_as_written own entries all inherits =

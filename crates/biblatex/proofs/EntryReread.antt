@@ -85,7 +85,7 @@ lines_plainly (l ∷ ls) all stands closes =
     identifier_plainly all.0.identifier
     (stands_split l.0 (codes " = " ++ (encode_utf8_all (123 ∷ (l.1 ++ 125 ∷ [])) ++ codes ",\n")) one.1).1
 
--- a line feed is a gap if neither white space nor a comment follows
+-- a line feed is a gap if a character that is neither white space nor a percent sign follows
 gap_feed : {u v : Place} → CharAt u 10 v → Plainly v → Gap longest u v
 gap_feed feed following =
     Gap.white (record { run = step feed refl stop; stops = stops_at is_whitespace following.here following.dark })

@@ -102,7 +102,7 @@ module _ {places : List (Range ℕ)} {own entries : List Entry} {errors : List P
   pub stays_all : errors ≡ [] → found.cut ≡ own
   stays_all none = all_stay (no_cycle_told none)
 
--- a raw bibliography whose recovery has no errors is accepted
+-- a raw bibliography with own entries is accepted if recovering the references of these has no errors
 abbrev accepted_of : {says : FileReading} {own entries : List Entry} {places : List (Range ℕ)}
     {errors : List ParseError} → AreOwn says own → AreRecovered places (names_of own) own entries errors
     → errors ≡ [] → IsAccepted says

@@ -1,4 +1,4 @@
--- Errors of a file.
+-- Errors and bibliographies of a file and of a text.
 use Rattle.std.proofs.Common.{◌≡◌, ℕ, zero, suc, ◌<◌, List, [], ◌∷◌, false, length, map, refl, sym, ap, ◌∙◌, subst, inl, inr, ◌⊎◌, Some, Result, Ok, Err}
 use Rattle.std.specs.Prelude.{IfErr, IfOk, OnOk, slice_get}
 use Rattle.std.specs.declared.ops.Range.{Range}

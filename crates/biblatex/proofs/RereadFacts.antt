@@ -73,7 +73,7 @@ module _ (definitions : Definitions) where
   no_names (Reaches.held held) = held
   no_names (Reaches.through before defined holds) = no_names before
 
-  -- a raw field has the styled text of the written field, and chunks with that text
+  -- a raw field can be parsed as chunks with the written field's styled text, and has its mapped name, not one of `link_names`
   record SaysField (f : List ℕ × Value') (r : FieldReading) : Type 0 where
     chunks : Value'
     same : styled chunks ≡ styled f.1
@@ -142,7 +142,7 @@ module _ (definitions : Definitions) where
             ∙ by_written_name (λ n. list_any (bytes_eq n) link_names ≡ false) f.0 settled.name.apart refl refl refl;
       }
 
-  -- a parsed field: it has the name and the contents of its raw field
+  -- a parsed field: it has the name, not one of `link_names`, and the contents of its raw field
   record IsRead (w : List ℕ × Value') (r : FieldReading) : Type 0 where
     name : name_of r ≡ w.0
     says : FieldSays definitions r w.1
@@ -217,7 +217,7 @@ module _ (definitions : Definitions) where
   none_named name (w ∷ ws) [] all = absurd all
   none_named name (w ∷ ws) (r ∷ rs) all = rw (all.0) (none_named name ws rs all.1)
 
-  -- a name that differs from the name of each settled field
+  -- a name that differs from each name that isn't in `link_names`
   abbrev IsLink : List ℕ → Type 0
   IsLink word = (name : List ℕ) → list_any (bytes_eq name) link_names ≡ false → bytes_eq word name ≡ false
 
@@ -238,7 +238,7 @@ module _ (definitions : Definitions) where
   zip_apart word link (w ∷ ws) [] all = absurd all
   zip_apart word link (w ∷ ws) (r ∷ rs) all = (link (name_of r) all.0.apart, zip_apart word link ws rs all.1)
 
-  -- no parsed field has the name `word`, if no settled field may have it
+  -- no parsed field has the name `word`, if that differs from each name that isn't in `link_names`
   no_link : (word : List ℕ) → IsLink word → (ws : List (List ℕ × Value')) (rs : List FieldReading) → AllZip IsRead ws rs
       → by_name.get (by_name.from_entries {R = by_bytes} (reverse ws)) word ≡ None
   no_link word link ws rs all =
@@ -369,7 +369,7 @@ loaded_mapped (e ∷ es) (o ∷ os) (x ∷ xs) all plain keys = (
   loaded_mapped es os xs all.1 plain.1 (ap (drop 1) keys),
 )
 
--- if the own entries of a file refer to nothing and are mapped from some entries, so are those of each bibliography of the file
+-- if the own entries of a file have no `crossref` and `xdata`, and are mapped from some entries, so are those of each bibliography of it
 loaded_reread : (says : FileReading) (es own : List Entry) → AreOwn says own → AllByRecursion RefersToNothing own
     → AllZip IsMapped es own → (read : Bibliography) → IsLoaded says read → AllZip IsMapped es read.entries
 loaded_reread says es own are alone mapped read loaded =

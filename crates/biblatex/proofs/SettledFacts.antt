@@ -97,7 +97,7 @@ fields_after {P} {Q} {f} {fs} {rest} before is settled =
       (λ both. whole.1 (both.0, (settled, both.1))),
     )
 
--- if the next field isn't settled, `P` doesn't hold
+-- if `P` implies that all fields are settled, but the first isn't, `P` doesn't hold
 pub field_not : {P Q : Type 0} {f : List ℕ × List (Spanned Chunk)} {fs rest : List (List ℕ × List (Spanned Chunk))}
     → P ↔ (Q × AllByRecursion IsSettledField fs) → fs ≡ f ∷ rest → (IsSettledField f → ⊥) → P → ⊥
 field_not {P} {Q} {f} {fs} {rest} before is unsettled p =

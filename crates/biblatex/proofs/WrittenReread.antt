@@ -29,7 +29,7 @@ use Rattle.biblatex.proofs.EntryReread.{Line, IsLine, WrittenEntry, IsWritten, l
 abbrev pub Value' : Type 0
 Value' = List (Spanned Chunk)
 
--- the name of a BibLaTeX type parses back to the type, and begins an entry
+-- the name of a BibLaTeX type is an identifier, parses back to the type and begins an entry
 pub record IsKind (t : EntryType) : Type 0 where
   pub again : entry_type_of (entry_type_name (biblatex_type t)) ≡ biblatex_type t
   pub entry : block_kind (entry_type_name (biblatex_type t)) ≡ block_kind (codes "misc")

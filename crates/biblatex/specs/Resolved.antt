@@ -28,8 +28,9 @@ names_of own = (loaded_after empty_bibliography own).names
 abbrev pub graph_of : List Entry → Graph
 graph_of own = graph_by (names_of own) own
 
--- a raw bibliography is accepted: each field can be parsed, no key was claimed before, and no entry refers to itself,
--- directly or through others. No entry that lacks a required date refers to an entry with an unreadable date (`is_bad_date`)
+-- a raw bibliography is accepted: each field can be parsed, no key was claimed before, and no entry refers to itself by
+-- `crossref` or `xdata`, directly or through others. No entry that lacks a required date refers in this way to an entry with an
+-- unreadable date (`is_bad_date`)
 pub record IsAccepted (says : FileReading) : Type 0 where
   pub own : List Entry
   pub entries : AreOwn says own
@@ -53,8 +54,8 @@ pub record IsCycleError (says : FileReading) (index : ℕ) (e : ParseError) : Ty
   pub is : e ≡ record { span = record { start = said.start; end = said.end }; kind = ReferenceCycle said.key.text }
 
 -- the first error of a raw bibliography. It is the first key claimed before or field that can't be parsed. If there is none,
--- it is the first entry that refers to itself, directly or through others. If there is none either, it is the first entry
--- that lacks a required date and refers to an entry with an unreadable date
+-- it is the first entry that refers to itself by `crossref` or `xdata`, directly or through others. If there is none either, it is
+-- the first entry that lacks a required date and refers in this way to an entry with an unreadable date
 pub data IsFirstErrorOf (says : FileReading) (e : ParseError) : Type 0 where
   entry : IsFirstErrorOfEntries (definition_in says.abbreviations) [] says.entries e → IsFirstErrorOf says e
   cycle : {own : List Entry} {index : ℕ} → AreOwn says own → IsFirstOnCycle (graph_of own) index → IsCycleError says index e

@@ -134,9 +134,9 @@ impl Bibliography {
     /// The error is that of the first case that applies, at its first place in the order of the file:
     ///
     /// 1. An entry has a key that an earlier entry claimed (`DuplicateKey`, at the entry), or a field can't be parsed.
-    /// 2. An entry refers to itself, directly or through others (`ReferenceCycle`, at the entry).
-    /// 3. An entry lacks a required date, and refers to an entry that has `year` but no `date`, and whose `year`, `month` and
-    /// `day` can't be parsed (`ResolutionError`). The span of the error is that of the first of these three fields that can't
+    /// 2. An entry refers to itself by `crossref` or `xdata`, directly or through others (`ReferenceCycle`, at the entry).
+    /// 3. An entry lacks a required date, and refers by these fields to an entry that has `year` but no `date`, and whose `year`,
+    /// `month` and `day` can't be parsed (`ResolutionError`). The span of the error is that of the first of these three fields that can't
     /// be parsed. For a day in the field `month`, it is in bytes of that field's text. An entry lacks a required date if its
     /// type requires one, and it has neither `date` nor `year`.
     ///
@@ -151,7 +151,7 @@ impl Bibliography {
     }
 
     /// Builds the bibliography like `from_raw`, and also returns the order in which entries inherited. The order contains the
-    /// index of each entry once, after the indices of all entries that it refers to.
+    /// index of each entry once, after the indices of all entries that it refers to by `crossref` or `xdata`.
     pub fn from_raw_counted(
         alloc: Global,
         raw: RawBibliography<'_>,

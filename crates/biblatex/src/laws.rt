@@ -1,5 +1,5 @@
-//! Laws of parsing, inheriting and writing. The functions do nothing: each is a theorem about the definitions, proved as a
-//! clause of its contract.
+//! Laws of parsing, inheriting and writing. The functions do nothing: each states theorems about the definitions, which are proved as the
+//! clauses of its contract.
 
 ghost use Rattle.std.specs.Prelude.{◌≡◌, ℕ, Bool, false, List, [], map};
 ghost use Rattle.std.specs.Str.{IsUtf8};
@@ -31,8 +31,8 @@ pub fn settled_is_read_again()
         IsReadAgain bibliography.entries (biblatex_text bibliography) }
 {}
 
-/// States that the inheritance equation has exactly one solution if no entry refers to itself, directly or through others.
-/// This holds for every graph that is in range. The graph of a file's entries is always in range.
+/// States that the inheritance equation has exactly one solution if no entry refers to itself in the graph, directly or through
+/// others. This holds for every graph that is in range. The graph of a file's entries is always in range.
 pub fn inherits_in_one_way()
     ensures in_range { (own : List Entry) → IsInRange (graph_of own) }
     ensures one { (own : List EntryTexts) (graph : Graph) → IsInRange graph → HasNoCycle graph →

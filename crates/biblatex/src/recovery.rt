@@ -40,7 +40,7 @@ impl Bibliography {
     /// entry, or the definitions of abbreviations. They end before the first that isn't complete, or before a missing comma.
     /// - An entry whose key an earlier kept entry claimed is left out (`DuplicateKey`), and so is a field that can't be
     /// parsed.
-    /// - An entry that refers to itself, directly or through others, loses its fields `crossref` and `xdata`
+    /// - An entry that refers to itself by `crossref` or `xdata`, directly or through others, loses these two fields
     /// (`ReferenceCycle`).
     /// - A name in a field that is neither defined nor the abbreviation of a month is replaced by its text
     /// (`UnknownAbbreviation`).

@@ -29,7 +29,7 @@ kind_fails F (kind.AbbreviationCycle n) memory text = text
 kind_fails F (kind.ReferenceCycle k) memory text = text
 kind_fails F kind.OutOfMemory memory text = memory
 
--- if `F` holds for `OutOfMemory`, and for `Refused` if the text has an error, it holds for the status of each of these errors
+-- if an error is out of memory or `R` holds, and `F` holds for `OutOfMemory`, and for `Refused` if `R` holds, `F` holds for its status
 error_fails : {Q R : Type 0} (F : Status → Type 0) (e : ParseError) → (e ≡ out_of_memory) ⊎ (Q × R) → F OutOfMemory
     → (R → F Refused) → F (status_of_error e)
 error_fails F e (inl is) memory text = subst (λ e. F (status_of_error e)) (sym is) memory

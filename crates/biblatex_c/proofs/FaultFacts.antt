@@ -6,8 +6,8 @@ use Rattle.bibkit_core.specs.declared.request.Lint.{Lint}
 use Rattle.bibkit_core.specs.declared.request.Style.TheVariants as style
 use Rattle.biblatex_c.specs.Calls.{AreFaults}
 
--- for a lint task with style JSON that neither selects nor ignores nor accepts findings, the texts before, for and after one file
--- with an empty name are the JSON array of all findings of the file
+-- for a lint task with style JSON, without a document and without a setting that leaves findings out, the texts before, for and after one
+-- file with an empty name are the JSON array of all findings of the file
 pub faults_found : {bytes begin found : List ℕ} (end : List ℕ) {status : ℕ} {lint : Lint} (begun ended : Linting)
     → BeginsLinting lint begun → lint.style ≡ style.Json
     → lint.selection.only.items ≡ [] → lint.selection.ignored.items ≡ [] → lint.selection.accepted ≡ None → lint.cited ≡ None

@@ -83,7 +83,7 @@ pub record IsWrittenAs (target : Target) (text answer : List ℕ) : Type 0 where
   pub is : answer ≡ exported_text target bibliography
 
 -- `answer` is a JSON array of all findings of `bytes`, each with an empty file name: no code is selected, ignored or switched off, no
--- finding is accepted, no name is one of a project, and no document is compared
+-- finding is accepted, there are no conditions, no name is one of a project, and no document is compared
 pub record AreFaults (bytes answer : List ℕ) : Type 0 where
   pub lint : Lint
   pub in_json : lint.style ≡ style.Json
@@ -184,9 +184,9 @@ pub record IsAddingRefused (text added : List ℕ) (why : EditError) : Type 0 wh
   pub refused : EntriesAreRefused document more why
 
 -- adding the second text to the first may fail with this status: `NotUtf8` only if one of them isn't UTF-8; `Refused` only if the first, or
--- the second with the line ends of the first, isn't a file of the grammar; `UnbalancedQuotes` only if one of these two has a text in quotes
--- whose braces aren't balanced; `OutOfMemory` always; `KeyIsThere`, `NotAKey` and `DefinitionIsThere` only if adding is refused with that
--- error; and no other status
+-- the second with line ends by `with_line_ends_of`, isn't a file of the grammar; `UnbalancedQuotes` only if one of these two has a text in
+-- quotes whose braces aren't balanced; `OutOfMemory` always; `KeyIsThere`, `NotAKey` and `DefinitionIsThere` only if adding is refused with
+-- that error; and no other status
 abbrev pub AddFails : List ℕ → List ℕ → Status → Type 0
 AddFails text added NotUtf8 = AllByRecursion IsUtf8 (text ∷ added ∷ []) → ⊥
 AddFails text added Refused = IsNoFile text ⊎ IsNoFile (with_line_ends_of text added)

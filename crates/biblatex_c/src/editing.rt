@@ -185,8 +185,9 @@ fn rename_in(alloc: Global, text: &[u8], old: &[u8], new: &[u8]) -> Result<Strin
 
 /// Writes the text with `new` as the key of the first entry `old`, also in the references to it. If `new` is `old`, the text is unchanged.
 /// Otherwise returns `KeyIsThere` if another entry has the name `new`, in any ASCII case, or this one has it in its field `ids`. Returns
-/// `NotAKey` if `old` is empty, or if `new` can't be a new key: BibTeX, Biber or bibtool misreads it, a reference to it is parsed as
-/// another text, or its citation means all entries. Returns `NotInBraces` if a changed reference can't be written in braces.
+/// `NotAKey` if the first entry `old` has an empty key, or if `new` can't be a new key: BibTeX, Biber or bibtool misreads it, a reference
+/// to it is parsed as another text, or its citation means all entries. Returns `NotInBraces` if a changed reference can't be written in
+/// braces.
 #[unsafe(no_mangle)]
 pub extern "C" fn biblatex_rename(
     alloc: Global,
@@ -244,7 +245,8 @@ fn add_to(alloc: Global, text: &[u8], added: &[u8]) -> Result<String, Status>
 /// Writes the text, a line end, and the text `added`. If the first line of the text ends with `\r\n`, the line end and each line end of
 /// `added` are `\r\n`. Otherwise the line end is `\n`, and `added` is unchanged. Returns `KeyIsThere` if an entry of `added` has a name of
 /// another entry, in any ASCII case. Returns `NotAKey` if the key of an entry of `added` can't be a new key (see [`biblatex_rename`]).
-/// Returns `DefinitionIsThere` if `added` defines an abbreviation that the text defines with another value, in any ASCII case of the name.
+/// Returns `DefinitionIsThere` if `added` defines an abbreviation that the text defines, in any ASCII case of the name, with other literals
+/// or abbreviations as its value.
 /// Returns `UnbalancedQuotes` if the text or `added` contains a text in quotes whose braces aren't balanced.
 #[unsafe(no_mangle)]
 pub extern "C" fn biblatex_add(

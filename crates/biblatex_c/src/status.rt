@@ -33,7 +33,7 @@ pub enum Status {
     NotAName,
     /// The value, or a changed reference to a renamed entry, can't be written in braces.
     NotInBraces,
-    /// An added abbreviation is defined already, in any ASCII case, with another value.
+    /// An added abbreviation is defined already, in any ASCII case, with other literals or abbreviations as its value.
     DefinitionIsThere,
     /// The entry would have no field left.
     NoFieldLeft,

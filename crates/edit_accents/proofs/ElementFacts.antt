@@ -133,7 +133,7 @@ record IsReadAt (e : Piece) (u v : Place) : Type 0 where
   element : Element longest u reading v
   alike : moved_piece (λ n. 0) reading ≡ moved_piece (λ n. 0) e
 
--- a piece parses again from its output, if neither a brace nor a quote was before it
+-- a piece parses again from its output before a character that can end a piece, if neither an opening brace nor a quote was before it
 kept_read : {a b u v : Place} {e : Piece} → Element longest a e b → b.at ≤ length a.text → NotOpened a
     → Stands u (piece_as_written Keep a.text e) v → Ending v → IsReadAt e u v
 kept_read {a} {b} {u} {v} {e} x within opened s ending = record {

@@ -1,4 +1,4 @@
--- Names of commands that no table has, since they are too long or too short.
+-- Names of commands that aren't names of accents or of letters, since they are too long or too short.
 use Rattle.std.proofs.Common.{◌≡◌, ℕ, ◌≤◌, Bool, true, false, cond, List, [], ◌∷◌, length, refl, sym, ap, ◌∙◌, Option, Some, None, arith}
 use Rattle.std.specs.Prelude.{bytes_eq, nat_lt, ◌||◌}
 use Rattle.std.specs.List.{list_all, list_any}

@@ -32,7 +32,8 @@ use Rattle.edit_accents.proofs.FitFacts.{dull_sign}
 
 -- ---- the commands for letters
 
--- a command in braces becomes this character, by itself and as the argument of an accent in braces; the command is longer than a character
+-- a command in braces becomes this character below U+0200, by itself and as the argument of an accent in braces; the command is longer
+-- than a character
 record IsReadLetter (name : List ℕ) (c : ℕ) : Type 0 where
   alone : with_characters (in_braces (92 ∷ name)) ≡ c ∷ []
   argument : decoded (signs Accent false (in_braces (92 ∷ name) ++ 125 ∷ [])) ≡ Grouped c ∷ Closing ∷ []

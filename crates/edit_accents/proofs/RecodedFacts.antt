@@ -18,7 +18,7 @@ use Rattle.edit_accents.specs.Recoded.{IsRecoded, changes_value, recoding, value
 use Rattle.edit_accents.specs.declared.recoding.Form.{Form}
 use Rattle.edit_accents.proofs.ElementFacts.{can_be_read}
 
--- the edits of a UTF-8 text are in order and don't overlap
+-- the edits that recode a UTF-8 text are in order and don't overlap
 pub in_order : (form : Form) (d : Document) → IsDocument d → IsUtf8 d.text
     → AreEditsInOrder d.text 0 (entry_edits (recoding form d.text) d.text d.says.entries)
 in_order form d read utf8 = exchange_in_order d (λ e. recoding form d.text) read utf8

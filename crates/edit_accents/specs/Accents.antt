@@ -276,7 +276,7 @@ decoded (s ∷ ss) = with_reduction (reduced s (decoded ss)) (decoded ss)
 
 -- ---- the text of signs
 
--- the spot after a character outside of the names of commands: an argument may come after a star and after an optional argument
+-- the spot after a character for which it is neither `Word` nor `Waits`: an argument may come after a star and after an optional argument
 abbrev pub spot_beside_names : ℕ → Spot
 spot_beside_names c = if list_any (λ d. c == d) (codes "*]") then Closed else Free
 

@@ -45,20 +45,20 @@ abbrev pub changes_piece : Form → Piece → Bool
 changes_piece form (literal p) = not (bytes_eq (text_recoded form p.text) p.text)
 changes_piece form (abbreviation p) = false
 
--- whether a field with this name belongs to another program, and its value also occurs elsewhere. Such fields contain groups of JabRef,
+-- whether a field with this name is one of four fields of other programs, whose values also occur elsewhere. They contain groups of JabRef,
 -- groups or tags of Mendeley, or the path of a file for BibDesk.
 abbrev pub is_program_field : List ℕ → Bool
 is_program_field name =
     str_eq_ignore_ascii_case name (codes "groups") || str_eq_ignore_ascii_case name (codes "mendeley-groups")
     || str_eq_ignore_ascii_case name (codes "mendeley-tags") || str_eq_ignore_ascii_case name (codes "local-url")
 
--- whether the value of a field with a name lists keys of entries or keywords, or the field is one of another program
+-- whether the value of a field with a name lists keys of entries or keywords, or the field is in `is_program_field`
 abbrev pub is_kept_field : List ℕ → Bool
 is_kept_field name =
     is_reference_field name || str_eq_ignore_ascii_case name (codes "ids") || str_eq_ignore_ascii_case name (codes "keywords")
     || is_program_field name
 
--- whether the value of a field may change: verbatim fields, fields with keys or keywords and fields of other programs stay the same
+-- whether the value of a field may change: verbatim fields, fields with keys or keywords and four fields of other programs stay the same
 abbrev pub is_recodable_field : FieldReading → Bool
 is_recodable_field f = not (is_verbatim_field (str_to_ascii_lowercase f.name.text)) && not (is_kept_field f.name.text)
 
@@ -76,6 +76,7 @@ value_recoded form text f =
 abbrev pub recoding : Form → List ℕ → Exchange
 recoding form text f = if changes_value form f then Some (value_recoded form text f) else None
 
--- a text is that of a document with the accents and letters in its entries written in a form, and parses to entries with these values
+-- a text is that of a document with the accents and letters in its entries written in a form, and parses to entries with these values,
+-- except for byte offsets
 abbrev pub IsRecoded : Form → Document → List ℕ → Type 0
 IsRecoded form d text = IsChanged (λ e. exchanges (recoding form d.text) e) d text

@@ -40,7 +40,7 @@ fn accent_name(mark: char) -> Option<char>
     }
 }
 
-// Returns the name of the command for a letter, or `None` if it has none.
+// Returns the name of the command for a letter, or `None` if none of `common_names` is for it.
 #[tactic(auto, unfolding(bib_contents::specs::Commands::accents, bib_contents::specs::Commands::symbols, bib_contents::specs::Commands::command_text))]
 fn letter_name(c: char) -> Option<&'static str>
     ensures { option_map (λ name. name.now) result ≡ spec.letter_name c }
@@ -74,7 +74,7 @@ fn named_command(alloc: Global, name: &str) -> Result<Vec<char>, AllocError>
     Ok(text)
 }
 
-// Returns the command for a letter, or `None` if it has none.
+// Returns the command for a letter, or `None` if `letter_name` has no name for it.
 fn letter_command(alloc: Global, c: char) -> Result<Option<Vec<char>>, AllocError>
     ensures { IfOk result (λ found. option_map (λ text. text.items) found ≡ spec.letter_command c) }
 {
@@ -84,7 +84,7 @@ fn letter_command(alloc: Global, c: char) -> Result<Option<Vec<char>>, AllocErro
     }
 }
 
-// Returns the text of a letter that an accent is put on, or `None` if `c` is neither an ASCII letter nor a letter with a command.
+// Returns the text of a letter that an accent is put on, or `None` if `c` is neither an ASCII letter nor a letter in `letter_name`.
 fn base_text(alloc: Global, c: char) -> Result<Option<Vec<char>>, AllocError>
     ensures { IfOk result (λ found. option_map (λ text. text.items) found ≡ spec.base_text c) }
 {
@@ -242,9 +242,9 @@ fn push_character(
     Ok(())
 }
 
-/// Returns a text with commands for the characters beyond ASCII that have one. Math between dollar signs, addresses, keys, characters
-/// on which a command puts an accent, escaped characters and characters before a combining character stay the same. The only error is
-/// out of memory.
+/// Returns a text with commands for the characters beyond ASCII that `command_for` has one for. Math between dollar signs, addresses and
+/// keys with the optional arguments before them, characters on which a command puts an accent, escaped characters and characters before
+/// a combining character stay the same. The only error is out of memory.
 pub(crate) fn with_commands(alloc: Global, text: &str) -> Result<String, AllocError>
     ensures { IfOk result (λ new. string_bytes new ≡ encode_utf8_all (spec.with_commands (chars text.now))) }
 {

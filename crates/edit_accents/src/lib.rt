@@ -5,7 +5,7 @@
 //! accent is put on a character that an inner command became, without recursion, and each sign is looked at a bounded number of times.
 //! Then the signs are written (`writing`). The braces around such a character are kept only if a command may take them as an argument.
 //!
-//! For commands, each character of text becomes one (`encoding`) if it is a letter with a command. It also does if its canonical
+//! For commands, each character of text becomes one (`encoding`) if it is a letter in `letter_name`. It also does if its canonical
 //! decomposition is an ASCII letter or such a letter, and the mark of one accent. An i or a j with an accent that programs read in
 //! different ways stays. Its stretch and the next character also decide whether a character stays.
 //!

@@ -210,7 +210,7 @@ fn is_program_field(name: &str) -> bool
         || name.eq_ignore_ascii_case("local-url")
 }
 
-// Returns whether the value of a field with a name lists keys of entries or keywords, or the field is one of another program.
+// Returns whether the value of a field with a name lists keys of entries or keywords, or the field is in `is_program_field`.
 fn is_kept_field(name: &str) -> bool
     ensures { result ≡ spec.is_kept_field name.now }
 {
@@ -220,8 +220,8 @@ fn is_kept_field(name: &str) -> bool
         || is_program_field(name)
 }
 
-// Returns whether the value of a field may change: verbatim fields, fields with keys or keywords and fields of other programs stay the
-// same.
+// Returns whether the value of a field may change: verbatim fields, fields with keys or keywords and four fields of other programs stay
+// the same.
 fn is_recodable(alloc: Global, field: &Pair<'_>) -> Result<bool, AllocError>
     ensures { IfOk result (λ b. b ≡ spec.is_recodable_field (field_of field.now)) }
 {
@@ -324,8 +324,9 @@ fn edits(
 }
 
 /// Returns the text of `document` with the accents and letters beyond ASCII in its entries written in the form `form`. LaTeX
-/// commands become characters, or characters become LaTeX commands. Verbatim fields, fields with keys or keywords, fields of other
-/// programs, math between dollar signs, and addresses and keys in commands stay the same. The only error is out of memory.
+/// commands become characters, or characters become LaTeX commands. Verbatim fields, fields with keys or keywords, four fields of other
+/// programs, math between dollar signs, and addresses and keys in commands with the optional arguments before them stay the same. The
+/// only error is out of memory.
 pub fn recode(alloc: Global, document: &RawDocument<'_>, form: Form) -> Result<String, AllocError>
     ensures { IfOk result (λ new. IsRecoded form document.now (string_bytes new)) }
 {

@@ -18,7 +18,7 @@ pub enum Sign {
     Opening,
     /// A closing brace that no backslash escapes.
     Closing,
-    /// Any other character.
+    /// A character of the text that is none of these.
     Plain(char),
     /// A character that a command became.
     Composed(char),
@@ -31,7 +31,7 @@ pub enum Sign {
 pub enum Stretch {
     /// Text.
     Text,
-    /// Text after the name of an accent, before its argument.
+    /// The name of an accent and the text after it, up to the first character of its argument.
     Accent,
     /// Math between dollar signs.
     Math,
@@ -40,7 +40,7 @@ pub enum Stretch {
     Address(usize),
 }
 
-// Returns whether a text begins with a word in the names of commands whose first argument in braces is an address or a key.
+// Returns whether a text begins with a word that names of commands contain whose first argument in braces is an address or a key.
 fn begins_address_word(text: &[char]) -> bool
     ensures { result ≡ spec.begins_address_word text.now }
 {

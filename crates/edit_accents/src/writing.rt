@@ -27,7 +27,7 @@ pub enum Spot {
     Closed,
 }
 
-// Returns the spot after a character that isn't part of a command's name.
+// Returns the spot after a character for which it is neither `Word` nor `Waits`.
 fn spot_beside_names(c: char) -> Spot
     ensures { result ≡ spec.spot_beside_names c }
 {

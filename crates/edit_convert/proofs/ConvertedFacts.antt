@@ -84,7 +84,7 @@ fields_can text fields replacement pending each waits (f ∷ fs) names =
       fields_can text fields replacement after each (stays_pending pending (replacement f) waits) fs names.1,
     )
 
--- the changes of entries for a dialect can be made
+-- the changes for a dialect of entries whose fields may be cut out can be made
 pub conversion_can : (dialect : Dialect) (defines : Bool) (text : List ℕ) (es : List EntryReading)
     → AllByRecursion (HaveFieldsPlaced text) es
     → AllByRecursion (λ e. CanEntryChange e (conversion dialect defines text e)) es

@@ -45,7 +45,7 @@ note_of_parts defines None None (Some type) sides none = absurd (cc)
 note_of_parts defines None None None (Some s) none = refl
 note_of_parts defines None None None None none = refl
 
--- the note on sides says whether they have parts that no style reads
+-- the note on sides says whether they have parts that no standard style reads
 pub note_of_sides : (defines b : Bool) (sides : Option Sides) (s : Sides) → sides ≡ Some s → has_unread_parts s ≡ b
     → cond b (Some PartsNotRead) None ≡ option_and_then (λ s. replaced_note (Replacement.with_parts defines s)) sides
 note_of_sides defines b sides s is unread =

@@ -31,7 +31,7 @@ other_type dialect kind =
     if is_unnamed_type kind || bytes_eq (entry_type_name (kind_in dialect kind)) (entry_type_name kind) then None
     else Some (entry_type_name (kind_in dialect kind))
 
--- the fields that have another name in a dialect in entries of a type, each with the dialect's name
+-- the fields that a conversion to a dialect can rename in entries of a type, each with the dialect's name
 abbrev pub other_names : Dialect → EntryType → List (List ℕ × List ℕ)
 other_names Biblatex kind = biblatex_names
 other_names Bibtex kind = names_in kind
@@ -65,7 +65,7 @@ times_named fields name = length (filter (has_name name) fields)
 abbrev pub is_date_free : List FieldReading → Bool
 is_date_free fields = (times_named fields (codes "date") == 1) && not (list_any (is_field_there fields) part_names)
 
--- the sides of a date that BibTeX has fields for. The argument is the text of the value, if the value is one literal.
+-- the sides of a date that can be divided into fields. The argument is the text of the value, if the value is one literal.
 abbrev pub value_sides : Option (List ℕ) → Option Sides
 value_sides None = None
 value_sides (Some text) = date_sides text
@@ -273,6 +273,6 @@ conversion dialect defines text e =
 abbrev pub document_conversion : Dialect → Document → EntryReading → EntryChange
 document_conversion dialect d = conversion dialect (defines_month d.says.abbreviations) d.text
 
--- a text is that of a document converted to a dialect, and it parses to the converted entries
+-- a text is that of a document converted to a dialect, and it parses to the converted entries, except for byte offsets
 abbrev pub IsConverted : Dialect → Document → List ℕ → Type 0
 IsConverted dialect d text = IsChanged (document_conversion dialect d) d text

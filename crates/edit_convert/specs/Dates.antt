@@ -1,5 +1,5 @@
 -- Meaning: words of public contracts.
--- The parts of a date in fields of their own, as BibTeX has them. Years and days are copied from the date.
+-- The parts of a date in fields of their own, for BibTeX. Years and days are copied from the date.
 use Rattle.std.specs.Prelude.{ℕ, Bool, ◌&&◌, ◌==◌, if◌then◌else◌, List, [], ◌∷◌, ◌++◌, length, codes, is_some, Option, Some, None}
 use Rattle.std.specs.Char.{is_ascii_digit}
 use Rattle.std.specs.List.{list_all, slice_split}
@@ -75,8 +75,8 @@ sides_of (from ∷ []) = one_side (side_in from)
 sides_of (from ∷ to ∷ []) = two_sides (side_in from) (side_in to)
 sides_of (from ∷ to ∷ other ∷ rest) = None
 
--- the sides of a date or a range that BibTeX has fields for. It parses as a date, and each side is a year in four ASCII digits, perhaps
--- with a month and a day in two each
+-- the sides of a date or a range that can be divided into fields. It parses as a date, and each side is a year in four ASCII digits,
+-- perhaps with a month and a day in two each
 abbrev pub date_sides : List ℕ → Option Sides
 date_sides text = if is_some (readable_value (date_of text)) then sides_of (slice_split (λ c. c == char.slash) text) else None
 

@@ -1,5 +1,5 @@
 -- Meaning: words of public contracts.
--- A year, a month and perhaps a day joined to the text of one date, as in BibLaTeX. The three fields are parsed as this date.
+-- A year, a month and perhaps a day joined to the text of one date, as in BibLaTeX. Their fields are parsed as this date.
 use Rattle.std.specs.Prelude.{ℕ, Bool, true, ◌&&◌, ◌||◌, if◌then◌else◌, List, [], ◌∷◌, is_some, not, Option, Some, None}
 use Rattle.std.specs.Char.{is_ascii_alphabetic}
 use Rattle.std.specs.List.{list_all}

@@ -49,7 +49,7 @@ kept_note dialect None f = dialect_note dialect f
 abbrev pub has_unread_parts : Sides → Bool
 has_unread_parts sides = is_some sides.from.day || is_some sides.to
 
--- the note on a field that is replaced: a date may have parts that no style reads
+-- the note on a field that is replaced: a date may have parts that no standard style reads
 abbrev pub replaced_note : Replacement → Option NoteKind
 replaced_note (Replacement.with_parts defines sides) = if has_unread_parts sides then Some PartsNotRead else None
 replaced_note change = None

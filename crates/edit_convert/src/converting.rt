@@ -357,9 +357,9 @@ fn edits(
 /// `journaltitle` and `location` become `journal` and `address`; in an entry whose type before the conversion is a thesis, `institution`
 /// becomes `school`. A name is kept if the entry has a field with the other name.
 ///
-/// **Dates.** For BibTeX a `date` is replaced by `year`, and by `month` and `day` if it has them. A range is also replaced by `endyear`,
-/// `endmonth` and `endday`. This is done if the entry has one `date` and none of these fields, and the value is one literal that
-/// parses as a date. Each side must be a year in four digits, perhaps with a month and a day in two each. A month is written as its
+/// **Dates.** For BibTeX a `date` is replaced by `year`, and by `month` and `day` if it has them. The end of a range is likewise replaced
+/// by `endyear`, `endmonth` and `endday`. This is done if the entry has one `date` and none of these fields, and the value is one literal
+/// that parses as a date. Each side must be a year in four digits, perhaps with a month and a day in two each. A month is written as its
 /// abbreviation. It is written as its English name in braces if the file defines the abbreviation of a month, since that may have
 /// another text.
 ///
@@ -371,9 +371,10 @@ fn edits(
 /// be removed.
 ///
 /// **Layout.** A new field is laid out like the field that it replaces or comes before. The white space before the name of that field is
-/// before each new field. Around the equals sign, a new field has the white space of that field. If that field has more than one byte
+/// before each new field. Around the equals sign, a new field has the spaces and tabs of that field. If that field has more than one byte
 /// before its equals sign, the new equals sign is in the same column. Otherwise it is in the column of the first field of the entry with
-/// more than one byte there, if there is one. `edit_entries::layout::sign_at` returns this text.
+/// more than one byte there, if there is one. If that field has any other character around its equals sign, one space is before and after
+/// the new one. `edit_entries::layout::sign_at` returns this text.
 ///
 /// # Errors
 ///

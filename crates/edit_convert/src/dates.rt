@@ -1,4 +1,4 @@
-//! Splits a date into fields of its parts, as in BibTeX.
+//! Splits a date into fields of its parts, for BibTeX.
 
 ghost use Rattle.std.specs.Prelude.{◌≡◌, ◌++◌, ◌<◌, ◌==◌, ◌∷◌, [], IfOk, OnOk, Some, is_some};
 ghost use Rattle.std.specs.List.{list_all, slice_split};
@@ -193,7 +193,7 @@ pub(crate) fn is_date(alloc: Global, text: &str) -> Result<bool, AllocError>
     }
 }
 
-// Returns the sides of a date or a range that BibTeX has fields for.
+// Returns the sides of a date or a range that can be divided into fields.
 pub(crate) fn date_sides<'t>(alloc: Global, text: &'t str) -> Result<Option<Sides<'t>>, AllocError>
     ensures { IfOk result (λ sides. option_map sides_as_written sides ≡ spec.date_sides text.now) }
 {

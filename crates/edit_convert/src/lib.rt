@@ -5,7 +5,7 @@
 //! `ConvertedFacts` that the changes of a conversion can be made. Years and days are copied from the date as texts.
 //!
 //! The parts of a date are joined by `bib_dates`, which parses and writes them, so the new date parses as the date of its parts
-//! (`JoinedFacts`). The last part is replaced by the date. Each other part is removed, up to the next field.
+//! (`JoinedTextFacts`). The last part is replaced by the date. Each other part is removed, up to the next field.
 #![tactic(auto)]
 
 mod changes;

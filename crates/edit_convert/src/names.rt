@@ -1,4 +1,4 @@
-//! Types and fields that have another name in a dialect.
+//! Types and fields that a conversion renames.
 
 ghost use Rattle.std.specs.Prelude.{◌≡◌, IfOk, map};
 ghost use Rattle.std.specs.List.{list_any};
@@ -42,7 +42,7 @@ pub(crate) fn other_type(dialect: Dialect, kind: &EntryType) -> Option<&'static 
     Some(other.name())
 }
 
-// Returns the fields that have another name in BibTeX in entries of a type, each with BibTeX's name.
+// Returns the fields that a conversion to BibTeX can rename in entries of a type, each with BibTeX's name.
 fn bibtex_names(kind: &EntryType) -> &'static [(&'static str, &'static str)]
     ensures { lent_names result.now ≡ spec.other_names Dialect.Bibtex kind.now }
 {
@@ -56,7 +56,7 @@ fn bibtex_names(kind: &EntryType) -> &'static [(&'static str, &'static str)]
     }
 }
 
-// Returns the fields that have another name in a dialect in entries of a type, each with the dialect's name.
+// Returns the fields that a conversion to a dialect can rename in entries of a type, each with the dialect's name.
 pub(crate) fn other_names(
     dialect: Dialect,
     kind: &EntryType,
@@ -73,7 +73,7 @@ pub(crate) fn other_names(
     }
 }
 
-// Returns whether a field has a name, in any ASCII case.
+// Returns whether one of these fields has this name, in any ASCII case.
 pub(crate) fn has_field(fields: &[Pair<'_>], name: &str) -> bool
     ensures { result ≡ spec.is_field_there (map field_of fields.now) name.now }
 {

@@ -29,8 +29,8 @@ use std::alloc::{AllocError, Global};
 pub enum NoteKind {
     /// The field keeps its name, because its entry has a field with the dialect's name for it.
     NameIsThere,
-    /// The field is a `date` that isn't replaced. Its value isn't one literal, BibTeX has no fields for it, or its entry already
-    /// has such fields or another `date`.
+    /// The field is a `date` that isn't replaced. Its value isn't one literal, is no date that can be divided, or its entry already
+    /// has fields of the parts of a date or another `date`.
     DateStays,
     /// The field is a `month` that isn't joined with a year to a date.
     MonthStays,

@@ -118,7 +118,7 @@ fn read_type(kind: &EntryType, fields: &[Pair<'_>]) -> Option<Printed>
     type_by_key(kind, key_in(value))
 }
 
-// Returns the type of BibTeX that is written instead of a field `type`; for BibLaTeX there is none.
+// Returns the type of BibTeX that an entry gets by its field `type`, if there is one; for BibLaTeX there is none.
 pub(crate) fn printed_type(
     dialect: Dialect,
     kind: &EntryType,

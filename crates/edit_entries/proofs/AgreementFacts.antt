@@ -1,4 +1,5 @@
--- A document that agrees with another up to a byte offset: its text, keys and fields before the offset are the same.
+-- A document that agrees with another up to a byte offset: its text before the offset is the same. It has, at the same indices, each key
+-- and each field of the other that ends at or before the offset.
 use Rattle.std.proofs.Common.{◌≡◌, inl, inr, ℕ, zero, suc, ◌+◌, ◌<◌, ◌≤◌, Bool, List, [], ◌∷◌, ◌++◌, length, map, take, drop, refl, sym, ap, ◌∙◌, subst, arith, Some}
 use Rattle.std.specs.Prelude.{encode_utf8, option_map, slice_get, slice_set}
 use Rattle.std.specs.Char.{len_utf8}
@@ -109,7 +110,7 @@ unmoved_field move at f stays within =
     ∙ ap (λ m. build f.name f.value.pieces m (move f.value.end)) (stays f.value.start within.value_start)
     ∙ ap (build f.name f.value.pieces f.value.start) (stays f.value.end within.value_end)
 
--- a field that ends at or before a byte offset isn't moved by a function that keeps byte offsets up to it
+-- a field of a document that ends at or before a byte offset isn't moved by a function that keeps byte offsets up to it
 pub field_stays : (d : Document) (k : ℕ) (e : EntryReading) (j : ℕ) (f : FieldReading) (move : ℕ → ℕ) (at : ℕ)
     → IsDocument d → slice_get d.says.entries k ≡ Some e → slice_get e.fields j ≡ Some f → f.value.end ≤ at
     → ((n : ℕ) → n ≤ at → move n ≡ n) → moved_field move f ≡ f
@@ -180,7 +181,8 @@ same_run {test} {u} {v} x y at same text within (step {v = w} {c = c} char passe
     step (same_character x y at same text (omega (arith, (ahead_run rest).at)) char) passes
     (same_run x y at same (char.same ∙ text) within rest)
 
--- an entry that agrees with an old one up to the start of an edit still agrees after its byte offsets move
+-- an entry that agrees with an old one up to the start of an edit still agrees after its byte offsets move. The stretch of the edit isn't
+-- empty
 pub moved_agrees : (d : Document) (edit : Edit) (k : ℕ) (e entry : EntryReading) → IsDocument d → edit.start < edit.end
     → slice_get d.says.entries k ≡ Some e → AgreesIn edit.start e entry
     → AgreesIn edit.start e (moved_entry (moved_place edit) entry)
@@ -197,7 +199,8 @@ moved_agrees d edit k e entry read some here agrees =
           ∙ ap Some (field_stays d k e j f (moved_place edit) edit.start read here there below stays);
     }
 
--- if documents agree up to an edit and an entry is replaced by one that agrees, each entry agrees with that at its index
+-- documents agree up to an edit, and an entry is replaced by one that agrees: each entry agrees with the old one at its index. The stretch
+-- of the edit isn't empty
 other_entries : (d after : Document) (edit : Edit) (k : ℕ) (e entry : EntryReading) → IsDocument d
     → Agrees edit.start d after → edit.start < edit.end → slice_get d.says.entries k ≡ Some e
     → AgreesIn edit.start e entry
@@ -227,7 +230,8 @@ other_entries d after edit k e entry read a some here agrees i x there =
       )
     ]
 
--- a document that agrees with another up to the start of an edit still agrees after the edit, if the new entry agrees too
+-- a document that agrees with another up to the start of an edit still agrees after the edit, if the new entry agrees too. The stretch of
+-- the edit isn't empty
 pub edited_agrees : (d after : Document) (edit : Edit) (k : ℕ) (e entry : EntryReading) → IsDocument d
     → Agrees edit.start d after → edit.start < edit.end → edit.start ≤ length after.text
     → slice_get d.says.entries k ≡ Some e

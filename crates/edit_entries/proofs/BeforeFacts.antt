@@ -40,7 +40,7 @@ bytes_stand edit text within =
       next = refl;
     }
 
--- a moved field whose name begins after `lead` bytes
+-- a moved field whose name begins after the bytes `lead` at its old start
 abbrev behind : FieldReading → List ℕ → (ℕ → ℕ) → FieldReading
 behind f lead move = record (moved_field move f) { name = text_at (f.name.start + length lead) f.name.text }
 
@@ -76,7 +76,8 @@ field_behind text f lead {u} {v} same inside_text field =
     ap (λ t. build t to.at) (between_stands name stands) ∙ ap (build name) (omega (arith, size)) in
     subst (λ p. Field longest from (record (moved_field move f) { name = p }) (goes edit text v)) named (r.field i3)
 
--- if a new field can be inserted, an edit of a field's name puts it and a comma before this field
+-- an edit of a field's name puts a new field and a comma before this field. The new field can be inserted, `sign` can be between its name
+-- and its value, and `white` is white space
 pub preceded_put : (d : Document) (f : FieldReading) (n : NewField) (sign white : List ℕ) → CanBePut n → IsSign sign → AreWhite white
     → IsIn d.text f → IsPut d f (name_edit f (field_before n sign white)) (field_reading n ∷ f ∷ [])
 preceded_put d f n sign white can is_sign all is = record {

@@ -90,7 +90,7 @@ stretch_some d k e j f end read here there ordered white =
     let blank : Run is_whitespace (place d.text end) g.end = subst (λ p. Run is_whitespace (place d.text end) p) last white in
     subst (λ n. n < end) (sym g.field.starts) (value_some g.field.elements value_at.text (omega (arith, g.field.starts)) blank)
 
--- an entry still agrees up to the start of an edit in a field after the edit replaces this field
+-- an entry still agrees up to the start of an edit in a field after the edit replaces this field. The stretch of the edit isn't empty
 field_agrees : (d : Document) (edit : Edit) (k : ℕ) (e entry : EntryReading) (j : ℕ) (f g : FieldReading) → IsDocument d
     → edit.start < edit.end → slice_get d.says.entries k ≡ Some e → slice_get e.fields j ≡ Some f
     → edit.start < f.value.end → AgreesIn edit.start e entry

@@ -60,9 +60,9 @@ name_put d f name can is = record {
 
 -- ---- changes that can be made
 
--- a field before others can have this change. Each new name is a name, and each new value parses to its pieces anywhere. The text between
--- a new name and its value is an equals sign with white space around it. The text between new fields is white space. A removed field has
--- another field after it.
+-- a field before others can have this change. Each new name is a name, and each new value parses to its pieces before each text that may
+-- follow a value. The text between a new name and its value is an equals sign with white space around it. The text after the comma of a
+-- new field is white space. A removed field has another field after it.
 abbrev pub CanChange : List FieldReading → FieldChange → Type 0
 CanChange following FieldChange.kept = Unit {0}
 CanChange following (FieldChange.preceded n sign white) = CanBePut n × IsSign sign × AreWhite white
@@ -238,7 +238,7 @@ module _ (d : Document) (changes : EntryReading → EntryChange) (read : IsDocum
       (kind_case before es others (edits ++ later) e now at change.kind can.0.kind whole order.1
       (omega (arith, order.2.some)) fields.made)
 
--- in a UTF-8 text, the value of each field may be cut out, and only white space is after the trimmed value
+-- in a UTF-8 text, the value of each field of an entry may be cut out, and only white space is between its trimmed end and its end
 pub values_placed : (d : Document) → IsDocument d → IsUtf8 d.text → OfFields (IsFieldPlaced d.text) d.says.entries
 values_placed d read utf8 =
     let all = all_placed d read in

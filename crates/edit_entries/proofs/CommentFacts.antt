@@ -68,7 +68,7 @@ commented {a} text at end (gap.line_comment {w = w} white m white') char plain b
       white' = subst (λ p. Longest is_whitespace p a) line.0 white';
     }
 
--- ---- the gap after a field
+-- ---- gaps with and without a percent sign
 
 -- a gap is white space if it ends where its ASCII white space ends, and no percent sign follows
 plain_gap : {a b : Place} {c : ℕ} (text : List ℕ) (at end : ℕ) → Gap longest (place text at) a → CharAt a c b → (c == 37) ≡ false

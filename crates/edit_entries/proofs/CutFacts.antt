@@ -100,7 +100,7 @@ fields_cut text same (fields.more field g comma g' rest) =
     let over = ahead_then (ahead_field field) (ahead_then (ahead_gap g) (ahead_then (ahead_char comma) (ahead_gap g'))) in
     (field_cut text same field, fields_cut text (over.text ∙ same) rest)
 
--- the text from a byte offset to a field's name may be cut out
+-- the text from a byte offset, at which the text may be cut, to the name of a field at or after it may be cut out
 name_cut : (text : List ℕ) (start : ℕ) {u v : Place} {f : FieldReading} → u.text ≡ text → start ≤ u.at
     → IsCharBoundary text start → Field longest u f v → CanBeCut text start f.name.start
 name_cut text start {u} {v} {f} same ordered cut field =

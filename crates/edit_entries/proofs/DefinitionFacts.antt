@@ -134,11 +134,11 @@ last_there test (x ∷ xs) (suc j) y here passes = last_after test x xs (last_th
 
 -- ---- definitions
 
--- names that are equal in any ASCII case are equal in lowercase
+-- names that are equal in any ASCII case are equal in ASCII lowercase
 pub lower_same : (m n : List ℕ) → is_word m n ≡ true → str_to_ascii_lowercase m ≡ str_to_ascii_lowercase n
 lower_same m n is = (bytes_eq-Decides (str_to_ascii_lowercase m) (str_to_ascii_lowercase n)).0 is
 
--- names that are equal in lowercase are equal in any ASCII case
+-- names that are equal in ASCII lowercase are equal in any ASCII case
 pub word_from : (m n : List ℕ) → str_to_ascii_lowercase m ≡ str_to_ascii_lowercase n → is_word m n ≡ true
 word_from m n same = (bytes_eq-Decides (str_to_ascii_lowercase m) (str_to_ascii_lowercase n)).1 same
 

@@ -63,7 +63,7 @@ number_until {f} z iu iv ending (number.broken char digit digits point others en
 abbrev pub before : Place → List ℕ
 before u = between (place u.text 0) (place u.text u.at)
 
--- neither a brace nor a quote is directly before this place
+-- neither an opening brace nor a quote is directly before this place
 pub record NotOpened (u : Place) : Type 0 where
   pub no_brace : ends_with eqb (before u) (codes "{") ≡ false
   pub no_quote : ends_with eqb (before u) (codes "\"") ≡ false

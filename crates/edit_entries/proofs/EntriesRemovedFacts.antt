@@ -34,7 +34,7 @@ use Rattle.edit_entries.proofs.SplitFacts.{FileBefore, ahead_file_before, split_
 
 -- ---- the start of the next entry
 
--- the byte offset at which the first of these entries begins, or else the end of the text
+-- the byte offset at which the first of these entries begins, or else `end`
 abbrev next_start : List EntryReading → ℕ → ℕ
 next_start [] end = end
 next_start (e ∷ es) end = e.start
@@ -123,7 +123,7 @@ same_rest start end text within =
     let same : start ≡ start + length {A = ℕ} [] = omega arith in
     ap (λ m. drop m (edited (record { start = start; end = end; bytes = [] }) text)) same ∙ after.rest start end [] text within
 
--- a document without its later entries with selected keys; no white space is at the byte offset `at`
+-- a document after edits of its later entries, as in `Chain`; no white space is at the byte offset `at` of its text
 pub record Removals (d : Document) (later : List Edit) (before rest : List EntryReading) (at : ℕ) : Type 0 where
   pub chain : Chain d later before rest at
   pub stops : Stops is_whitespace (place chain.after.text at)
@@ -143,7 +143,7 @@ removed_alike d new before rest e at alike =
     ∙ ap (of_entries (placeless d.says)) (taken_out view before rest e k refl ∙ sym (map-append view before rest))
 
 module _ (d : Document) (read : IsDocument d) where
-  -- if later entries are removed, the entry `e` and the white space after it can be removed too
+  -- if later entries are edited, as in `Removals`, the entry `e` and the white space after it can be removed too
   removal_step : (before es rest : List EntryReading) (later : List Edit) (e : EntryReading) (n : ℕ) → d.says.entries ≡ before ++ e ∷ es
       → AreEntriesCut d.text e.start (e ∷ es) → Longest is_whitespace (place d.text (e.end + 1)) (place d.text n)
       → Removals d later (before ++ e ∷ []) rest (next_start es (length d.text))
@@ -235,7 +235,7 @@ module _ (d : Document) (read : IsDocument d) where
       length_take (suc n) [] = omega arith
       length_take (suc n) (x ∷ xs) = omega (arith, length_take n xs)
 
-  -- if later entries are removed, the entry `e` can be kept
+  -- if later entries are edited, as in `Removals`, the entry `e` can be kept
   stays_step : (before es rest : List EntryReading) (later : List Edit) (e : EntryReading) → d.says.entries ≡ before ++ e ∷ es
       → AreEntriesCut d.text e.start (e ∷ es) → Removals d later (before ++ e ∷ []) rest (next_start es (length d.text))
       → Removals d later before (e ∷ rest) e.start

@@ -39,7 +39,7 @@ pub before_or_at : (edit : Edit) (text : List ℕ) {u : Place} → u.text ≡ te
 before_or_at edit text {u} same before below =
     record { text = same; start = omega arith; end = before; moved = ap (λ n. n + 0) (moved_before edit u.at below) }
 
--- the comma after the key of an entry ends after the start of the entry
+-- the comma after the key of an entry ends at or after the start of the entry
 pub ahead_to_comma : {u v : Place} {e : EntryReading} → (b : EntryBlock u e v) → Ahead u b.after_comma
 ahead_to_comma b =
     ahead_then (ahead_head b.head) (ahead_then (ahead_run b.key.run) (ahead_then (ahead_run b.white.run) (ahead_char b.comma)))
@@ -55,7 +55,8 @@ pub ahead_to_field : {u : Place} {says : FileReading} {e : EntryReading} {f : Fi
     → (g : FieldSplit s.block.fields_start e.fields f j s.block.brace) → Ahead u g.start
 ahead_to_field s g = ahead_then (ahead_file_before s.first) (ahead_then (ahead_to_fields s.block) (ahead_fields_before g.first))
 
--- if the stretch is in an entry and the new text has another entry there, it parses to the document with the other entry
+-- if the stretch is in an entry and the new text has another entry there, it parses to the document with the other entry. The stretch
+-- begins after the start of the entry
 pub entry_edited_read : (d : Document) (edit : Edit) (k : ℕ) (e e' : EntryReading) → Fits edit d.text
     → (s : EntrySplit (place d.text 0) d.says e k) → s.start.at < edit.start → edit.end ≤ s.end.at
     → Block longest (goes edit d.text s.start) (entry_alone e') (goes edit d.text s.end) → IsDocument (entry_edited d edit k e')
@@ -146,7 +147,8 @@ fields_edited_read d edit k e news {start} fits s before below past gap list =
     ))
     (omega (arith, past, (ahead_char b.closes).at)) (block_of block)
 
--- if the stretch is in a field and the new text has another field there, it parses to the document with the other field
+-- if the stretch is in a field and the new text has another field there, it parses to the document with the other field. The stretch
+-- begins after the start of the field
 pub field_edited_read : (d : Document) (edit : Edit) (k : ℕ) (e : EntryReading) (j : ℕ) (f f' : FieldReading) → Fits edit d.text
     → (s : EntrySplit (place d.text 0) d.says e k) → (g : FieldSplit s.block.fields_start e.fields f j s.block.brace)
     → g.start.at < edit.start → edit.end ≤ g.end.at

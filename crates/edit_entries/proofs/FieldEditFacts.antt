@@ -108,7 +108,7 @@ names_kept text old new e edits has =
 
 -- ---- all changes
 
--- if the name can be a new one and the value can be written, each entry can have its change by the edit
+-- each entry whose fields may be cut out can have its change by the edit. The name can be a new one, and the value can be written
 pub selected_can : (text : List ℕ) (definitions : List FieldReading) (at : ℕ) (keys : BTreeSet (Bor (List ℕ))) (edit : FieldEdit)
     (es : List EntryReading)
     → AllByRecursion (HaveFieldsPlaced text) es → CanBeNewName (edit_name edit) → HasFitValue definitions at edit

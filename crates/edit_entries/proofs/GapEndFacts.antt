@@ -222,7 +222,8 @@ comment_line {w} {x} {c} text sign end m char below within =
 
 -- ---- the end of a gap
 
--- a gap ends at `gap_end` if the byte there is ASCII and neither white space nor a percent sign
+-- a gap that ends before a character, at or before `end`, ends at `gap_end`. The byte there is ASCII and neither white space nor a percent
+-- sign
 pub gap_found : {v x : Place} {c : ℕ} (text : List ℕ) (at end b : ℕ) → Gap longest (place text at) v → CharAt v c x → v.at ≤ end
     → end ≤ length text → b < 128 → is_whitespace b ≡ false → (37 == b) ≡ false → has_byte_at text (gap_end text at end) b ≡ true
     → v ≡ place text (gap_end text at end)

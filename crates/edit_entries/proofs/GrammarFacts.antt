@@ -23,7 +23,7 @@ use Rattle.bib_syntax.proofs.FileFacts.{ahead_head, ahead_body, ahead_line_comme
 use Rattle.edit_entries.specs.Edits.{moved_part, moved_piece, moved_field, moved_entry, moved_file}
 use Rattle.edit_entries.proofs.ZoneFacts.{Frame, Zone, Inside, there, inside_between, char_there, char_back, stops_there, run_there, longest_there, parts_there, between_there, part_there}
 
--- a place before one in the zone is before the end of the zone
+-- a place at or before one that is before the end of the zone is before this end, too
 pub below_between : (f : Frame) {v w : Place} → Ahead w v → v.at < f.end → w.at < f.end
 below_between f {v} {w} ahead below = omega (arith, ahead.at)
 
@@ -166,7 +166,8 @@ line_before {u} {v} {w} {x} {c} m ahead char other =
           absurd (test_clash (not (c == 10)) (not_from_false (c == 10) other) (m.line.stops c x (subst (λ p. CharAt p c x) same char)))
     ]
 
--- a gap in the zone is a gap in the second text, if neither white space nor a percent sign comes after it there
+-- a gap in the zone is a gap in the second text, if a character other than a line feed follows it in the first text, and neither white
+-- space nor a percent sign in the second one
 pub gap_until : {f : Frame} {u v x : Place} {c : ℕ} → Zone f → Inside f u → Inside f v → CharAt v c x
     → (c == 10) ≡ false → Stops is_whitespace (there f v) → Stops (λ d. d == 37) (there f v) → Gap longest u v
     → Gap longest (there f u) (there f v)

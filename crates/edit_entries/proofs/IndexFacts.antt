@@ -58,7 +58,7 @@ gets_index old new name other index none same =
     given (bytes_eq name other) (index_for old other) (index_for new other) index
     (λ is. ap (λ n. is_some (index_for old n)) (sym ((bytes_eq-Decides name other).0 is)) ∙ none) same
 
--- if a name has an index in lowercase, giving it another one changes nothing
+-- if a name has an index in ASCII lowercase, giving it another one changes nothing
 pub has_word_index : {A : Type 0} (indices : BTreeMap (String A) ℕ) (low name other : List ℕ) (index : ℕ)
     → low ≡ str_to_ascii_lowercase name → is_some (get_by_text indices low) ≡ true
     → index_for_word indices other ≡ first_found (index_for_word indices other) (cond (is_word name other) (Some index) None)

@@ -229,7 +229,7 @@ module _ (first : List ℕ) where
 abbrev pub end_by : Bool → List ℕ
 end_by with_return = cond with_return (codes "\r\n") (codes "\n")
 
--- two documents with a line end between them
+-- two documents with the text `end` between them
 abbrev pub joined_by : List ℕ → Document → Document → Document
 joined_by end d more = record {
   text = d.text ++ (end ++ more.text);

@@ -1,4 +1,4 @@
--- An edit of one entry keeps the entries before it, and the edits of an entry depend only on the text up to its end.
+-- The byte offsets of an entry and its fields, the entries before an edit, and edits in a part of a text.
 use Rattle.std.proofs.Common.{◌≡◌, ℕ, zero, suc, ◌+◌, ◌<◌, ◌≤◌, List, [], ◌∷◌, ◌++◌, length, map, take, refl, ap, ◌∙◌, subst, arith, Some}
 use Rattle.std.specs.Prelude.{slice_get}
 use Rattle.std.specs.Str.{IsCharBoundary}

@@ -30,7 +30,7 @@ use Rattle.edit_entries.proofs.ValueFacts.{gap_stands}
 
 -- ---- the comma before a field
 
--- fields with the gaps and commas after them, from one place to another
+-- fields with the gaps around them and the commas after them, from one place to another
 pub data UpTo : Place → List FieldReading → Place → Type 0 where
   nothing : {u : Place} → UpTo u [] u
   more : {u v w x y z : Place} {f : FieldReading} {fs : List FieldReading} → Gap longest u v → Field longest v f w → Gap longest w x
@@ -133,7 +133,8 @@ LeftGap d edit u v w =
     → Inside (after_frame edit d.text) v → Inside (after_frame edit d.text) w → w.at < length d.text + 1
     → Gap longest (goes edit d.text u) (goes edit d.text w)
 
--- an edit from after the comma before a field up to the next fields removes it, if a gap is left between them
+-- an edit from after the comma before a field up to the next fields removes it, if a gap is left between them. A character begins at the
+-- start of the edit in the old and in the new text
 pub cut_removed : (d : Document) (k : ℕ) (e : EntryReading) (j : ℕ) (f : FieldReading) (edit : Edit)
     → (s : EntrySplit (place d.text 0) d.says e k) → (g : FieldSplit s.block.fields_start e.fields f j s.block.brace)
     → {end : ℕ} → (c : CommaBefore s.block.after_comma g.before end g.start)
@@ -226,7 +227,7 @@ border_left edit text none ordered r closes =
           (char_there z2 jr jn opens.here),
     )
 
--- the comma of a field ends after the start of the field
+-- `comma_end` of a field is after the start of the field
 pub comma_past : (text : List ℕ) (e : EntryReading) (j : ℕ) (f : FieldReading) {u v : Place} → Field longest u f v
     → u.at < comma_end text e j f
 comma_past text e j f {u} field =
@@ -360,7 +361,7 @@ surroundings d k e j f read here there' trimmed comma closed =
       after = comma_place d k e j f a comma;
     }
 
--- the comma of a field ends in its entry, if a comma is found before the field, and a comma or a closing brace after it
+-- `comma_end` is at or before the end of the entry, if a comma is found before the field, and a comma or a closing brace after it
 pub comma_within : (d : Document) (k : ℕ) (e : EntryReading) (j : ℕ) (f : FieldReading) → IsDocument d
     → slice_get d.says.entries k ≡ Some e → slice_get e.fields j ≡ Some f → IsTrimmed d.text f
     → has_byte_at d.text (comma_before d.text e j f) 44 ≡ true → is_closed d.text e j f ≡ true → comma_end d.text e j f ≤ e.end

@@ -43,7 +43,7 @@ pub piece_placeless : (move : ℕ → ℕ) (e : Piece) → moved_piece (λ n. 0)
 piece_placeless move (literal p) = refl
 piece_placeless move (abbreviation p) = refl
 
--- the bytes of a piece parse to this piece anywhere
+-- the bytes of a piece parse to this piece before each text that may follow a value
 pub element_read : {a b : Place} {e : Piece} (bytes : List ℕ) → Element longest a e b → b.at ≤ length a.text
     → between a b ≡ bytes → CanBeRead (record { bytes = bytes; pieces = e ∷ [] })
 element_read {a} {b} {e} bytes x within is = λ u v w s ending over no_hash.

@@ -1,4 +1,4 @@
--- A field with another value: the bytes of the value parse to its pieces anywhere.
+-- A field with another value: the bytes of the value parse to its pieces before each text that may follow a value.
 use Rattle.std.proofs.Common.{◌≡◌, inr, ℕ, ◌+◌, ◌<◌, ◌≤◌, true, List, [], ◌∷◌, ◌++◌, length, drop, map, refl, sym, ap, ◌∙◌, subst, arith, Some}
 use Rattle.std.specs.Prelude.{◌==◌, not, ◌&&◌, slice_get}
 use Rattle.std.specs.Char.{is_whitespace, is_control}
@@ -238,7 +238,7 @@ record IsReplaced (d : Document) (edit : Edit) (k : ℕ) (e : EntryReading) (j :
   within : edit.start ≤ length d.text
   read : IsDocument (field_edited d edit k e j (with_pieces reading (moved_field (moved_place edit) f)))
 
--- an edit replaces the value of a field without the white space after it
+-- an edit replaces the value of a field, possibly without white space at the end of the value
 abbrev pub IsStretch : List ℕ → FieldReading → Edit → Type 0
 IsStretch text f edit =
     (edit.start ≡ f.value.start) × (edit.start ≤ edit.end)

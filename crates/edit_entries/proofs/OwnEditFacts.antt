@@ -150,7 +150,7 @@ module _ (d : Document) (before others : List EntryReading) (e : EntryReading) (
   is_here : slice_get d.says.entries k ≡ Some e
   is_here = ap (λ es. slice_get es k) whole ∙ get_here before e others
 
-  -- if no field has the name, nothing is edited
+  -- if no field from an index on has the name, nothing is edited
   abbrev untouched : (fb fs : List FieldReading) → e.fields ≡ fb ++ fs → list_any (has_name name) fs ≡ false
       → OwnRemoved d before others e name fb fs []
   untouched fb fs cut none = record {
@@ -170,7 +170,8 @@ module _ (d : Document) (before others : List EntryReading) (e : EntryReading) (
     none = λ is. refl;
   }
 
-  -- a field with the name is removed after later ones, if its edit removes it in the old and in the edited document
+  -- a field with the name is removed after later ones, if its edit removes it in the old and in the edited document. Its edit ends at or
+  -- before those of the later ones
   one_more : (fb : List FieldReading) (f : FieldReading) (fs : List FieldReading) (edits : List Edit) (edit : Edit)
       → e.fields ≡ fb ++ f ∷ fs → (rest : OwnRemoved d before others e name (fb ++ f ∷ []) fs edits) → has_name name f ≡ true
       → LineRemoved d k e (length fb) f (comma_at d.text e (length fb) + 1) edit

@@ -153,7 +153,7 @@ first_in : (text : List ℕ) (at end : ℕ) (fs : List FieldReading) → AreFiel
 first_in text at end [] order = (omega arith, order)
 first_in text at end (f ∷ fs) order = (order.0, (omega arith, order.1, order.2))
 
--- an edit that ends at the trimmed end of a value, and edits after the value, are in order
+-- an edit that begins at or before a value and ends at its trimmed end, and edits after the value, are in order
 stretch_in_order : (text : List ℕ) (at start : ℕ) (f : FieldReading) (bytes : List ℕ) (more : List Edit) → at ≤ start
     → start ≤ f.value.start → IsCharBoundary text start → IsFieldPlaced text f → AreEditsInOrder text f.value.end more
     → AreEditsInOrder text at ((record { start = start; end = value_end text f; bytes = bytes }) ∷ more)

@@ -30,7 +30,7 @@ module _ (x y : List ℕ) (at : ℕ) (same : take at x ≡ take at y) where
   after_prefix test start end first last =
       ap (λ l. start + prefix_len test l) (same_bytes x y at start (end - start) same (omega (arith, first, last)))
 
-  -- `gap_end` is the same in both texts, if the gap is before the byte offset
+  -- `gap_end` is the same in both texts, if its start and its bound are before the byte offset
   pub gap_prefix : (start end : ℕ) → start < at → end < at → gap_end x start end ≡ gap_end y start end
   gap_prefix start end first last =
       let s : ℕ = after_bytes is_ascii_whitespace y start end in
@@ -46,7 +46,7 @@ module _ (x y : List ℕ) (at : ℕ) (same : take at x ≡ take at y) where
       ∙ ap (λ m. cond (has_byte_at y s 37) m s)
       (after_prefix is_ascii_whitespace n end (omega (arith, n_in)) (omega (arith, last)))
 
-  -- the first byte that fails a test is the same in both texts if it is before the byte offset, whatever the end is
+  -- if the first byte that fails a test is before the byte offset, it is at the same place in both texts, for each end at or after it
   after_found : (test : ℕ → Bool) (start end end' n c : ℕ) → after_bytes test y start end ≡ n → has_byte_at y n c ≡ true
       → test c ≡ false → n < at → n ≤ end' → end' ≤ length x → after_bytes test x start end' ≡ n
   after_found test start end end' n c is byte fails less below within =
@@ -69,7 +69,7 @@ module _ (x y : List ℕ) (at : ℕ) (same : take at x ≡ take at y) where
       by_order (inr up) (inl after) none1 none2 = absurd (none2 after)
       by_order (inr up) (inr down) none1 none2 = omega (arith, up, down)
 
-  -- a gap before a comma ends at the same byte offset in both texts, whatever the end is
+  -- if `gap_end` is that of a comma before the byte offset, it is the same in both texts, for each end at or after it
   pub gap_found_there : (start end end' g : ℕ) → gap_end y start end ≡ g → has_byte_at y g 44 ≡ true → g < at → g < end
       → end ≤ length y → g ≤ end' → end' ≤ length x → gap_end x start end' ≡ g
   gap_found_there start end end' g is byte less before within below within' = by_case (has_byte_at y s 37) refl is

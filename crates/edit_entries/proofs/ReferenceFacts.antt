@@ -1,4 +1,4 @@
--- Comma lists of keys.
+-- The first element of a list that passes a test, and joined lists.
 use Rattle.std.proofs.Common.{◌≡◌, ℕ, zero, suc, ◌<◌, Bool, true, false, cond, List, [], ◌∷◌, ◌++◌, map, length, get_or, take, refl, sym, ap, ◌∙◌, arith, Option, Some, None}
 use Rattle.std.specs.Prelude.{◌||◌, is_some, option_map}
 use Rattle.std.specs.List.{find, flat_map, join_by, list_any}

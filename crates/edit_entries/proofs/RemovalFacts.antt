@@ -58,14 +58,14 @@ pub record Removed (d : Document) (before others : List EntryReading) (e : Entry
   pub kept : (i : ℕ) (x : EntryReading) → i < length before → slice_get d.says.entries i ≡ Some x → slice_get after.says.entries i ≡ Some x
   pub alike : placeless after.says ≡ placeless (of_entries d.says (before ++ with_fields e (fb ++ unnamed name fs) ∷ others))
 
--- an entry begins before its fields
+-- an entry begins at or before each of its fields
 pub start_in_fields : (d : Document) (k : ℕ) (e : EntryReading) (j : ℕ) (f : FieldReading) → IsDocument d
     → slice_get d.says.entries k ≡ Some e → slice_get e.fields j ≡ Some f → e.start ≤ f.name.start
 start_in_fields d k e j f read here there =
     let at = entry_inside d k e read here in
     omega (arith, at.kind_start, at.kind, at.key_start, at.key, (field_inside d k e j f read here there).start)
 
--- after a field is removed, the next field or the closing brace begins at the start of the edit
+-- after an edit without new bytes up to the next field or the closing brace, this begins at the start of the edit
 limit_moved : (edit : Edit) (o : Option FieldReading) (end : ℕ) → option_map_or (λ f. f.name.start) o end ≡ edit.end
     → edit.bytes ≡ []
     → option_map_or (λ f. f.name.start) (option_map (moved_field (moved_place edit)) o) (moved_place edit end)
@@ -73,7 +73,8 @@ limit_moved : (edit : Edit) (o : Option FieldReading) (end : ℕ) → option_map
 limit_moved edit None end is none = omega (arith, moved_after edit end (omega arith), is, ap length none)
 limit_moved edit (Some f) end is none = omega (arith, moved_after edit f.name.start (omega arith), is, ap length none)
 
--- an edit removes the field after `fb` of an entry: the fields and entries before it are kept, and the reading is that without the field
+-- an edit of `after` removes the field after `fb` of an entry. The fields and entries before it are kept. The reading is that of `d`
+-- without this field and without those of the fields `fs` after it that have the name
 pub record FieldCutOut (d after : Document) (before others : List EntryReading) (e x : EntryReading) (name : List ℕ)
     (fb fs : List FieldReading) (edit : Edit) : Type 0 where
   pub here : slice_get (field_cut after (length before) x (length fb) edit).says.entries (length before)

@@ -145,7 +145,7 @@ put_can text name value e first others are can_name can_value within = record {
       );
 }
 
--- fields that all have the value get no edits
+-- fields of which none has the name and another value get no edits
 pub no_value_edits : (text name : List ℕ) (value : SetValue) (fs : List FieldReading) → list_any (has_other_value name value) fs ≡ false
     → edits_of_fields text fs (map (set_change name value) fs) ≡ []
 no_value_edits text name value [] none = refl

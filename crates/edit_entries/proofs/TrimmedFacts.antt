@@ -54,7 +54,7 @@ trimmed_known text f utf8 placed =
 
 -- ---- the stretches are in order
 
--- the value of a field may be cut out, and only white space is after its trimmed end
+-- the value of a field may be cut out, and only white space is between its trimmed end and its end
 pub record IsFieldPlaced (text : List ℕ) (f : FieldReading) : Type 0 where
   pub placed : IsPlaced text f
   pub trimmed : IsTrimmed text f

@@ -139,7 +139,7 @@ braced_part value b =
     (omega (arith, b.closes.next, length-in_braces value)) in
     b.reading ∙ ap (λ u. part u b.following) first ∙ ap (part (place (in_braces value) 1)) last
 
--- the text between braces, moved to a byte offset, is the text there
+-- if a text in braces is moved to the byte offset `at`, the text between the braces is at `at + 1`
 moved_inner : (value : List ℕ) (start at : ℕ) → at ≡ start
     → moved_part (λ n. n + start) (part (place (in_braces value) 1) (place (in_braces value) (length value + 1)))
     ≡ text_at (at + 1) value
@@ -150,7 +150,7 @@ moved_inner value start at is =
     ap (λ t. build t (1 + start) (length value + 1 + start)) (inner_text value)
     ∙ ap (λ n. build value n (length value + 1 + start)) first ∙ ap (build value (at + 1)) last
 
--- the bytes of a text in braces parse to this text anywhere
+-- the bytes of a text in braces parse to this text before a character and at the end of a text
 pub braced_stands : (whole rest value : List ℕ) (at : ℕ) → CanStandInBraces value
     → drop at whole ≡ in_braces value ++ rest → Border (place whole (at + length (in_braces value)))
     → Braced (place whole at) (text_at (at + 1) value) (place whole (at + length (in_braces value)))

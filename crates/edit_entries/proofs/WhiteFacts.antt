@@ -1,4 +1,4 @@
--- White space at the start of a text.
+-- A text that is cut at the start of a suffix.
 use Rattle.std.proofs.Common.{◌≡◌, ℕ, ◌-◌, ◌≤◌, List, length, drop, sym, ap, ◌∙◌, subst, arith, inl, inr, length-drop}
 use Rattle.std.specs.Str.{IsUtf8, IsCharBoundary}
 use Rattle.std.proofs.lemmas.Bool.{cases_lt}

@@ -109,7 +109,7 @@ char_there_last {f} {u} {v} {c} z iu end char =
     copied f.old f.new (drop v.at f.old) u.at (f.move u.at) c here
     (bytes_there z u.at (len_utf8 c) (f.move u.at) iu.start (omega arith) iu.moved)
 
--- a character at a moved place of the zone is in the first text, too
+-- a character at the moved place of a place before the end of the zone is at this place of the first text, too
 pub char_back : {f : Frame} {u w : Place} {c : ℕ} → Zone f → Inside f u → u.at < f.end → CharAt (there f u) c w
     → CharAt u c (place u.text (u.at + len_utf8 c))
 char_back {f} {u} {w} {c} z iu below char =
@@ -166,7 +166,8 @@ part_there {f} {u} {v} z iu iv ahead =
     let build : List ℕ → Part = λ (t : List ℕ). record { text = t; start = f.move u.at; end = f.move v.at } in
     ap build (between_there z iu iv ahead)
 
--- if both texts have the same length from the start of the zone on, the end of the first is moved to that of the second
+-- if both texts have the same length from the start of the zone on, the end of the first text, in the zone or at its end, is moved to the
+-- end of the second
 pub end_there : {f : Frame} {u : Place} → Inside f u → length f.old + f.to ≡ length f.new + f.from → AtEnd u → AtEnd (there f u)
 end_there {f} {u} iu same end =
     let size : length u.text ≡ length f.old = ap length iu.text in

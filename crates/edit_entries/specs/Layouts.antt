@@ -1,5 +1,5 @@
 -- Meaning: words of public contracts.
--- The text between the name and the value of a new field: as in the other fields of its entry.
+-- The text between the name and the value of a new field: as in the other fields of its entry, or ` = `.
 use Rattle.std.specs.Prelude.{◌==◌, ◌&&◌, ◌||◌, ℕ, ◌+◌, ◌-◌, max, Bool, if◌then◌else◌, List, [], ◌∷◌, ◌++◌, Option, Some, None, codes, length, nat_lt, replicate}
 use Rattle.std.specs.List.{after_first, before_first, list_all}
 use Rattle.bib_text.specs.Characters as char
@@ -51,11 +51,11 @@ sign_in_column text name column f =
     else codes " = "
 
 -- The text between the name and the value of a new field before these, of which this is the first. The column is that of the first field
--- with more than one byte before its equals sign, if there is one.
+-- with more than one byte between its name and its equals sign, if there is one.
 abbrev pub new_sign : List ℕ → List ℕ → FieldReading → List FieldReading → List ℕ
 new_sign text name first fields = sign_in_column text name (wide_column text fields) first
 
 -- The text between the name and the value of a new field that replaces a field or comes before it; the list has all fields of the entry.
--- The column is that of this field if it has more than one byte before its equals sign, or else that of the first such field.
+-- The column is that of this field if it has more than one byte between its name and its sign, or else that of the first such field.
 abbrev pub sign_at : List ℕ → FieldReading → List FieldReading → List ℕ → List ℕ
 sign_at text f fields name = new_sign text name f (f ∷ fields)

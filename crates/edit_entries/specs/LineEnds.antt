@@ -1,5 +1,5 @@
 -- Meaning: words of public contracts.
--- Texts with the line ends of a file.
+-- Texts that get the carriage returns of a file's line ends.
 use Rattle.std.specs.Prelude.{◌&&◌, ◌==◌, ℕ, List, [], ◌∷◌, ◌++◌, bytes_eq, codes, encode_utf8_all, if◌then◌else◌, not}
 use Rattle.std.specs.Str.{chars}
 use Rattle.bib_text.specs.Characters as char
@@ -14,8 +14,8 @@ abbrev pub with_returns : ℕ → List ℕ → List ℕ
 with_returns before [] = []
 with_returns before (c ∷ cs) = with_return before c ++ with_returns c cs
 
--- a text with the line ends of a file. If the file's line end is a carriage return and a line feed, each line feed has a carriage return
--- before it. Otherwise the text is kept
+-- a text with the carriage returns of a file's line ends. If the file's line end is a carriage return and a line feed, each line feed
+-- has a carriage return before it. Otherwise the text is kept
 abbrev pub with_line_ends_of : List ℕ → List ℕ → List ℕ
 with_line_ends_of file text =
     if bytes_eq (line_end_of file) (codes "\n") then text else encode_utf8_all (with_returns char.space (chars text))

@@ -1,4 +1,4 @@
--- Machinery: words of private contracts.
+-- Meaning: words of public contracts.
 -- New keys by the indices of entries, and the indices of entries by names, as they are looked up.
 use Rattle.std.specs.Prelude.{ℕ, String, if◌then◌else◌, codes, List, Option, None, map, option_and_then}
 use Rattle.std.specs.Borrow.{Bor}

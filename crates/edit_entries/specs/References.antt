@@ -140,7 +140,7 @@ renaming names keys index (e ∷ rest) =
 abbrev pub key_renaming : (ℕ → Option (List ℕ)) → List EntryReading → List Change
 key_renaming keys entries = renaming (new_reference entries keys) keys 0 entries
 
--- the document after changes, made from the last to the first, so that the others keep their byte offsets
+-- the document after changes, made from the last to the first, so that the changes still to be made keep their byte offsets
 pub data Changed (d : Document) : List Change → Document → Type 0 where
   none : Changed d [] d
   key : {after : Document} {changes : List Change} {p : Part} {new : List ℕ} {e : EntryReading} → (k : ℕ)

@@ -1,4 +1,4 @@
-//! A bibliography file's text with its raw reading.
+//! A bibliography file's text with its raw reading, and the edits of it.
 
 ghost use Rattle.std.specs.Prelude.{◌≡◌, ◌⊎◌, IfOk, IfErr, MatchOption, OnOk, length};
 ghost use Rattle.std.specs.String.{string_bytes};
@@ -100,7 +100,7 @@ impl<'s> RawDocument<'s> {
     /// Returns the text with a field of the first entry with `key` set: each field with `name`, in any ASCII case, gets `value`. A text is
     /// written in braces, a number or the name of an abbreviation as it is. BibTeX reads the first of several fields with one name, Biber
     /// and this library the last. A field that already has this value is kept. If the entry has no such field, a new one comes before the
-    /// others, laid out like them.
+    /// others, laid out like them, or with ` = ` if the first has other characters than spaces and tabs around its equals sign.
     ///
     /// # Errors
     ///
@@ -135,8 +135,8 @@ impl<'s> RawDocument<'s> {
     /// become one line. If only the comment before the field is there, the field is removed with its lines, so the closing brace keeps its
     /// column.
     ///
-    /// In these cases the text from the name up to the next field or the closing brace is removed, with the comments in it. If this is the
-    /// case for one of several fields with the name, it is done for each of them.
+    /// In the following cases the text from the name up to the next field or the closing brace is removed, with the comments in it. If one
+    /// of several fields with the name is such a case, this is done for each of them.
     ///
     /// - A comment is after the comma before the field, and a later field has the same name.
     /// - A comment is after the comma before the field, and the next field or the closing brace is on the line on which the field ends.
@@ -302,13 +302,13 @@ impl<'s> RawDocument<'s> {
     }
 
     /// Returns the text, its line end (`\r\n` if the first line of the text ends so, otherwise `\n`), and the text of `more`. That text is
-    /// copied as it is; `with_line_ends_of` returns it with the line ends of this document.
+    /// copied as it is; `with_line_ends_of` returns it with `\r\n` at its line ends if this document has these.
     ///
     /// # Errors
     ///
     /// `KeyIsThere` if an entry of `more` has a name, in any ASCII case, of an entry of this document or of an earlier entry of `more`. The
     /// names of an entry are its key and the names in its field `ids`. `NotAKey` if the key of an entry of `more` can't be a new key (see
-    /// `EditError::NotAKey`). `DefinitionIsThere` if both documents define an abbreviation, in any ASCII case, with different values.
+    /// `EditError::NotAKey`). `DefinitionIsThere` if both documents define an abbreviation, in any ASCII case, with different pieces.
     pub fn add_entries(&self, alloc: Global, more: &RawDocument<'_>) -> Result<String, EditError>
         ensures added { IfOk result (λ text. IsEdited (EntriesAdded self.now more.now) (string_bytes text)) }
         ensures refused { IfErr result (EntriesAreRefused self.now more.now) }

@@ -42,7 +42,8 @@ pub(crate) fn edited(
     Ok(new)
 }
 
-/// Returns the text with these edits made. Their stretches are in order, and don't overlap. The only error is out of memory.
+/// Returns the text with these edits made. Their stretches are in order, don't overlap, and begin and end at character boundaries. The
+/// only error is out of memory.
 pub fn edited_all(alloc: Global, text: &str, edits: &[Edit]) -> Result<String, AllocError>
     requires { AreEditsInOrder text.now 0 (map edit_of edits.now) }
     ensures { IfOk result (λ new. string_bytes new ≡ spec.edited_all (map edit_of edits.now) text.now) }

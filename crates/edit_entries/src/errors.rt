@@ -31,7 +31,8 @@ pub enum EditError {
     /// entry. BibTeX requires this order.
     #[error("the value is neither a number nor an abbreviation that is defined before the entry")]
     NotBare,
-    /// An abbreviation is defined already, in any ASCII case, with another value: uses of it would change their value.
+    /// An abbreviation is defined already, in any ASCII case, with other literals or abbreviations as its value: uses of it could change
+    /// their value.
     #[error("an abbreviation is defined already with another text")]
     DefinitionIsThere,
     /// The entry would have no field left. bibtool doesn't read such an entry, and loses the one after it too.

@@ -25,7 +25,7 @@ use bib_text::spanned::Spanned;
 use std::alloc::{AllocError, Global};
 use std::collections::BTreeSet;
 
-/// An edit of a field of several entries at once.
+/// An edit of a field of several entries at once. Names match in any ASCII case.
 #[derive(Debug, Clone, Copy)]
 pub enum FieldEdit<'a> {
     /// Each field with the name gets the value. An entry with fields, but none with the name, gets a new one.

@@ -1,4 +1,4 @@
-//! Documents one after another.
+//! Joins the texts of two documents, and checks whether their entries share a name.
 
 ghost use Rattle.std.specs.Prelude.{◌≡◌, ◌||◌, ◌++◌, ℕ, List, IfOk, MatchBool, OnOk, map};
 ghost use Rattle.std.specs.BTreeSet.{contains_text};

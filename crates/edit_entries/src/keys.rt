@@ -1,4 +1,4 @@
-//! New keys.
+//! Texts that can be new keys, and entries that may get them.
 
 ghost use Rattle.std.specs.Prelude.{◌≡◌, ℕ, List, MatchBool, MatchOption, Some, map, option_map};
 ghost use Rattle.bib_syntax.specs.Views.{entry_reading_of};

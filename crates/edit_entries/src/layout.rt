@@ -84,7 +84,8 @@ fn push_spaces(out: &mut String, count: usize) -> Result<(), AllocError>
     Ok(())
 }
 
-// Appends the white space before the equals sign of a new field: spaces up to the column, if there is one, or else `white`.
+// Appends the white space before the equals sign of a new field: spaces up to the column, at least one, or `white` if there is
+// no column.
 fn push_before_sign(
     out: &mut String,
     name: &str,
@@ -100,6 +101,7 @@ fn push_before_sign(
 }
 
 // Returns the text between the name and the value of a new field beside `field`, with its equals sign in the column, if there is one.
+// Returns ` = ` if `field` has any other character than spaces and tabs around its sign.
 fn sign_in_column(
     alloc: Global,
     text: &str,
@@ -140,9 +142,9 @@ pub(crate) fn new_sign(
 /// the entry.
 ///
 /// If `field` has more than one byte between its name and its equals sign, the new equals sign is in the same column. Otherwise it is in
-/// the column of the first of `fields` with more than one byte there. If there is no such field, the white space before the sign is that
-/// of `field`. The white space after the sign is that of `field`, too. If `field` has any other character than spaces and tabs around its
-/// sign, such as a line end, one space is before and after the new sign.
+/// the column of the first of `fields` with more than one byte there. If the name reaches that column, one space is before the sign. If
+/// there is no such field, the white space before the sign is that of `field`. The white space after the sign is that of `field`, too. If
+/// `field` has any other character than spaces and tabs around its sign, such as a line end, one space is before and after the new sign.
 ///
 /// # Errors
 ///

@@ -1,4 +1,4 @@
-//! Texts with the line ends of a file.
+//! Texts that get the carriage returns of a file's line ends.
 
 ghost use Rattle.std.specs.Prelude.{◌≡◌, ◌++◌, IfOk, OnOk, encode_utf8, encode_utf8_all};
 ghost use Rattle.std.specs.Str.{chars};
@@ -35,8 +35,8 @@ fn with_returns(alloc: Global, text: &str) -> Result<String, AllocError>
     Ok(new)
 }
 
-/// Returns a text with the line ends of a file. If the first line of `file` ends with `\r\n`, each line feed of `text` without a carriage
-/// return before it gets one. Otherwise the text is kept. The only error is out of memory.
+/// Returns a text with the carriage returns of a file's line ends. If the first line of `file` ends with `\r\n`, each line feed of `text`
+/// without a carriage return before it gets one. Otherwise the text is kept. The only error is out of memory.
 pub fn with_line_ends_of(alloc: Global, file: &str, text: &str) -> Result<String, AllocError>
     ensures { IfOk result (λ new. string_bytes new ≡ spec.with_line_ends_of file.now text.now) }
 {

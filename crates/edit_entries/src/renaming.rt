@@ -44,7 +44,7 @@ fn push_value_edit(
     Ok(())
 }
 
-// Adds the edit of a field, if an element of it gets a new name.
+// Adds the edit of a reference field, if its value is one literal with an element that gets a new name.
 fn push_reference_edit(
     edits: &mut Vec<Edit>,
     alloc: Global,

@@ -17,7 +17,7 @@ use bib_text::spanned::Spanned;
 use std::alloc::{AllocError, Global};
 
 // Returns the edit that removes a field with the comma after it and no comment of another field. There is one if the commas around it are
-// found and no comment is before it.
+// found and no percent sign is between the first of them and the field.
 fn plain_edit(
     alloc: Global,
     text: &str,

@@ -40,7 +40,7 @@ found_is test text (Some k) first = sym (one_passes test text k first.0.high fir
 skipped : (c b : ℕ) (text : List ℕ) → (b == c) ≡ false → byte_count c (b ∷ text) ≡ byte_count c text
 skipped c b text is = rw (is) refl
 
--- the first bytes of a text without braces have no braces
+-- the first bytes of a text without braces have no opening brace
 no_opening : (n : ℕ) (text : List ℕ) → list_any (is_byte2 123 125) text ≡ false → byte_count 123 (take n text) ≡ 0
 no_opening zero text none = refl
 no_opening (suc n) [] none = refl

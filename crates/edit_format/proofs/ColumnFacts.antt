@@ -8,7 +8,7 @@ use Rattle.edit_format.specs.declared.style.Style.{Style}
 use Rattle.edit_format.proofs.FieldFacts.{field_content}
 use Rattle.edit_format.proofs.WidthFacts.{width_lower}
 
--- names that are equal in lowercase have the same number of characters
+-- the names of fields with the same content have the same number of characters
 same_width : (f g : FieldReading) → field_content f ≡ field_content g → length (chars f.name.text) ≡ length (chars g.name.text)
 same_width f g same = sym (width_lower f.name.text) ∙ ap (λ h. length (chars h.name.text)) same ∙ width_lower g.name.text
 

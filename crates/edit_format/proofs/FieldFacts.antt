@@ -32,7 +32,7 @@ pub record IsLineEnd (line_end : List ℕ) : Type 0 where
   pub blank : list_all is_ascii_whitespace line_end ≡ true
   pub ending : (u v : Place) (rest : List ℕ) → Stands u (line_end ++ rest) v → Ending u
 
--- a field without spans and with its name in lowercase
+-- a field without spans and with its name in ASCII lowercase
 abbrev pub field_content : FieldReading → FieldReading
 field_content f = moved_field (λ n. 0) (field_in_lowercase f)
 
@@ -101,7 +101,7 @@ separates line_end style width name elements ends = by_choice (is_broken style w
     by_choice true = in_next_line line_end style.indent (max width (length (chars name))) ends
     by_choice false = in_line
 
--- the line of a field, given its name in lowercase, the length of the name in characters, and the output for its pieces
+-- the line of a field, given its name in ASCII lowercase, the length of the name in characters, and the output for its pieces
 abbrev line_of : Style → ℕ → List ℕ → List ℕ → ℕ → List (List ℕ) → List ℕ
 line_of style width next name count elements =
     spaces style.indent ++ (name ++ (spaces (width - count) ++ value_laid_out (codes " = ") next elements))

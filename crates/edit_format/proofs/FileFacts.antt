@@ -53,7 +53,7 @@ line_end_is text = by_choice _
           };
     }
 
--- the gap before each entry of a text is, in the style, the one before the entry at the same index of another text
+-- the gap before each entry of the text `new` is the output for the gap before the entry at the same index of the text `old`
 abbrev pub AreGapsInStyle : List ℕ → Style → Option ℕ → List ℕ → List ℕ → ℕ → ℕ → List EntryReading → List EntryReading → Type 0
 AreGapsInStyle line_end style blank_lines new old m n [] [] = Unit {0}
 AreGapsInStyle line_end style blank_lines new old m n [] (e ∷ es) = ⊥

@@ -43,7 +43,7 @@ blank_ends line_end (suc count) all =
     list_all-append is_ascii_whitespace line_end (line_ends line_end count)
     ∙ ap (λ c. c && are_blank (line_ends line_end count)) all ∙ blank_ends line_end count all
 
--- a text is empty after trimming exactly if it is only white space
+-- a text without the ASCII white space at its start is empty exactly if it is only ASCII white space
 pub trimmed_blank : (bytes : List ℕ) → (length (drop (prefix_len is_ascii_whitespace bytes) bytes) == 0) ≡ are_blank bytes
 trimmed_blank [] = refl
 trimmed_blank (b ∷ bs) = by_test (is_ascii_whitespace b) (trimmed_blank bs)
@@ -63,7 +63,7 @@ blank_small b is = grind (arith, nat_tests)
 pub blank_skipped : (b : ℕ) → is_ascii_whitespace b ≡ true → (not (b == 64) && not (b == 37)) ≡ true
 blank_skipped b is = grind (arith, nat_tests)
 
--- white space parses to the empty reading
+-- ASCII white space parses to the empty reading
 blank_read : {u v : Place} (bytes : List ℕ) → are_blank bytes ≡ true → Stands u bytes v → FileBefore u empty_reading v
 blank_read {u} {v} [] all s = subst (λ p. FileBefore u empty_reading p) (nothing s) FileBefore.none
 blank_read {u} {v} (b ∷ bs) all s =

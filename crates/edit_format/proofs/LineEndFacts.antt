@@ -230,7 +230,7 @@ first_clear first start is clear =
     or_false_left (has 10 first) (has 10 (125 ∷ []))
     (sym (list_any-append (λ x. x == 10) first (125 ∷ [])) ∙ ap (has 10) (sym is) ∙ clear)
 
--- the text before a gap: that of the file if there are no blank lines to write, otherwise bytes with a closing brace at their end
+-- no number of blank lines is given, or the text before a gap ends with a closing brace
 pub data InFront (blank_lines : Option ℕ) (start : List ℕ) : Type 0 where
   stays : blank_lines ≡ None → InFront blank_lines start
   after_brace : (first : List ℕ) → start ≡ first ++ 125 ∷ [] → InFront blank_lines start

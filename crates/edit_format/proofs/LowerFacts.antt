@@ -34,14 +34,14 @@ small_stays c is = by_low (ltb c 65) refl
     by_low true low = (lowercase_is c).1 (grind (arith, nat_tests, low))
     by_low false low = above (ltb 90 c) refl low
 
--- a text without an ASCII capital is in lowercase
+-- a text without an ASCII capital is in ASCII lowercase
 pub lower_same : (xs : List ℕ) → list_any is_ascii_uppercase xs ≡ false → str_to_ascii_lowercase xs ≡ xs
 lower_same [] none = refl
 lower_same (x ∷ xs) none =
     let both = or_parts (is_ascii_uppercase x) (list_any is_ascii_uppercase xs) none in
     ap (λ y. y ∷ str_to_ascii_lowercase xs) (small_stays x both.0) ∙ ap (λ ys. x ∷ ys) (lower_same xs both.1)
 
--- the kind of a block doesn't depend on the case of its name
+-- the kind of a block is the same for its name in ASCII lowercase
 pub kind_lower : (name : List ℕ) → block_kind (str_to_ascii_lowercase name) ≡ block_kind name
 kind_lower name = ap kind_by (lower_lower name)
   where

@@ -1,4 +1,4 @@
--- A name in lowercase parses as an identifier.
+-- A name in ASCII lowercase parses as an identifier.
 use Rattle.std.proofs.Common.{◌≡◌, ℕ, ◌-◌, ◌≤◌, List, [], ◌++◌, length, take, drop, refl, ap, ◌∙◌, subst, arith}
 use Rattle.std.specs.Prelude.{encode_utf8}
 use Rattle.std.specs.Char.{to_ascii_lowercase}
@@ -16,7 +16,7 @@ use Rattle.edit_entries.proofs.StandsFacts.{Stands, between_stands, char_stands,
 pub none_between : (a : Place) → between a a ≡ []
 none_between a = let zero : a.at - a.at ≡ 0 = omega arith in ap (λ n. take n (drop a.at a.text)) zero
 
--- the lowercase of a text is that of its first character, followed by that of the rest
+-- a text in ASCII lowercase is its first character in ASCII lowercase, followed by the rest in ASCII lowercase
 lower_parted : {a w b : Place} {c : ℕ} → CharAt a c w → Ahead w b → b.at ≤ length a.text
     → str_to_ascii_lowercase (between a b) ≡ encode_utf8 (to_ascii_lowercase c) ++ str_to_ascii_lowercase (between w b)
 lower_parted {a} {w} {b} {c} char ahead within =

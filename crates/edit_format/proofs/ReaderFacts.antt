@@ -13,7 +13,7 @@ use Rattle.edit_entries.proofs.SplitFacts.{entry_block}
 use Rattle.edit_format.specs.Formatted.{entry_in_style, gap_in_style, rest_in_style}
 use Rattle.edit_format.specs.declared.style.Style.{Style}
 
--- the next entry and the gap before it may be cut out of the text, and the entry ends where parsing continues
+-- the next entry and the gap before it may be cut out of the text, and parsing continues after the closing brace at the end of the entry
 pub next_cut : (text : List ℕ) {u v : Place} {e : EntryReading} → u.text ≡ text → IsNextEntry u e v → IsCharBoundary text u.at
     → IsCharBoundary text v.at → CanBeCut text u.at e.start × IsEntryCut text e × (v.at ≡ e.end + 1)
 next_cut text {u} {v} {e} same next cut after =
@@ -28,7 +28,7 @@ next_cut text {u} {v} {e} same next cut after =
 abbrev pub with_entry : FileReading → FileReading → EntryReading → FileReading
 with_entry says before e = then (then says before) (entry_alone e)
 
--- what is read up to the next entry
+-- the text up to the end of the next entry parses to the content before this entry, with the entry
 pub next_read : {start u v : Place} {says : FileReading} {e : EntryReading} → FileRead start says u → (next : IsNextEntry u e v)
     → FileRead start (with_entry says next.before e) v
 next_read {start} {u} {v} {says} {e} read next =
@@ -40,7 +40,7 @@ next_read {start} {u} {v} {says} {e} read next =
     } in
     block_read to_entry next.block
 
--- the entries up to the next one
+-- with the next entry, the entries are those so far and this one
 pub next_entries : (says : FileReading) {u v : Place} {e : EntryReading} (next : IsNextEntry u e v)
     → (with_entry says next.before e).entries ≡ says.entries ++ e ∷ []
 next_entries says {e = e} next =
@@ -53,7 +53,7 @@ next_smaller {u} {v} same next =
     let block = block_smaller next.block in
     omega (arith, block, next.forward, ap length next.same)
 
--- the output for the text up to an entry, and for the entry
+-- the output so far and that for the rest make the output for the whole text, also after a gap and an entry are written
 pub next_written : (line_end text : List ℕ) (style : Style) (blank_lines : Option ℕ) (old before new : List ℕ) (at next : ℕ)
     (e : EntryReading) (all : List EntryReading)
     → before ≡ old ++ gap_in_style line_end blank_lines (between (place text at) (place text e.start))

@@ -64,7 +64,7 @@ not_ended {y} {u} {d} c small char other = by_value (ends_with eqb (before u) (c
         ((ends_is Decides-eqb (before u) (c ∷ []) (ends_with eqb (before u) (c ∷ [])) refl).0 is))
     by_value false is = is
 
--- a piece after white space is after neither a brace nor a quote
+-- a piece after white space is after neither an opening brace nor a quote
 pub not_opened_white : {y u : Place} {d : ℕ} → CharAt y d u → is_whitespace d ≡ true → NotOpened u
 not_opened_white char white = record {
   no_brace = not_ended 123 (omega arith) char (λ same. test_clash false (subst (λ c. is_whitespace c ≡ true) same white) refl);

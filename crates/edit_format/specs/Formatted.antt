@@ -57,7 +57,7 @@ abbrev pub is_broken : Style → ℕ → List ℕ → List (List ℕ) → Bool
 is_broken style width name elements =
     nat_lt 1 (length elements) && is_too_long style.width (line_laid_out style width (codes " # ") name elements)
 
--- a line end, a space for each character before the value of a field (the equals sign and its spaces are three of them), and `#`
+-- a line end, a space for each character before the value of a field (the equals sign and its spaces are three of them), and `# `
 abbrev pub next_line : List ℕ → Style → ℕ → List ℕ → List ℕ
 next_line line_end style width name = line_end ++ (spaces style.indent ++ (spaces (max width (length (chars name))) ++ codes "   # "))
 
@@ -105,8 +105,8 @@ has_percent_between text start (f ∷ fs) end = has_percent text start f.name.st
 abbrev pub has_comment : List ℕ → EntryReading → Bool
 has_comment text e = has_percent_between text e.key.end e.fields e.end
 
--- whether a piece is a literal whose braces aren't balanced. BibTeX and Biber end such a text elsewhere. For them, a backslash escapes no
--- brace, and a quote inside braces doesn't end a text in quotes.
+-- whether a piece is a literal whose braces aren't balanced. BibTeX and Biber end such a text elsewhere or reject it. For them, a backslash
+-- escapes no brace, and a quote inside braces doesn't end a text in quotes.
 abbrev pub is_unbalanced : Piece → Bool
 is_unbalanced (literal p) = not (is_balanced p.text)
 is_unbalanced (abbreviation p) = false

@@ -61,8 +61,8 @@ fn with_entries(
 /// also change the delimiters of literals, break long values into one line for each piece, and order the fields. An entry is
 /// copied unchanged if it contains a `%` between its key, its fields and its closing brace. So is an entry with a literal whose
 /// braces aren't balanced, counted without escapes as BibTeX counts them. If at most ASCII white space is between two entries,
-/// the style may replace it by blank lines. Everything else is unchanged, byte for byte. New line ends are those of the file's first
-/// line. Returns an error only if memory runs out.
+/// the style may replace it by blank lines. Everything else is unchanged, byte for byte. New line ends are CR LF if the first line
+/// of the text ends so, and LF otherwise. Returns an error only if memory runs out.
 pub fn format(
     alloc: Global,
     document: &RawDocument<'_>,

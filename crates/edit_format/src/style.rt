@@ -2,7 +2,8 @@
 
 ghost use Rattle.edit_format.specs.Usual.{IsUsual};
 
-/// The delimiters of the literals of values. The text between them is unchanged. Numbers and abbreviations have no delimiters.
+/// The delimiters of the literals of values. The text between them is unchanged. Numbers and abbreviations have no delimiters. An entry
+/// that is copied (see `format`) keeps its delimiters.
 #[derive(Debug, Clone, Copy, PartialEq, Eq)]
 pub enum Delimiters {
     /// Each literal keeps its delimiters.
@@ -34,8 +35,9 @@ pub struct Style<'a> {
     /// the last. An entry that is copied (see `format`) keeps its order.
     pub order: &'a [&'a str],
     /// Maximum number of characters of a line, for a field whose value has several pieces. A comma after the field counts, even
-    /// if none is written. In a longer line, each piece except the first begins a new line, with its `#` in the column of the
-    /// first piece. A value of one piece is never broken, since its text is unchanged. With `None`, no line is broken.
+    /// if none is written, and so do line ends in the value. In a longer line, each piece except the first begins a new line, with
+    /// its `#` in the column of the first piece. A value of one piece is never broken, since its text is unchanged. With `None`,
+    /// no line is broken.
     pub width: Option<usize>,
 }
 

@@ -50,7 +50,7 @@ module _ {one other : Definitions} (are : AreAlikeDefinitions one other) where
   evaluates_alike (Alike.same_name {p = p} same rest) (evaluates.month_name absent m more) =
       evaluates.month_name (ap other (sym same) ∙ are.none p.text absent) (ap month (sym same) ∙ m) (evaluates_alike rest more)
 
--- alike pieces contain the same names
+-- a name in pieces is also in the pieces that are alike to them
 holds_name : {ps qs : List Piece} (name : List ℕ) → Alike ps qs → HoldsName ps name → HoldsName qs name
 holds_name name Alike.ends held = elim held [ ]
 holds_name name (Alike.same_text same rest) held = holds_name name rest held
@@ -107,7 +107,7 @@ mean_both first second = record {
   readable = λ is_verbatim read. second.readable is_verbatim (first.readable is_verbatim read);
 }
 
--- two fields have the same name, in any case, and their pieces mean the same
+-- two fields have the same name, in any ASCII case, and their pieces mean the same
 pub record AreAlikeFields (one other : Definitions) (f g : FieldReading) : Type 0 where
   pub name : name_of f ≡ name_of g
   pub means : MeanTheSame one other f.value.pieces g.value.pieces

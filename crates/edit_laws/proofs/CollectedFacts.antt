@@ -62,7 +62,7 @@ module _ (says : FileReading) where
 
   -- ---- the one definition of a known name
 
-  -- a definition can be reused for a text: no other definition has its name in any case, and its value is this text
+  -- a definition can be reused for a text: no other definition has its name in any ASCII case, and its value is this text
   record IsReusable (f : FieldReading) (text : List ℕ) : Type 0 where
     one : count_by (has_name f.name.text) says.abbreviations ≡ 1
     value : single_text (elements f) ≡ Some text

@@ -57,7 +57,7 @@ last_same (x ∷ xs) (y ∷ ys) all =
 
 -- ---- the fields of a date, as they are offered
 
--- no type offers a title as the field with this name, and no other field has its meaning
+-- for this name, no entry offers a title or a field with another name
 pub record IsOfferedAlone (name : List ℕ) : Type 0 where
   pub journal : value_named journal_titles name ≡ None
   pub book : value_named book_titles name ≡ None

@@ -31,11 +31,11 @@ defined_append fs gs name =
     map_or None p = refl
     map_or (Some f) p = refl
 
--- a name is equal to itself in any case
+-- a name is equal to itself in any ASCII case
 pub own_word : (name : List ℕ) → is_word name name ≡ true
 own_word name = (bytes_eq-Decides (str_to_ascii_lowercase name) (str_to_ascii_lowercase name)).1 refl
 
--- two names that aren't equal in any case have different bytes
+-- two names that aren't equal in any ASCII case have different bytes
 other_bytes : (name other : List ℕ) → is_word other name ≡ false → bytes_eq name other ≡ false
 other_bytes name other differs = by_case (bytes_eq name other) refl
   where
@@ -45,7 +45,7 @@ other_bytes name other differs = by_case (bytes_eq name other) refl
         let same : name ≡ other = (bytes_eq-Decides name other).0 is in
         absurd (both_ways _ differs (subst (λ n. is_word other n ≡ true) (sym same) (own_word other)))
 
--- a name that no definition has in any case has no definition
+-- a name that definitions neither define nor use, in any ASCII case, has no definition
 pub absent : (fs : List FieldReading) (name : List ℕ) → is_one_in_any_case (definition_names fs) name ≡ false → definition_in fs name ≡ None
 absent [] name none = refl
 absent (f ∷ fs) name none =

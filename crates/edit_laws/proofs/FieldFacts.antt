@@ -86,13 +86,13 @@ any_named : (name : List ℕ) (fs : List FieldReading)
     → list_any (λ f. bytes_eq (str_to_ascii_lowercase name) (name_of f)) (reverse fs) ≡ list_any (has_name name) fs
 any_named name fs = any_reversed (λ f. bytes_eq (str_to_ascii_lowercase name) (name_of f)) fs ∙ same_tests name fs
 
--- if no field has a name, none is found by it in lowercase
+-- if no field has a name, none is found by it in ASCII lowercase
 pub absent : (name : List ℕ) (fs : List FieldReading) → list_any (has_name name) fs ≡ false
     → field_in fs (str_to_ascii_lowercase name) ≡ None
 absent name fs none =
     absent_go (λ f. bytes_eq (str_to_ascii_lowercase name) (name_of f)) (reverse fs) (any_named name fs ∙ none)
 
--- if a field has a name, one is found by it in lowercase
+-- if a field has a name, one is found by it in ASCII lowercase
 present : (name : List ℕ) (fs : List FieldReading) → list_any (has_name name) fs ≡ true
     → (f : FieldReading) × (field_in fs (str_to_ascii_lowercase name) ≡ Some f)
 present name fs any =

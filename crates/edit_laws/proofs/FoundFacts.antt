@@ -1,4 +1,4 @@
--- The last item that passes a test, in a filtered list.
+-- A search in a filtered list, and a filtered list in reverse.
 use Rattle.std.proofs.Common.{◌≡◌, List, [], ◌∷◌, ◌++◌, Bool, true, false, cond, reverse, refl, sym, ap, ◌∙◌, Some, None}
 use Rattle.std.specs.Prelude.{find}
 use Rattle.std.specs.List.{filter}

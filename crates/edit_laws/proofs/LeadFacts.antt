@@ -77,7 +77,7 @@ new_dark text can =
 
 -- ---- fields `ids`
 
--- a field `ids`, in any case, isn't a reference field
+-- a field `ids`, in any ASCII case, isn't a reference field
 ids_plain : (name : List ℕ) → is_word name (codes "ids") ≡ true → is_reference_field name ≡ false
 ids_plain name is =
     let same : str_to_ascii_lowercase name ≡ str_to_ascii_lowercase (codes "ids") =
@@ -269,7 +269,7 @@ references_lead d after keys read changed earlier =
           n.value));
     }) fields) r.fields
 
--- no entry is before the first one with a key, so `AreEarlierRenamed` is true if only this one gets a new key
+-- no entry before the first one with a key has this key too, so `AreEarlierRenamed` is true if only the first one gets a new key
 only_first : (d : Document) (old new : List ℕ) (k : ℕ) (e : EntryReading) → HasEntry d old k e
     → AreEarlierRenamed d.says.entries (only k new)
 only_first d old new k e has i j x other below here there same gets = by_index (j == k) refl gets

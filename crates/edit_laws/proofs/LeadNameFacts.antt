@@ -19,11 +19,11 @@ use Rattle.edit_laws.specs.Renamed.{AreEarlierRenamed}
 
 -- ---- names in any ASCII case
 
--- names that are equal in any ASCII case are equal in lowercase
+-- names that are equal in any ASCII case are equal in ASCII lowercase
 word_same : (a b : List ℕ) → is_word a b ≡ true → str_to_ascii_lowercase a ≡ str_to_ascii_lowercase b
 word_same a b is = (bytes_eq-Decides (str_to_ascii_lowercase a) (str_to_ascii_lowercase b)).0 is
 
--- names that are equal in lowercase are equal in any ASCII case
+-- names that are equal in ASCII lowercase are equal in any ASCII case
 same_word : (a b : List ℕ) → str_to_ascii_lowercase a ≡ str_to_ascii_lowercase b → is_word a b ≡ true
 same_word a b same = (bytes_eq-Decides (str_to_ascii_lowercase a) (str_to_ascii_lowercase b)).1 same
 
@@ -39,7 +39,7 @@ words_differ a b other =
 
 -- ---- names that are taken
 
--- if an element of the first list passes, one of both lists passes
+-- if an element of the first list passes, an element of the joined list passes
 any_left : (p : List ℕ → Bool) (xs ys : List (List ℕ)) → list_any p xs ≡ true → list_any p (xs ++ ys) ≡ true
 any_left p xs ys is = list_any-append p xs ys ∙ or_left (list_any p xs) (list_any p ys) is
 

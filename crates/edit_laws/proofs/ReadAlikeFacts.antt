@@ -74,7 +74,7 @@ pieces_alike (abbreviation p ∷ ps) (literal q ∷ qs) is = cc
 pieces_alike (abbreviation p ∷ ps) (abbreviation q ∷ qs) is =
     Alike.same_name {p = p} {q = q} (ap text_of (cons_head _ _ is)) (pieces_alike ps qs (cons_tail is))
 
--- a field without spans and with its name in lowercase
+-- a field without spans and with its name in ASCII lowercase
 abbrev field_content : FieldReading → FieldReading
 field_content f = moved_field (λ at. 0) (field_in_lowercase f)
 
@@ -107,7 +107,7 @@ abbreviations_alike (f ∷ fs) (g ∷ gs) is =
       abbreviations_alike fs gs (cons_tail is),
     )
 
--- names that are equal in lowercase have the same entry type
+-- names that are equal in ASCII lowercase have the same entry type
 type_of_lowercase : (name other : List ℕ) → str_to_ascii_lowercase name ≡ str_to_ascii_lowercase other
     → entry_type_of name ≡ entry_type_of other
 unfolding entry_type_of entry_type_by_name_or_alias
@@ -134,7 +134,7 @@ entries_alike both style text (e ∷ es) (g ∷ gs) is =
       entries_alike both style text es gs (cons_tail is),
     )
 
--- files with the same content, except for the order of fields, are alike
+-- a file is alike to one with the same content, except that its fields are in the order of a style
 pub files_alike : (style : Style) (text : List ℕ) (one other : FileReading)
     → content (says_in_order style text one) ≡ content other → AreAlikeFiles one other
 files_alike style text one other is = record {

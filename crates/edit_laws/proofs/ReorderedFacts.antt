@@ -23,7 +23,7 @@ pub record IsReordered (fs gs : List FieldReading) : Type 0 where
   pub found : (name : List ℕ) → field_in gs name ≡ field_in fs name
   pub readable : (definitions : Definitions) → AllCanBeRead definitions fs → AllCanBeRead definitions gs
 
--- a field with the lowercase name `name` has a second name exactly if `name` is the second one in lowercase
+-- a field whose name in ASCII lowercase is `name` has the name `n` exactly if `name` is `n` in ASCII lowercase
 pub named_alike : (n name : List ℕ) (f : FieldReading) → bytes_eq name (name_of f) ≡ true
     → has_name n f ≡ bytes_eq name (str_to_ascii_lowercase n)
 named_alike n name f is = ap (λ t. bytes_eq t (str_to_ascii_lowercase n)) (sym ((bytes_eq-Decides name (name_of f)).0 is))
@@ -34,7 +34,7 @@ field_append fs gs name =
     ap (find (λ f. bytes_eq name (name_of f))) (reverse-append fs gs)
     ∙ find-append (λ f. bytes_eq name (name_of f)) (reverse gs) (reverse fs)
 
--- the last field with the lowercase name `name` is searched first among the fields without the name `n` and then among those with it
+-- the last field whose name in ASCII lowercase is `name` is the last one among the fields without the name `n`, or else among those with it
 field_parted : (n name : List ℕ) (fs : List FieldReading)
     → option_or (field_in (filter (λ f. not (has_name n f)) fs) name) (field_in (filter (has_name n) fs) name)
     ≡ field_in fs name

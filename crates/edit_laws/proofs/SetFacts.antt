@@ -1,4 +1,4 @@
--- The entries of a file in which a field is set or unset.
+-- The entries of a file in which a field is set.
 use Rattle.std.proofs.Common.{Option, ◌≡◌, ℕ, ◌<◌, List, [], ◌∷◌, Bool, true, false, cond, get_or, length, map, reverse, append-nil, arith, inl, inr, refl, sym, ap, ◌∙◌, subst, Some, None, ◌≤◌}
 use Rattle.std.specs.Prelude.{bytes_eq, slice_get, ◌&&◌, ◌||◌, MatchOption}
 use Rattle.std.specs.List.{AllByRecursion, list_all, list_any}

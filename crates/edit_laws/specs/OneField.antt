@@ -60,12 +60,12 @@ pub record AreUnset (own others : List Entry) (key name : List ℕ) : Type 0 whe
 -- ---- bibliographies
 
 -- the fields that an entry may lack after inheriting although it has them itself: `xdata` is removed, and an inherited date replaces the
--- month and the day of an entry without a year
+-- month and the day of an entry with neither a date nor a year
 abbrev pub lost_names : Names
 lost_names = fields "xdata month day"
 
 -- a bibliography has exactly one entry with this key, and its field of this name has the contents of this text. The key points to this
--- entry, or to a later one that has it as an alias in `ids`
+-- entry, or to a later one, as it does if that has the key as an alias in `ids`
 pub record HasFieldContents (bibliography : Bibliography) (key name text : List ℕ) : Type 0 where
   pub index : ℕ
   pub entry : Entry

@@ -57,7 +57,7 @@ abbrev pub plain_contents : List Piece → Value
 plain_contents pieces = alone (Normal (flat_map plain_piece pieces))
 
 -- chunks are the contents of a field: parsed with the definitions of abbreviations, or its pieces as normal text if they can't be
--- parsed. For example, an abbreviation without a definition can't be parsed
+-- parsed. For example, an abbreviation that is neither defined nor a month can't be parsed
 pub data AreContentsOf (definitions : Definitions) (pieces : List Piece) : Value → Type 0 where
   parsed : {chunks : Value} → AreContents definitions false pieces chunks → AreContentsOf definitions pieces chunks
   plain : (IsReadable definitions false pieces → ⊥) → AreContentsOf definitions pieces (plain_contents pieces)

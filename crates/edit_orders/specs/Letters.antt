@@ -28,7 +28,7 @@ sort_letters c =
     else encode_utf8 c
 
 -- a character of a decomposed text in lowercase, in UTF-8: an alphabetic or numeric one as in `sort_letters`, a space if it separates
--- words, and nothing otherwise. Punctuation and the marks of accents become nothing
+-- words, and nothing otherwise. Other punctuation and the marks of accents become nothing
 abbrev pub sort_character : ℕ → List ℕ
 sort_character c = if separates_words c then char.space ∷ [] else if is_alphabetic c || is_numeric c then sort_letters c else []
 

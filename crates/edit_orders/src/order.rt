@@ -12,8 +12,8 @@ use std::alloc::{AllocError, Global};
 pub enum Property {
     /// The key, with ASCII letters in lowercase.
     Key,
-    /// The year as a number: the first digits in the field `date`, or in `year` if there is no `date`. It is negative if only a hyphen is
-    /// before them. A year more than 10^18 away from 0 counts as this distance.
+    /// The year as a number: the first ASCII digits in the field `date`, or in `year` if there is no `date`. It is negative if only a
+    /// hyphen is before them. A year more than 10^18 away from 0 counts as this distance.
     Year,
     /// The names in the field `author`, or in `editor` if there is no `author`, except for `others`. Each name is compared by family name,
     /// given name, suffix and prefix, without accents, case, punctuation and symbols.

@@ -86,7 +86,7 @@ pub taken_known : (taken : List (List ℕ)) (has : List ℕ → Bool) (name : Li
     → ((q : List ℕ) → has q ≡ is_listed taken q) → is_ruled_out_in has name ≡ is_ruled_out taken name
 taken_known taken has name known = any_same has (is_listed taken) known (name ∷ unwrap_or (value_named rival_names name) [])
 
--- one field is offered: it is new if its name isn't taken
+-- one field is offered: it is new exactly if its name isn't ruled out
 pub one_new : (taken : List (List ℕ)) (n : Named) (b : Bool) → is_ruled_out taken (read_name n.name) ≡ b
     → new_fields taken (n ∷ []) ≡ cond b [] (n ∷ [])
 one_new taken n b is = ap (λ t. cond t [] (n ∷ [])) is

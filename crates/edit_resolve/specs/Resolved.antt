@@ -150,7 +150,7 @@ resolution text entries e = record {
   fields = field_resolutions text (is_resolved entries) (replacement entries e) (inherited entries e) e.fields;
 }
 
--- a text is that of a document with inherited fields written out, and it parses to the entries with these fields
+-- a text is that of a document with inherited fields written out, and it parses to the entries with these fields, except for byte offsets
 abbrev pub IsResolved : Document → List ℕ → Type 0
 IsResolved d text = IsChanged (resolution d.text d.says.entries) d text
 

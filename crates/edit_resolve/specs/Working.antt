@@ -72,7 +72,7 @@ pub record IsGathered (taken : List (List ℕ)) (all : List Named) (g : Gathered
 abbrev pub read_names : List Named → List (List ℕ)
 read_names fields = map (λ n. read_name n.name) fields
 
--- the first gathered fields become the second ones by adding the new ones among the offered fields
+-- `new` has the fields of `old`, and then the new ones among the offered fields, and also their names
 abbrev pub Offered : Gathered → List Named → Gathered → Type 0
 Offered old offered new =
     (taken : List (List ℕ)) (fields : List Named) → IsGathered taken fields old

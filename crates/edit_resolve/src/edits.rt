@@ -1,4 +1,4 @@
-//! The edits that write inherited fields out.
+//! The edits that replace references by inherited fields or remove them, and those that replace own fields by fields of `xdata` parents.
 
 ghost use Rattle.std.specs.Prelude.{◌≡◌, ◌++◌, ◌<◌, ◌≤◌, List, length, map, count_by, drop, IfOk, OnOk};
 ghost use Rattle.std.specs.List.{AllByRecursion};

@@ -22,7 +22,7 @@ pub enum Titles {
     Journal,
 }
 
-// Returns the name under which Biber reads a field whose name is in lowercase.
+// Returns the name under which Biber reads a field whose name is in ASCII lowercase.
 pub(crate) fn biber_name(lower: &str) -> &str
     ensures { result.now ≡ unwrap_or (value_named biber_names lower.now) (biblatex_name lower.now) }
 {

@@ -68,7 +68,7 @@ module _ (entries : List EntryReading) where
       (Contains-from_any eqb-true q visited h))
 
   module _ (last : EntryReading) (fine : IsAfterCycle entries last → ⊥) where
-    -- if an entry leads to `last`, none of the entries to which it leads names it
+    -- if an entry leads to `last`, which is on no cycle and after none, then none of the entries to which it leads names it
     no_cycle_at : (q v : ℕ) (child e : EntryReading) → slice_get entries q ≡ Some child → Contains entries child
         → refers_to e.key.text child ≡ true → (m : ℕ) → IsChain entries m e last → LeadsTo e v → q ≡ v → ⊥
     no_cycle_at q v child e here there refers m reached leads same =
@@ -107,7 +107,7 @@ module _ (entries : List EntryReading) where
     )
 
     -- If an entry leads to `last` and to the entries at distinct visited indices, no chain of more references than there are other indices
-    -- leads to it.
+    -- leads to it. `last` is on no cycle and after none.
     no_chain_from : (k : ℕ) (visited : List ℕ) (e : EntryReading) → length visited + k ≡ length entries
         → AllByRecursion (λ v. v < length entries) visited → IsDistinct eqb visited → AllByRecursion (LeadsTo e) visited
         → (m : ℕ) → IsChain entries m e last → has_chain entries (suc k) e ≡ true → ⊥

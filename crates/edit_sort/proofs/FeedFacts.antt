@@ -115,7 +115,8 @@ block_over {a} {l} {m} {v} {s} b same feed before rest within clear =
           (subst (λ c. CharAt last.start c v) is last.here) before rest within clear.quote
     ]
 
--- if the text between a line feed and an at sign has no sign of a block, the file before it ends at the line feed
+-- if the text between a line feed and an at sign has no sign of a block, it is plain. The text up to the line feed then has the reading of
+-- the text up to the at sign
 
 pub feed_cut : {a l m s x : Place} {says : FileReading} → FileBefore a says s → CharAt s 64 x → s.at ≤ length m.text
     → l.text ≡ a.text → CharAt l 10 m → a.at ≤ l.at → m.at ≤ s.at → IsClearOf (between m s)

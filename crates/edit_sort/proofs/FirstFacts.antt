@@ -23,7 +23,7 @@ use Rattle.edit_sort.proofs.GreatestFacts.{greatest_same}
 use Rattle.edit_sort.proofs.RankFacts.{HasIndex, known_all, mapped_from, owner_below, owner_is}
 use Rattle.edit_sort.proofs.StepFacts.{listed, listed_order}
 
--- ---- keys in any case
+-- ---- keys in any ASCII case
 
 pub one_key_lower : (e other : EntryReading) → has_key_of e other ≡ true → lower_key e ≡ lower_key other
 one_key_lower e other same = (bytes_eq-Decides (lower_key e) (lower_key other)).0 same

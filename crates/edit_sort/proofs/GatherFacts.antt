@@ -1,4 +1,4 @@
--- The items of a loop, after one more entry.
+-- Steps of the loop that gathers the items of a file: the items, the gap before an entry, and the size of a run.
 use Rattle.std.proofs.Common.{◌≡◌, ℕ, suc, ◌+◌, ◌-◌, ◌<◌, ◌≤◌, Bool, true, false, cond, List, [], ◌∷◌, ◌++◌, drop, get_or, length, map, take, sym, ap, ◌∙◌, arith, append_assoc, length-drop, drop-cons}
 use Rattle.std.proofs.lemmas.List.{map-append, length-take-le, take-take}
 use Rattle.bib_text.specs.declared.spanned.Spanned.{Spanned}
@@ -14,7 +14,7 @@ next_entry entries i e within is =
     ap (map entry_reading_of)
     (drop-cons entries i e within ∙ ap (λ x. x ∷ drop (suc i) entries) (sym is) ∙ ap (λ n. e ∷ drop n entries) next)
 
--- the items so far, after one more
+-- the items so far and those still to visit are all items, also after one more
 pub gathered_more : {A B : Type 0} (f : A → B) (old new : List A) (x : A) (y : B) (rest all : List B)
     → new ≡ old ++ x ∷ [] → f x ≡ y → map f old ++ y ∷ rest ≡ all → map f new ++ rest ≡ all
 gathered_more f old new x y rest all is same whole =

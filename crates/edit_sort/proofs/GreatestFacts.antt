@@ -93,8 +93,8 @@ after_bound test zero first = ap (λ b. cond b 1 0) first
 after_bound test (suc m) first =
     after_step m (greatest (one_after test) (suc m)) (greatest test m) (test (suc m)) (after_bound test m first)
 
--- one more than the greatest number that passes, but at most the bound, is the greatest such number. The test must be passed by 0, and by
--- each number if the next one passes it.
+-- one more than the greatest number that passes, but at most the bound, is the greatest number that passes `one_after`. The test must be
+-- passed by 0, and by each number if the next one passes it.
 pub greatest_after : (test : ℕ → Bool) (m : ℕ) → test 0 ≡ true → ((n : ℕ) → test (suc n) ≡ true → test n ≡ true)
     → greatest (one_after test) m ≡ min (greatest test m + 1) m
 greatest_after test zero first closed = omega arith

@@ -1,4 +1,4 @@
--- Plain text: it has no at sign and ends each of its line comments, so it parses to the empty reading wherever it occurs.
+-- Plain text: it has no at sign except in line comments, and ends each of these. So it parses to the empty reading wherever it occurs.
 use Rattle.std.proofs.Common.{◌≡◌, inl, inr, ℕ, ◌<◌, ◌≤◌, Bool, true, false, List, [], ◌∷◌, ◌++◌, length, refl, sym, ap, ◌∙◌, subst, arith}
 use Rattle.std.specs.Prelude.{◌==◌, ◌&&◌, not}
 use Rattle.std.specs.Char.{is_ascii_whitespace}

@@ -51,7 +51,7 @@ module _ (entries : List EntryReading) (names : ByText ℕ) (keys : AreKeyIndice
   pub known_all : AllByRecursion (HasIndex names) entries
   known_all = recursion_from_All (HasIndex names) entries keys.each
 
-  -- ---- a key in any case
+  -- ---- a key in any ASCII case
 
   pointed : (index : ℕ) (o : Option ℕ) → option_map_or (λ k. k == index) o false ≡ true → o ≡ Some index
   pointed index None is = absurd (false≢true is)
@@ -156,7 +156,7 @@ indices_tied : (all : List EntryReading) (e : EntryReading) (index k : ℕ) (key
 indices_tied all e index k key here same at =
     ap (λ n. option_map lower_key (slice_get all n)) (sym at) ∙ ap (option_map lower_key) here ∙ ap Some (sym same)
 
--- in an empty map, no key points to an index
+-- in an empty map, each key points to the index of an entry with this key, since none points to an index
 pub indices_none : (all : List EntryReading) (names : ByText ℕ) → names ≡ empty → AreIndicesOf all names
 indices_none all names is key k at =
     absurd (none-some k (sym (get-empty {X = ℕ} by_bytes key) ∙ ap (λ m. get m key) (sym is) ∙ at))

@@ -1,4 +1,4 @@
--- Texts that parse to the same reading, except for byte offsets, wherever they occur.
+-- Texts that parse to the same reading, except for byte offsets, in another text.
 use Rattle.std.proofs.Common.{◌≡◌, inl, inr, ℕ, suc, ◌+◌, ◌-◌, ◌≤◌, Bool, true, false, cond, List, [], ◌∷◌, ◌++◌, length, drop, take, refl, sym, ap, ◌∙◌, subst, arith, length-drop}
 use Rattle.std.specs.Prelude.{◌&&◌}
 use Rattle.std.specs.Char.{is_ascii_whitespace}
@@ -133,7 +133,7 @@ white_cut {u} {s} bytes plain stands =
     (ahead_stands rest later).at in
     record { mid = past u white; first = split.0; rest = split.1; is = sym (between_stands rest later) }
 
--- a gap is cut into a space, which parses wherever it occurs, and a comment, which is plain
+-- a gap is cut into a space, which parses wherever it occurs before a character, and a comment, which is plain
 pub record GapCut (is_first : Bool) (a s : Place) (before : FileReading) : Type 0 where
   pub mid : Place
   pub first : Ahead a mid
@@ -154,7 +154,7 @@ space_cut comment {a} {m} {s} first rest within is =
     let left : length (between a s) - length comment ≡ m.at - a.at = omega (arith, first.at, rest.at) in
     ap (λ n. take n (between a s)) left ∙ take-take (m.at - a.at) (s.at - a.at) (drop a.at a.text) (omega (arith, rest.at))
 
--- a gap is cut into a text that parses wherever it occurs, and these bytes at its end, which are plain
+-- a gap is cut into a text that parses wherever it occurs before a character, and these bytes at its end, which are plain
 record BeforeCut (bytes : List ℕ) (a s : Place) (before : FileReading) : Type 0 where
   mid : Place
   first : Ahead a mid
@@ -186,7 +186,7 @@ plain_cut {a} {s} first sign within clear =
       reads = subst (SpaceReads (between a cut.mid)) (sym plain.1) (plain_reads cut.first (omega (arith, (ahead_plain cut.rest).at)));
     }
 
--- a part of a file, a line feed and plain text parse wherever they occur
+-- a part of a file, a line feed and plain text parse wherever they occur before a character
 feed_reads : {a l m n : Place} {before : FileReading} → FileBefore a before l → CharAt l 10 m → Plain m n
     → n.at ≤ length a.text → SpaceReads (between a n) before
 feed_reads {a} {l} {m} {n} {before} first feed plain within u v s following =

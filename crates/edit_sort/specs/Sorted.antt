@@ -117,13 +117,13 @@ begins_run is_first gap = is_first || has_byte char.at gap
 abbrev pub has_block_sign : List ℕ → Bool
 has_block_sign text = has_byte char.at text || has_byte char.close_brace text || has_byte char.quote text
 
--- the comment in `near`, the text after the last blank line of a gap at the start of a run. It is all of that text except ASCII white
--- space at its start, or empty if a block may begin or end in the text
+-- the comment in `near`, the `after_blank_line` of a gap at the start of a run. It is all of that text except ASCII white space at its
+-- start, or empty if a block may begin or end in the text
 abbrev pub near_comment : List ℕ → List ℕ
 near_comment near = cond (has_block_sign near) [] (without_white near)
 
 -- the comment of an entry, which moves with it: all of the gap except ASCII white space at its start. At the start of a run, only
--- the text after the last blank line can move.
+-- the `near_comment` in the `after_blank_line` of the gap moves.
 abbrev pub comment_in : Bool → List ℕ → List ℕ
 comment_in is_first gap = cond (begins_run is_first gap) (near_comment (after_blank_line gap)) (without_white gap)
 

@@ -63,8 +63,8 @@ fn has_block_sign(text: &str) -> bool
     has_at_sign(text) || has_close_brace(text) || has_quote(text)
 }
 
-// Returns the comment in `near`, the text after the last blank line of a gap at the start of a run. It is all of that text except ASCII
-// white space at its start, or empty if a block may begin or end in the text.
+// Returns the comment in `near`, the `after_blank_line` of a gap at the start of a run. It is all of that text except ASCII white space
+// at its start, or empty if a block may begin or end in the text.
 fn near_comment(near: &str) -> &str
     ensures { result.now ≡ sorted.near_comment near.now }
 {

@@ -6,8 +6,9 @@
 //!
 //! The rank of an entry is the length of the longest chain of `crossref`s that leads to it (`ranks`). Keys become indices, and all entries
 //! with one key, in any ASCII case, share one index. The references of indices on cycles are removed, so the indices have a topological
-//! order. In this order, the length at an index is 0, or one more than the greatest length at the indices of its children. This takes time
-//! linear in the number of entries and references, except for the lookups of keys.
+//! order. In this order, the length at an index is 0, or one more than the greatest length at the indices of its children. On a cycle it is
+//! the number of indices, which no length exceeds. This takes time linear in the number of entries and references, except for the lookups
+//! of keys.
 //!
 //! The new text isn't parsed. Its raw reading is proved from the file grammar. A comment, and a space without an at sign, are
 //! plain: they contain no at sign and end each of their line comments (`PlainFacts`). So they parse to the empty reading

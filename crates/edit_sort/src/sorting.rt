@@ -69,8 +69,9 @@ fn laid_out(
 /// - No entry moves over an at sign between entries, such as that of an `@string`. The entries between two of these are a run, and each run
 ///   is sorted by itself.
 /// - ASCII white space after an entry stays. The rest of the text before the next entry, such as a comment, moves with that entry.
-/// - Before the first entry of a run, only the text after the last blank line can move, without the white space at its start. It stays if
-///   it contains an at sign, a closing brace or a quote, because a block could begin or end there.
+/// - Before the first entry of a run, only the text after the last blank line can move, without the white space at its start. Without a
+///   blank line, all text before the entry can. It stays if it contains an at sign, a closing brace or a quote, because a block could
+///   begin or end there.
 /// - BibTeX requires an entry before the entries that it names by `crossref`. So entries of a run are sorted by rank first. The rank of an
 ///   entry is the length of the longest chain of references that leads to it, and 0 if no entry names it. An entry on a cycle of
 ///   references, or after one, comes last in its run. A `crossref` names an entry if its value is one text: the key of the entry, in any

@@ -129,7 +129,7 @@ name_read name new =
 
 -- ---- the variables of the code
 
--- the values of a document's fields and their literals begin at character boundaries of its text
+-- the values of the fields of a document's entries, and their literals, begin at character boundaries of its text
 pub all_cut : (d : Document) → IsDocument d → AreAllFieldsCut d.text d.says.entries
 all_cut d read = fields_weaker (IsPlaced d.text) (IsValue d.text) (IsFieldCut d.text)
     (λ f placed value.
@@ -138,7 +138,7 @@ all_cut d read = fields_weaker (IsPlaced d.text) (IsValue d.text) (IsFieldCut d.
       pieces = all_weaker (IsElement d.text) (IsPieceCut d.text) (is_cut d.text) (elements f) value.all;
     }) d.says.entries (all_placed d read) (file_stands d.text refl read).entries
 
--- each index of a text is less than the count of the names
+-- each index of a text is less than the count of the texts
 pub index_known : (index : Index) (texts : List (List ℕ)) (count : ℕ) → index ≡ text_index texts → count ≡ length texts
     → IsBelow count index
 index_known index texts count is size =
@@ -266,7 +266,7 @@ module _ (d : Document) (read : IsDocument d) (utf8 : IsUtf8 d.text) (exchange :
   abbrev changed_says : FileReading
   changed_says = file_changed (exchanges exchange) d.says
 
-  -- with the lines before its first entry, the text with replaced values parses to the reading with the definitions of the lines
+  -- with the lines before its first entry, the text with replaced values parses to the reading with their definitions, except for offsets
   some_read : (e : EntryReading) (es : List EntryReading) → d.says.entries ≡ e ∷ es
       → IsReadPlaceless (with_definitions e.start readings changed_says)
       (edited (record { start = e.start; end = e.start; bytes = lines }) now)
@@ -339,7 +339,7 @@ module _ (d : Document) (read : IsDocument d) (utf8 : IsUtf8 d.text) (exchange :
             ∙ split_from at f.before.abbreviations f.following.abbreviations f.are_before f.are_from))));
       }
 
-  -- if a document has no entries, and no text is collected from it, its text without lines parses to the same reading
+  -- if a document has no entries, and no text is collected, its text without lines parses to the same reading, except for offsets
   none_read : (es : List EntryReading) → d.says.entries ≡ es → length es ≡ 0 → texts ≡ [] → names ≡ []
       → IsReadPlaceless (with_definitions 0 readings changed_says) (edited (record { start = 0; end = 0; bytes = lines }) now)
   none_read es is none no_texts no_names =

@@ -1,4 +1,4 @@
--- Pieces of a file: each of them parses in the same way at any other place where its bytes are written.
+-- Pieces of a file: each of them parses in the same way wherever its bytes are written before a character that can end a piece.
 use Rattle.std.proofs.Common.{◌≡◌, ℕ, ◌+◌, ◌-◌, ◌≤◌, List, [], ◌∷◌, ◌++◌, length, map, codes, refl, sym, ap, ◌∙◌, subst, arith, append-nil}
 use Rattle.std.specs.Prelude.{◌==◌}
 use Rattle.std.specs.Char.{is_whitespace}
@@ -32,7 +32,7 @@ use Rattle.edit_entries.proofs.NewValueFacts.{AreRead, CanBeRead}
 use Rattle.edit_entries.proofs.NewFieldFacts.{piece_placeless}
 use Rattle.bib_text.proofs.ListFacts.{all_append}
 
--- a piece occurs somewhere in a text, after neither a brace nor a quote
+-- a piece occurs somewhere in a text, and neither an opening brace nor a quote is directly before it
 pub record IsElement (text : List ℕ) (e : Piece) : Type 0 where
   pub start : Place
   pub end : Place

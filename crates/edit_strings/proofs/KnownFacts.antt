@@ -20,7 +20,7 @@ pub counted_name : (name : List ℕ) (fs : List FieldReading) (f : FieldReading)
 counted_name name fs f old count counted before =
     by_case (bytes_eq (str_to_ascii_lowercase f.name.text) (str_to_ascii_lowercase name)) refl ∙ sym (count_more (has_name name) fs f)
   where
-    -- names that are equal in lowercase have the same count
+    -- names that are equal in ASCII lowercase have the same count
     same_counts : (gs : List FieldReading) → str_to_ascii_lowercase f.name.text ≡ str_to_ascii_lowercase name
         → count_by (has_name f.name.text) gs ≡ count_by (has_name name) gs
     same_counts gs same = ap (λ lower. count_by (λ g. bytes_eq (str_to_ascii_lowercase g.name.text) lower) gs) same

@@ -31,7 +31,7 @@ choice b q x y z t no_brace quote is = ap (λ c. cond c x (cond q y z)) no_brace
 neither : (b q : Bool) (x y z : List ℕ) → b ≡ false → q ≡ false → cond b x (cond q y z) ≡ z
 neither b q x y z no_brace no_quote = ap (λ c. cond c x (cond q y z)) no_brace ∙ ap (λ c. cond c y z) no_quote
 
--- a piece is written as in the file if neither a brace nor a quote is directly before it
+-- a piece that keeps its delimiters is written as in the file if neither an opening brace nor a quote is directly before it
 pub element_written : {u v : Place} {e : Piece} → Element longest u e v → NotOpened u → piece_as_written Keep u.text e ≡ between u v
 element_written (element.number n) opened = neither _ _ _ _ _ opened.no_brace opened.no_quote
 element_written (element.named none i) opened = ap (λ p. p.text) i.reading

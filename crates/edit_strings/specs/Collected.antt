@@ -59,7 +59,7 @@ times_of text texts = count_by (λ t. bytes_eq t text) texts
 abbrev pub is_month : List ℕ → Bool
 is_month name = is_some (month_of_abbreviation name)
 
--- whether a name begins with an ASCII digit; in a value, it would be a number
+-- whether a name begins with an ASCII digit; in a value, a number would begin there
 abbrev pub has_digit_first : List ℕ → Bool
 has_digit_first [] = false
 has_digit_first (b ∷ bs) = is_ascii_digit b
@@ -263,8 +263,9 @@ with_definitions at definitions says = record says {
       filter (is_before at) says.abbreviations ++ (definitions ++ filter (λ f. not (is_before at f)) says.abbreviations);
 }
 
--- a text is that of a document with its repeated texts in fields with these names replaced by abbreviations. The lines that define new
--- names are directly before the first entry. The text parses to the reading with these replacements and definitions.
+-- a text is that of a document with the texts to collect from fields with these names replaced by abbreviations. The lines that define
+-- new names are directly before the first entry. The text parses to the reading with these replacements and definitions, except for byte
+-- offsets.
 pub record AreMadeAbbreviations (d : Document) (fields : List (List ℕ)) (least : ℕ) (text : List ℕ) : Type 0 where
   pub texts : List (List ℕ)
   pub names : List (List ℕ)

@@ -45,7 +45,7 @@ abbrev pub is_plain_name : List ℕ → Bool
 is_plain_name [] = false
 is_plain_name (b ∷ bs) = is_ascii_lowercase b && list_all is_plain_byte bs
 
--- the replacement of values of fields with some names by the new name that their text has in an index
+-- the replacement of values of fields with some names by the name at the index of their text
 abbrev pub collection_by : List (List ℕ) → Index → List (List ℕ) → Exchange
 collection_by fields index names f = text_value index names (named_text fields f)
 
@@ -88,7 +88,7 @@ letter_at met c = cond (not met && is_ascii_alphabetic c) (encode_utf8 (to_ascii
 abbrev pub is_used : Taken → List ℕ → Bool
 is_used taken name = is_month name || is_taken taken name
 
--- each number below this one makes a name that is used
+-- each number from 1 on below this one makes a name that is used
 abbrev pub AreUsedBelow : Taken → List ℕ → ℕ → Type 0
 AreUsedBelow taken base number = (n : ℕ) → 1 ≤ n → n < number → is_used taken (base ++ number_after n) ≡ true
 

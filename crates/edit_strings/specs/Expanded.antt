@@ -80,7 +80,7 @@ abbrev pub document_expansion : Document → (EntryReading → FieldReading → 
 document_expansion d written e =
     expansion d.text (index_before d.says.abbreviations (count_before d.says.abbreviations e)) (written e)
 
--- a text is that of a document with its abbreviations expanded, and parses to this: no other value changes
+-- a text is that of a document with its abbreviations expanded, and parses to its reading with these values, except for byte offsets
 pub record IsExpanded (d : Document) (text : List ℕ) : Type 0 where
   pub written : EntryReading → FieldReading → List Piece
   pub each : AreWrittenOut d.says written

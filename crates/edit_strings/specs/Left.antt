@@ -9,7 +9,7 @@ use Rattle.edit_entries.specs.References.{first_renamed, new_reference}
 use Rattle.edit_strings.specs.Collected.{single_text}
 use Rattle.edit_strings.specs.Expanded.{AreWrittenOut, elements}
 
--- the text of a piece of an expansion: BibTeX and Biber read a name without a definition as an empty text
+-- the text of a piece of an expansion, empty for a name. BibTeX and Biber read an undefined name other than a month's as an empty text
 abbrev pub expanded_text : Piece → List ℕ
 expanded_text (literal p) = p.text
 expanded_text (abbreviation p) = []

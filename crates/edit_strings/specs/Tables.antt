@@ -52,7 +52,7 @@ AreAllFieldsCut text entries = AllByRecursion (λ e. AllByRecursion (IsFieldCut 
 abbrev pub index_in : BTreeMap (Bor (List ℕ)) ℕ → Index
 index_in indices name = get_by (λ k. slice_cmp nat_cmp name k.now) indices
 
--- the index that a map, whose names are in lowercase, has for each name in any ASCII case
+-- the index that a map, whose names are in ASCII lowercase, has for each name in any ASCII case
 abbrev pub lowercase_index_in : BTreeMap (String Global) ℕ → Index
 lowercase_index_in indices name = get_by_text indices (str_to_ascii_lowercase name)
 

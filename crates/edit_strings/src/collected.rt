@@ -12,7 +12,7 @@ use edit_entries::braces::can_stand_in_braces;
 use std::alloc::{AllocError, Global};
 use std::collections::{BTreeMap, BTreeSet};
 
-// Returns whether `text` has a name in `known` or is longer than its new name.
+// Returns whether `text` has a name in `known` or is longer than its new name without a number.
 fn is_shortened(alloc: Global, known: &BTreeMap<&str, &str>, text: &str) -> Result<bool, AllocError>
     ensures { IfOk result (λ is. is ≡ (is_some (known_in known.now text.now) || spec.is_longer_than_name text.now)) }
 {
@@ -23,7 +23,7 @@ fn is_shortened(alloc: Global, known: &BTreeMap<&str, &str>, text: &str) -> Resu
 }
 
 // Returns whether `text` was counted at least `least` times, and can be written between braces, also for BibTeX. It must also have a name
-// in `known` or be longer than its new name.
+// in `known` or be longer than its new name without a number.
 fn is_collected(
     alloc: Global,
     known: &BTreeMap<&str, &str>,

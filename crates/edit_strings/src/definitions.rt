@@ -1,4 +1,4 @@
-//! The `@string` definitions of a file: the index of each name's definition.
+//! The `@string` definitions of a file: the index of each name's last definition, and definitions that use a name too early.
 
 ghost use Rattle.std.specs.Prelude.{◌≡◌, ℕ, List, IfOk, OnOk, Some, if◌then◌else◌, length, map};
 ghost use Rattle.std.specs.List.{list_any};

@@ -35,7 +35,7 @@ fn name_count(counts: &BTreeMap<String, usize>, lowercase: &str) -> usize
     }
 }
 
-// Returns how many definitions each name has, in any ASCII case. The names of the map are in lowercase.
+// Returns how many definitions each name has, in any ASCII case. The names of the map are in ASCII lowercase.
 fn name_counts(
     alloc: Global,
     definitions: &[Pair<'_>],

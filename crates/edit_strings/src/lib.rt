@@ -1,4 +1,6 @@
-//! Expands the abbreviations of a bibliography file, and collects repeated texts as new abbreviations.
+//! Expands the abbreviations of a bibliography file, and replaces repeated texts by abbreviations. A text for which a definition can be
+//! reused gets the name of that definition, and another text a new one. `left_references` finds the references that stay although their
+//! entries get new keys, since their values aren't one literal.
 //!
 //! A name is expanded by its last definition before the use, so the pieces of a definition only refer to earlier definitions. Their
 //! indices are looked up once. A value is expanded by a stack of the pieces that are still to expand. The entries are visited in the
@@ -8,9 +10,9 @@
 //! lines are written before the first entry.
 //!
 //! Each replaced value is one edit of the text. All edits are applied in one pass, and the new text isn't parsed again. The
-//! proof of its reading takes the edits from the last to the first (`ExchangedFacts`), with the lemmas of `edit_entries` about
-//! one edit of a field. A copied piece was parsed at some place of the file. It parses in
-//! the same way wherever its bytes occur before a character that can't continue a name or a number (`ElementFacts`).
+//! proof of its reading takes the edits as changes of entries (`ExchangedFacts`), with the lemmas of `edit_entries` about such
+//! changes. A copied piece was parsed at some place of the file. It parses in the same way wherever its bytes occur before a
+//! character that can't continue a name or a number (`ElementFacts`).
 #![tactic(auto)]
 
 mod collected;

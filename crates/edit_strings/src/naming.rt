@@ -130,8 +130,8 @@ fn is_used(taken: &Taken, name: &str) -> bool
 }
 
 // Returns the first number from `from` on that makes `base` a new name, and this name. Each number below `from` makes a name that is
-// used. No number from 2 on makes a month's abbreviation, so a number is only skipped for a taken name. So the loop finds a new name
-// before its end.
+// used. No number from 2 on makes a month's abbreviation, so such a number is only skipped for a taken name. So the loop finds a new
+// name before its end.
 fn fresh(alloc: Global, taken: &Taken, base: &str, from: u64) -> Result<(u64, String), AllocError>
     requires plain { is_plain_name base.now ≡ true }
     requires some { 1 ≤ from }

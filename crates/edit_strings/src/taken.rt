@@ -1,4 +1,4 @@
-//! The names that are taken: those that the file defines or uses. A new abbreviation gets another name.
+//! The names that are taken: those that the file defines or uses, and the new ones. A new abbreviation gets another name.
 
 ghost use Rattle.std.specs.Prelude.{◌≡◌, ◌||◌, ◌<◌, ◌^◌, ℕ, List, IfOk, OnOk, map};
 ghost use Rattle.std.specs.BTreeSet.{btree_set_len};

@@ -1,4 +1,4 @@
-//! Expansions of values.
+//! Expansions of values, and the check that no definition uses a name too early.
 
 ghost use Rattle.std.specs.Prelude.{◌≡◌, IfErr, IfOk, OnOk, length, map};
 ghost use Rattle.std.specs.List.{AllByRecursion};

@@ -12,7 +12,7 @@ use std::alloc::{AllocError, Global};
 
 impl Entry {
     /// Returns the field `address`, or else `location`: the location of the publisher in BibTeX files (BibLaTeX manual,
-    /// 2.2.5). If both are missing, the error is `Missing` with the name `address`.
+    /// 2.2.5). If both are missing, the error is `Missing` with the name `address`, or out of memory.
     pub fn address(&self, alloc: Global) -> Result<ChunksRef<'_>, RetrievalError>
         ensures { GetsEitherChunks self.now (codes "address") (codes "location") result }
     {
@@ -28,7 +28,7 @@ impl Entry {
     }
 
     /// Returns the field `location`, or else `address`: the place of publication (BibLaTeX manual, 2.2.2). If both are
-    /// missing, the error is `Missing` with the name `location`.
+    /// missing, the error is `Missing` with the name `location`, or out of memory.
     pub fn location(&self, alloc: Global) -> Result<ChunksRef<'_>, RetrievalError>
         ensures { GetsEitherChunks self.now (codes "location") (codes "address") result }
     {
@@ -44,7 +44,7 @@ impl Entry {
     }
 
     /// Returns the field `annotation`, or else `annote`: the annotation of the work in an annotated bibliography (BibLaTeX
-    /// manual, 2.2.2). If both are missing, the error is `Missing` with the name `annotation`.
+    /// manual, 2.2.2). If both are missing, the error is `Missing` with the name `annotation`, or out of memory.
     pub fn annotation(&self, alloc: Global) -> Result<ChunksRef<'_>, RetrievalError>
         ensures { GetsEitherChunks self.now (codes "annotation") (codes "annote") result }
     {
@@ -60,7 +60,7 @@ impl Entry {
     }
 
     /// Returns the field `eprinttype`, or else `archiveprefix`: the archive of the electronic version (BibLaTeX manual,
-    /// 2.2.2). If both are missing, the error is `Missing` with the name `eprinttype`.
+    /// 2.2.2). If both are missing, the error is `Missing` with the name `eprinttype`, or out of memory.
     pub fn eprint_type(&self, alloc: Global) -> Result<ChunksRef<'_>, RetrievalError>
         ensures { GetsEitherChunks self.now (codes "eprinttype") (codes "archiveprefix") result }
     {
@@ -76,7 +76,7 @@ impl Entry {
     }
 
     /// Returns the field `eprintclass`, or else `primaryclass`: the class or section within the archive (BibLaTeX manual,
-    /// 2.2.2). If both are missing, the error is `Missing` with the name `eprintclass`.
+    /// 2.2.2). If both are missing, the error is `Missing` with the name `eprintclass`, or out of memory.
     pub fn eprint_class(&self, alloc: Global) -> Result<ChunksRef<'_>, RetrievalError>
         ensures { GetsEitherChunks self.now (codes "eprintclass") (codes "primaryclass") result }
     {
@@ -92,7 +92,7 @@ impl Entry {
     }
 
     /// Returns the field `journal`, or else `journaltitle`: the name of the journal in BibTeX files (BibLaTeX manual,
-    /// 2.2.5). If both are missing, the error is `Missing` with the name `journal`.
+    /// 2.2.5). If both are missing, the error is `Missing` with the name `journal`, or out of memory.
     pub fn journal(&self, alloc: Global) -> Result<ChunksRef<'_>, RetrievalError>
         ensures { GetsEitherChunks self.now (codes "journal") (codes "journaltitle") result }
     {
@@ -108,7 +108,7 @@ impl Entry {
     }
 
     /// Returns the field `journaltitle`, or else `journal`: the name of the journal (BibLaTeX manual, 2.2.2). If both are
-    /// missing, the error is `Missing` with the name `journaltitle`.
+    /// missing, the error is `Missing` with the name `journaltitle`, or out of memory.
     pub fn journal_title(&self, alloc: Global) -> Result<ChunksRef<'_>, RetrievalError>
         ensures { GetsEitherChunks self.now (codes "journaltitle") (codes "journal") result }
     {
@@ -124,7 +124,7 @@ impl Entry {
     }
 
     /// Returns the field `key`, or else `sortkey`: the sort key of the entry (BibLaTeX manual, 2.2.5). If both are missing,
-    /// the error is `Missing` with the name `key`.
+    /// the error is `Missing` with the name `key`, or out of memory.
     pub fn sort_key(&self, alloc: Global) -> Result<String, RetrievalError>
         ensures { GetsEitherValue ⟦<String as Type>⟧ self.now (codes "key") (codes "sortkey") result }
     {
@@ -140,7 +140,7 @@ impl Entry {
     }
 
     /// Returns the field `file`, or else `pdf`: the path of a local copy (BibLaTeX manual, 2.2.2). If both are missing, the
-    /// error is `Missing` with the name `file`.
+    /// error is `Missing` with the name `file`, or out of memory.
     pub fn file(&self, alloc: Global) -> Result<String, RetrievalError>
         ensures { GetsEitherValue ⟦<String as Type>⟧ self.now (codes "file") (codes "pdf") result }
     {
@@ -156,7 +156,7 @@ impl Entry {
     }
 
     /// Returns the field `school`, or else `institution`: the university of a thesis in BibTeX files (BibLaTeX manual,
-    /// 2.2.5). If both are missing, the error is `Missing` with the name `school`.
+    /// 2.2.5). If both are missing, the error is `Missing` with the name `school`, or out of memory.
     pub fn school(&self, alloc: Global) -> Result<ChunksRef<'_>, RetrievalError>
         ensures { GetsEitherChunks self.now (codes "school") (codes "institution") result }
     {
@@ -172,7 +172,7 @@ impl Entry {
     }
 
     /// Returns the field `institution`, or else `school`: the university or other institution (BibLaTeX manual, 2.2.2). If
-    /// both are missing, the error is `Missing` with the name `institution`.
+    /// both are missing, the error is `Missing` with the name `institution`, or out of memory.
     pub fn institution(&self, alloc: Global) -> Result<ChunksRef<'_>, RetrievalError>
         ensures { GetsEitherChunks self.now (codes "institution") (codes "school") result }
     {

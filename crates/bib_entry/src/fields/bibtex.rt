@@ -1,4 +1,4 @@
-//! Getters and setters of the fields of BibTeX.
+//! Getters and setters of fields that BibTeX has, too.
 
 ghost use Rattle.std.specs.Prelude.{codes};
 ghost use Rattle.bib_entry.specs.Fields.{GetsValue, GetsChunks, SetsChunks, SetsValue};
@@ -14,7 +14,7 @@ use std::ops::Range;
 
 impl Entry {
     /// Returns the field `author`: the authors (BibLaTeX manual, 2.2.2). If it is missing, the error is `Missing` with the
-    /// name `author`.
+    /// name `author`, or out of memory.
     pub fn author(&self, alloc: Global) -> Result<Vec<Person>, RetrievalError>
         ensures { GetsValue ⟦<Vec<Person> as Type>⟧ self.now (codes "author") result }
     {
@@ -30,7 +30,7 @@ impl Entry {
     }
 
     /// Returns the field `booktitle`: the title of the book that the work is a part of (BibLaTeX manual, 2.2.2). If it is
-    /// missing, the error is `Missing` with the name `booktitle`.
+    /// missing, the error is `Missing` with the name `booktitle`, or out of memory.
     pub fn book_title(&self, alloc: Global) -> Result<ChunksRef<'_>, RetrievalError>
         ensures { GetsChunks self.now (codes "booktitle") result }
     {
@@ -46,7 +46,7 @@ impl Entry {
     }
 
     /// Returns the field `chapter`: the chapter, or another part of a work (BibLaTeX manual, 2.2.2). If it is missing, the
-    /// error is `Missing` with the name `chapter`.
+    /// error is `Missing` with the name `chapter`, or out of memory.
     pub fn chapter(&self, alloc: Global) -> Result<ChunksRef<'_>, RetrievalError>
         ensures { GetsChunks self.now (codes "chapter") result }
     {
@@ -62,7 +62,7 @@ impl Entry {
     }
 
     /// Returns the field `edition`: the edition (BibLaTeX manual, 2.2.2). If it is missing, the error is `Missing` with the
-    /// name `edition`.
+    /// name `edition`, or out of memory.
     pub fn edition(&self, alloc: Global) -> Result<PermissiveType<i64>, RetrievalError>
         ensures { GetsValue ⟦<PermissiveType<i64> as Type>⟧ self.now (codes "edition") result }
     {
@@ -78,7 +78,7 @@ impl Entry {
     }
 
     /// Returns the field `howpublished`: the form of publication, if it is unusual (BibLaTeX manual, 2.2.2). If it is
-    /// missing, the error is `Missing` with the name `howpublished`.
+    /// missing, the error is `Missing` with the name `howpublished`, or out of memory.
     pub fn how_published(&self, alloc: Global) -> Result<ChunksRef<'_>, RetrievalError>
         ensures { GetsChunks self.now (codes "howpublished") result }
     {
@@ -94,7 +94,7 @@ impl Entry {
     }
 
     /// Returns the field `note`: information that fits no other field (BibLaTeX manual, 2.2.2). If it is missing, the error
-    /// is `Missing` with the name `note`.
+    /// is `Missing` with the name `note`, or out of memory.
     pub fn note(&self, alloc: Global) -> Result<ChunksRef<'_>, RetrievalError>
         ensures { GetsChunks self.now (codes "note") result }
     {
@@ -110,7 +110,7 @@ impl Entry {
     }
 
     /// Returns the field `number`: the number of an issue, a report or a patent, or within a series (BibLaTeX manual,
-    /// 2.2.2). If it is missing, the error is `Missing` with the name `number`.
+    /// 2.2.2). If it is missing, the error is `Missing` with the name `number`, or out of memory.
     pub fn number(&self, alloc: Global) -> Result<ChunksRef<'_>, RetrievalError>
         ensures { GetsChunks self.now (codes "number") result }
     {
@@ -126,7 +126,7 @@ impl Entry {
     }
 
     /// Returns the field `organization`: the organizations that published a manual or website, or sponsored a conference
-    /// (BibLaTeX manual, 2.2.2). If it is missing, the error is `Missing` with the name `organization`.
+    /// (BibLaTeX manual, 2.2.2). If it is missing, the error is `Missing` with the name `organization`, or out of memory.
     pub fn organization(&self, alloc: Global) -> Result<Vec<Chunks>, RetrievalError>
         ensures { GetsValue ⟦<Vec<Chunks> as Type>⟧ self.now (codes "organization") result }
     {
@@ -143,7 +143,7 @@ impl Entry {
     }
 
     /// Returns the field `pages`: the pages (BibLaTeX manual, 2.2.2). If it is missing, the error is `Missing` with the
-    /// name `pages`.
+    /// name `pages`, or out of memory.
     pub fn pages(&self, alloc: Global) -> Result<PermissiveType<Vec<Range<u32>>>, RetrievalError>
         ensures { GetsValue ⟦<PermissiveType<Vec<Range<u32>>> as Type>⟧ self.now (codes "pages") result }
     {
@@ -159,7 +159,7 @@ impl Entry {
     }
 
     /// Returns the field `publisher`: the publishers (BibLaTeX manual, 2.2.2). If it is missing, the error is `Missing`
-    /// with the name `publisher`.
+    /// with the name `publisher`, or out of memory.
     pub fn publisher(&self, alloc: Global) -> Result<Vec<Chunks>, RetrievalError>
         ensures { GetsValue ⟦<Vec<Chunks> as Type>⟧ self.now (codes "publisher") result }
     {
@@ -175,7 +175,7 @@ impl Entry {
     }
 
     /// Returns the field `series`: the series that the work appeared in (BibLaTeX manual, 2.2.2). If it is missing, the
-    /// error is `Missing` with the name `series`.
+    /// error is `Missing` with the name `series`, or out of memory.
     pub fn series(&self, alloc: Global) -> Result<ChunksRef<'_>, RetrievalError>
         ensures { GetsChunks self.now (codes "series") result }
     {
@@ -191,7 +191,7 @@ impl Entry {
     }
 
     /// Returns the field `title`: the title (BibLaTeX manual, 2.2.2). If it is missing, the error is `Missing` with the
-    /// name `title`.
+    /// name `title`, or out of memory.
     pub fn title(&self, alloc: Global) -> Result<ChunksRef<'_>, RetrievalError>
         ensures { GetsChunks self.now (codes "title") result }
     {
@@ -207,7 +207,7 @@ impl Entry {
     }
 
     /// Returns the field `type`: the type of a manual, patent, report or thesis (BibLaTeX manual, 2.2.2). If it is missing,
-    /// the error is `Missing` with the name `type`.
+    /// the error is `Missing` with the name `type`, or out of memory.
     pub fn type_(&self, alloc: Global) -> Result<String, RetrievalError>
         ensures { GetsValue ⟦<String as Type>⟧ self.now (codes "type") result }
     {
@@ -224,7 +224,7 @@ impl Entry {
     }
 
     /// Returns the field `volume`: the volume of a journal or of a work in several volumes (BibLaTeX manual, 2.2.2). If it
-    /// is missing, the error is `Missing` with the name `volume`.
+    /// is missing, the error is `Missing` with the name `volume`, or out of memory.
     pub fn volume(&self, alloc: Global) -> Result<PermissiveType<i64>, RetrievalError>
         ensures { GetsValue ⟦<PermissiveType<i64> as Type>⟧ self.now (codes "volume") result }
     {

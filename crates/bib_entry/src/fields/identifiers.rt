@@ -12,7 +12,7 @@ use std::alloc::{AllocError, Global};
 
 impl Entry {
     /// Returns the field `doi`: the Digital Object Identifier (BibLaTeX manual, 2.2.2). If it is missing, the error is
-    /// `Missing` with the name `doi`.
+    /// `Missing` with the name `doi`, or out of memory.
     pub fn doi(&self, alloc: Global) -> Result<String, RetrievalError>
         ensures { GetsValue ⟦<String as Type>⟧ self.now (codes "doi") result }
     {
@@ -28,7 +28,7 @@ impl Entry {
     }
 
     /// Returns the field `eid`: the electronic identifier of an article (BibLaTeX manual, 2.2.2). If it is missing, the
-    /// error is `Missing` with the name `eid`.
+    /// error is `Missing` with the name `eid`, or out of memory.
     pub fn eid(&self, alloc: Global) -> Result<ChunksRef<'_>, RetrievalError>
         ensures { GetsChunks self.now (codes "eid") result }
     {
@@ -44,7 +44,7 @@ impl Entry {
     }
 
     /// Returns the field `eprint`: the identifier of the electronic version in its archive (BibLaTeX manual, 2.2.2). If it
-    /// is missing, the error is `Missing` with the name `eprint`.
+    /// is missing, the error is `Missing` with the name `eprint`, or out of memory.
     pub fn eprint(&self, alloc: Global) -> Result<String, RetrievalError>
         ensures { GetsValue ⟦<String as Type>⟧ self.now (codes "eprint") result }
     {
@@ -61,7 +61,7 @@ impl Entry {
     }
 
     /// Returns the field `isan`: the International Standard Audiovisual Number (BibLaTeX manual, 2.2.2). If it is missing,
-    /// the error is `Missing` with the name `isan`.
+    /// the error is `Missing` with the name `isan`, or out of memory.
     pub fn isan(&self, alloc: Global) -> Result<ChunksRef<'_>, RetrievalError>
         ensures { GetsChunks self.now (codes "isan") result }
     {
@@ -77,7 +77,7 @@ impl Entry {
     }
 
     /// Returns the field `isbn`: the International Standard Book Number (BibLaTeX manual, 2.2.2). If it is missing, the
-    /// error is `Missing` with the name `isbn`.
+    /// error is `Missing` with the name `isbn`, or out of memory.
     pub fn isbn(&self, alloc: Global) -> Result<ChunksRef<'_>, RetrievalError>
         ensures { GetsChunks self.now (codes "isbn") result }
     {
@@ -93,7 +93,7 @@ impl Entry {
     }
 
     /// Returns the field `ismn`: the International Standard Music Number (BibLaTeX manual, 2.2.2). If it is missing, the
-    /// error is `Missing` with the name `ismn`.
+    /// error is `Missing` with the name `ismn`, or out of memory.
     pub fn ismn(&self, alloc: Global) -> Result<ChunksRef<'_>, RetrievalError>
         ensures { GetsChunks self.now (codes "ismn") result }
     {
@@ -109,7 +109,7 @@ impl Entry {
     }
 
     /// Returns the field `isrn`: the International Standard Technical Report Number (BibLaTeX manual, 2.2.2). If it is
-    /// missing, the error is `Missing` with the name `isrn`.
+    /// missing, the error is `Missing` with the name `isrn`, or out of memory.
     pub fn isrn(&self, alloc: Global) -> Result<ChunksRef<'_>, RetrievalError>
         ensures { GetsChunks self.now (codes "isrn") result }
     {
@@ -125,7 +125,7 @@ impl Entry {
     }
 
     /// Returns the field `issn`: the International Standard Serial Number (BibLaTeX manual, 2.2.2). If it is missing, the
-    /// error is `Missing` with the name `issn`.
+    /// error is `Missing` with the name `issn`, or out of memory.
     pub fn issn(&self, alloc: Global) -> Result<ChunksRef<'_>, RetrievalError>
         ensures { GetsChunks self.now (codes "issn") result }
     {
@@ -141,7 +141,7 @@ impl Entry {
     }
 
     /// Returns the field `iswc`: the International Standard Work Code (BibLaTeX manual, 2.2.2). If it is missing, the error
-    /// is `Missing` with the name `iswc`.
+    /// is `Missing` with the name `iswc`, or out of memory.
     pub fn iswc(&self, alloc: Global) -> Result<ChunksRef<'_>, RetrievalError>
         ensures { GetsChunks self.now (codes "iswc") result }
     {

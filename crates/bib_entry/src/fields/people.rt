@@ -11,7 +11,7 @@ use std::alloc::{AllocError, Global};
 
 impl Entry {
     /// Returns the field `afterword`: the authors of an afterword (BibLaTeX manual, 2.2.2). If it is missing, the error is
-    /// `Missing` with the name `afterword`.
+    /// `Missing` with the name `afterword`, or out of memory.
     pub fn afterword(&self, alloc: Global) -> Result<Vec<Person>, RetrievalError>
         ensures { GetsValue ⟦<Vec<Person> as Type>⟧ self.now (codes "afterword") result }
     {
@@ -27,7 +27,7 @@ impl Entry {
     }
 
     /// Returns the field `annotator`: the authors of annotations (BibLaTeX manual, 2.2.2). If it is missing, the error is
-    /// `Missing` with the name `annotator`.
+    /// `Missing` with the name `annotator`, or out of memory.
     pub fn annotator(&self, alloc: Global) -> Result<Vec<Person>, RetrievalError>
         ensures { GetsValue ⟦<Vec<Person> as Type>⟧ self.now (codes "annotator") result }
     {
@@ -43,7 +43,7 @@ impl Entry {
     }
 
     /// Returns the field `bookauthor`: the authors of the book that the work is a part of (BibLaTeX manual, 2.2.2). If it
-    /// is missing, the error is `Missing` with the name `bookauthor`.
+    /// is missing, the error is `Missing` with the name `bookauthor`, or out of memory.
     pub fn book_author(&self, alloc: Global) -> Result<Vec<Person>, RetrievalError>
         ensures { GetsValue ⟦<Vec<Person> as Type>⟧ self.now (codes "bookauthor") result }
     {
@@ -60,7 +60,7 @@ impl Entry {
     }
 
     /// Returns the field `commentator`: the authors of a commentary (BibLaTeX manual, 2.2.2). If it is missing, the error
-    /// is `Missing` with the name `commentator`.
+    /// is `Missing` with the name `commentator`, or out of memory.
     pub fn commentator(&self, alloc: Global) -> Result<Vec<Person>, RetrievalError>
         ensures { GetsValue ⟦<Vec<Person> as Type>⟧ self.now (codes "commentator") result }
     {
@@ -76,7 +76,7 @@ impl Entry {
     }
 
     /// Returns the field `foreword`: the authors of a foreword (BibLaTeX manual, 2.2.2). If it is missing, the error is
-    /// `Missing` with the name `foreword`.
+    /// `Missing` with the name `foreword`, or out of memory.
     pub fn foreword(&self, alloc: Global) -> Result<Vec<Person>, RetrievalError>
         ensures { GetsValue ⟦<Vec<Person> as Type>⟧ self.now (codes "foreword") result }
     {
@@ -92,7 +92,7 @@ impl Entry {
     }
 
     /// Returns the field `holder`: the holders of a patent (BibLaTeX manual, 2.2.2). If it is missing, the error is
-    /// `Missing` with the name `holder`.
+    /// `Missing` with the name `holder`, or out of memory.
     pub fn holder(&self, alloc: Global) -> Result<Vec<Person>, RetrievalError>
         ensures { GetsValue ⟦<Vec<Person> as Type>⟧ self.now (codes "holder") result }
     {
@@ -108,7 +108,7 @@ impl Entry {
     }
 
     /// Returns the field `introduction`: the authors of an introduction (BibLaTeX manual, 2.2.2). If it is missing, the
-    /// error is `Missing` with the name `introduction`.
+    /// error is `Missing` with the name `introduction`, or out of memory.
     pub fn introduction(&self, alloc: Global) -> Result<Vec<Person>, RetrievalError>
         ensures { GetsValue ⟦<Vec<Person> as Type>⟧ self.now (codes "introduction") result }
     {
@@ -124,7 +124,7 @@ impl Entry {
     }
 
     /// Returns the field `shortauthor`: the authors, abridged (BibLaTeX manual, 2.2.2). If it is missing, the error is
-    /// `Missing` with the name `shortauthor`.
+    /// `Missing` with the name `shortauthor`, or out of memory.
     pub fn short_author(&self, alloc: Global) -> Result<Vec<Person>, RetrievalError>
         ensures { GetsValue ⟦<Vec<Person> as Type>⟧ self.now (codes "shortauthor") result }
     {
@@ -140,7 +140,7 @@ impl Entry {
     }
 
     /// Returns the field `shorteditor`: the editors, abridged (BibLaTeX manual, 2.2.2). If it is missing, the error is
-    /// `Missing` with the name `shorteditor`.
+    /// `Missing` with the name `shorteditor`, or out of memory.
     pub fn short_editor(&self, alloc: Global) -> Result<Vec<Person>, RetrievalError>
         ensures { GetsValue ⟦<Vec<Person> as Type>⟧ self.now (codes "shorteditor") result }
     {
@@ -156,7 +156,7 @@ impl Entry {
     }
 
     /// Returns the field `translator`: the translators (BibLaTeX manual, 2.2.2). If it is missing, the error is `Missing`
-    /// with the name `translator`.
+    /// with the name `translator`, or out of memory.
     pub fn translator(&self, alloc: Global) -> Result<Vec<Person>, RetrievalError>
         ensures { GetsValue ⟦<Vec<Person> as Type>⟧ self.now (codes "translator") result }
     {

@@ -14,7 +14,7 @@ use std::alloc::{AllocError, Global};
 
 impl Entry {
     /// Returns the field `abstract`: the abstract (BibLaTeX manual, 2.2.2). If it is missing, the error is `Missing` with
-    /// the name `abstract`.
+    /// the name `abstract`, or out of memory.
     pub fn abstract_(&self, alloc: Global) -> Result<ChunksRef<'_>, RetrievalError>
         ensures { GetsChunks self.now (codes "abstract") result }
     {
@@ -30,7 +30,7 @@ impl Entry {
     }
 
     /// Returns the field `addendum`: the text at the very end of the entry (BibLaTeX manual, 2.2.2). If it is missing, the
-    /// error is `Missing` with the name `addendum`.
+    /// error is `Missing` with the name `addendum`, or out of memory.
     pub fn addendum(&self, alloc: Global) -> Result<ChunksRef<'_>, RetrievalError>
         ensures { GetsChunks self.now (codes "addendum") result }
     {
@@ -46,7 +46,7 @@ impl Entry {
     }
 
     /// Returns the field `authortype`: the type of the authors (BibLaTeX manual, 2.2.2). If it is missing, the error is
-    /// `Missing` with the name `authortype`.
+    /// `Missing` with the name `authortype`, or out of memory.
     pub fn author_type(&self, alloc: Global) -> Result<String, RetrievalError>
         ensures { GetsValue ⟦<String as Type>⟧ self.now (codes "authortype") result }
     {
@@ -62,8 +62,8 @@ impl Entry {
     }
 
     /// Returns the field `bookpagination`: the pagination scheme of the book that the work is a part of (BibLaTeX manual,
-    /// 2.2.2). If it is missing, the error is `Missing` with the name `bookpagination`. If its chunks are no pagination
-    /// scheme, the error is a `TypeError`.
+    /// 2.2.2). If it is missing, the error is `Missing` with the name `bookpagination`, or out of memory. If its chunks are no
+    /// pagination scheme, the error is a `TypeError`, or out of memory.
     pub fn book_pagination(&self, alloc: Global) -> Result<Pagination, RetrievalError>
         ensures { GetsValue ⟦<Pagination as Type>⟧ self.now (codes "bookpagination") result }
     {
@@ -80,7 +80,7 @@ impl Entry {
     }
 
     /// Returns the field `entrysubtype`: a subtype of the entry (BibLaTeX manual, 2.2.2). If it is missing, the error is
-    /// `Missing` with the name `entrysubtype`.
+    /// `Missing` with the name `entrysubtype`, or out of memory.
     pub fn entry_subtype(&self, alloc: Global) -> Result<ChunksRef<'_>, RetrievalError>
         ensures { GetsChunks self.now (codes "entrysubtype") result }
     {
@@ -96,7 +96,7 @@ impl Entry {
     }
 
     /// Returns the field `issue`: the name of an issue of a journal, such as a season (BibLaTeX manual, 2.2.2). If it is
-    /// missing, the error is `Missing` with the name `issue`.
+    /// missing, the error is `Missing` with the name `issue`, or out of memory.
     pub fn issue(&self, alloc: Global) -> Result<ChunksRef<'_>, RetrievalError>
         ensures { GetsChunks self.now (codes "issue") result }
     {
@@ -112,7 +112,7 @@ impl Entry {
     }
 
     /// Returns the field `keywords`: the keywords (BibLaTeX manual, 2.2.3). If it is missing, the error is `Missing` with
-    /// the name `keywords`.
+    /// the name `keywords`, or out of memory.
     pub fn keywords(&self, alloc: Global) -> Result<ChunksRef<'_>, RetrievalError>
         ensures { GetsChunks self.now (codes "keywords") result }
     {
@@ -128,7 +128,7 @@ impl Entry {
     }
 
     /// Returns the field `label`: the substitute for a label, for a style that has no other data for one (BibLaTeX manual,
-    /// 2.2.2). If it is missing, the error is `Missing` with the name `label`.
+    /// 2.2.2). If it is missing, the error is `Missing` with the name `label`, or out of memory.
     pub fn label(&self, alloc: Global) -> Result<ChunksRef<'_>, RetrievalError>
         ensures { GetsChunks self.now (codes "label") result }
     {
@@ -144,7 +144,7 @@ impl Entry {
     }
 
     /// Returns the field `langid`: the language that the entry is printed in (BibLaTeX manual, 2.2.3). If it is missing,
-    /// the error is `Missing` with the name `langid`.
+    /// the error is `Missing` with the name `langid`, or out of memory.
     pub fn langid(&self, alloc: Global) -> Result<PermissiveType<Language>, RetrievalError>
         ensures { GetsValue ⟦<PermissiveType<Language> as Type>⟧ self.now (codes "langid") result }
     {
@@ -160,7 +160,7 @@ impl Entry {
     }
 
     /// Returns the field `language`: the languages of the work (BibLaTeX manual, 2.2.2). If it is missing, the error is
-    /// `Missing` with the name `language`.
+    /// `Missing` with the name `language`, or out of memory.
     pub fn language(&self, alloc: Global) -> Result<Vec<PermissiveType<Language>>, RetrievalError>
         ensures { GetsValue ⟦<Vec<PermissiveType<Language>> as Type>⟧ self.now (codes "language") result }
     {
@@ -176,7 +176,7 @@ impl Entry {
     }
 
     /// Returns the field `library`: the library that holds the work (BibLaTeX manual, 2.2.2). If it is missing, the error
-    /// is `Missing` with the name `library`.
+    /// is `Missing` with the name `library`, or out of memory.
     pub fn library(&self, alloc: Global) -> Result<ChunksRef<'_>, RetrievalError>
         ensures { GetsChunks self.now (codes "library") result }
     {
@@ -192,7 +192,7 @@ impl Entry {
     }
 
     /// Returns the field `nameaddon`: the text after the name of the author (BibLaTeX manual, 2.2.2). If it is missing, the
-    /// error is `Missing` with the name `nameaddon`.
+    /// error is `Missing` with the name `nameaddon`, or out of memory.
     pub fn name_addon(&self, alloc: Global) -> Result<ChunksRef<'_>, RetrievalError>
         ensures { GetsChunks self.now (codes "nameaddon") result }
     {
@@ -208,7 +208,7 @@ impl Entry {
     }
 
     /// Returns the field `options`: the options of the entry (BibLaTeX manual, 2.2.3). If it is missing, the error is
-    /// `Missing` with the name `options`.
+    /// `Missing` with the name `options`, or out of memory.
     pub fn options(&self, alloc: Global) -> Result<ChunksRef<'_>, RetrievalError>
         ensures { GetsChunks self.now (codes "options") result }
     {
@@ -224,7 +224,7 @@ impl Entry {
     }
 
     /// Returns the field `origlanguage`: the languages of the original of a translation (BibLaTeX manual, 2.2.2). If it is
-    /// missing, the error is `Missing` with the name `origlanguage`.
+    /// missing, the error is `Missing` with the name `origlanguage`, or out of memory.
     pub fn orig_language(&self, alloc: Global) -> Result<Vec<String>, RetrievalError>
         ensures { GetsValue ⟦<Vec<String> as Type>⟧ self.now (codes "origlanguage") result }
     {
@@ -241,7 +241,7 @@ impl Entry {
     }
 
     /// Returns the field `origlocation`: the places where the original was published (BibLaTeX manual, 2.2.2). If it is
-    /// missing, the error is `Missing` with the name `origlocation`.
+    /// missing, the error is `Missing` with the name `origlocation`, or out of memory.
     pub fn orig_location(&self, alloc: Global) -> Result<Vec<Chunks>, RetrievalError>
         ensures { GetsValue ⟦<Vec<Chunks> as Type>⟧ self.now (codes "origlocation") result }
     {
@@ -258,7 +258,7 @@ impl Entry {
     }
 
     /// Returns the field `pagetotal`: the total number of pages (BibLaTeX manual, 2.2.2). If it is missing, the error is
-    /// `Missing` with the name `pagetotal`.
+    /// `Missing` with the name `pagetotal`, or out of memory.
     pub fn page_total(&self, alloc: Global) -> Result<ChunksRef<'_>, RetrievalError>
         ensures { GetsChunks self.now (codes "pagetotal") result }
     {
@@ -274,7 +274,8 @@ impl Entry {
     }
 
     /// Returns the field `pagination`: the pagination scheme of the work (BibLaTeX manual, 2.2.2). If it is missing, the
-    /// error is `Missing` with the name `pagination`. If its chunks are no pagination scheme, the error is a `TypeError`.
+    /// error is `Missing` with the name `pagination`, or out of memory. If its chunks are no pagination scheme, the error is a
+    /// `TypeError`, or out of memory.
     pub fn pagination(&self, alloc: Global) -> Result<Pagination, RetrievalError>
         ensures { GetsValue ⟦<Pagination as Type>⟧ self.now (codes "pagination") result }
     {
@@ -290,7 +291,7 @@ impl Entry {
     }
 
     /// Returns the field `part`: the number of a part of a volume (BibLaTeX manual, 2.2.2). If it is missing, the error is
-    /// `Missing` with the name `part`.
+    /// `Missing` with the name `part`, or out of memory.
     pub fn part(&self, alloc: Global) -> Result<ChunksRef<'_>, RetrievalError>
         ensures { GetsChunks self.now (codes "part") result }
     {
@@ -306,7 +307,7 @@ impl Entry {
     }
 
     /// Returns the field `pubstate`: the state of publication (BibLaTeX manual, 2.2.2). If it is missing, the error is
-    /// `Missing` with the name `pubstate`.
+    /// `Missing` with the name `pubstate`, or out of memory.
     pub fn pubstate(&self, alloc: Global) -> Result<ChunksRef<'_>, RetrievalError>
         ensures { GetsChunks self.now (codes "pubstate") result }
     {
@@ -322,7 +323,7 @@ impl Entry {
     }
 
     /// Returns the field `shorthand`: the text that is cited instead of the label (BibLaTeX manual, 2.2.2). If it is
-    /// missing, the error is `Missing` with the name `shorthand`.
+    /// missing, the error is `Missing` with the name `shorthand`, or out of memory.
     pub fn shorthand(&self, alloc: Global) -> Result<ChunksRef<'_>, RetrievalError>
         ensures { GetsChunks self.now (codes "shorthand") result }
     {
@@ -338,7 +339,7 @@ impl Entry {
     }
 
     /// Returns the field `shorthandintro`: the text that introduces the shorthand at the first citation (BibLaTeX manual,
-    /// 2.2.2). If it is missing, the error is `Missing` with the name `shorthandintro`.
+    /// 2.2.2). If it is missing, the error is `Missing` with the name `shorthandintro`, or out of memory.
     pub fn shorthand_intro(&self, alloc: Global) -> Result<ChunksRef<'_>, RetrievalError>
         ensures { GetsChunks self.now (codes "shorthandintro") result }
     {
@@ -354,7 +355,7 @@ impl Entry {
     }
 
     /// Returns the field `url`: the address on the web (BibLaTeX manual, 2.2.2). If it is missing, the error is `Missing`
-    /// with the name `url`.
+    /// with the name `url`, or out of memory.
     pub fn url(&self, alloc: Global) -> Result<String, RetrievalError>
         ensures { GetsValue ⟦<String as Type>⟧ self.now (codes "url") result }
     {
@@ -370,7 +371,7 @@ impl Entry {
     }
 
     /// Returns the field `venue`: the place of the conference (BibLaTeX manual, 2.2.2). If it is missing, the error is
-    /// `Missing` with the name `venue`.
+    /// `Missing` with the name `venue`, or out of memory.
     pub fn venue(&self, alloc: Global) -> Result<ChunksRef<'_>, RetrievalError>
         ensures { GetsChunks self.now (codes "venue") result }
     {
@@ -386,7 +387,7 @@ impl Entry {
     }
 
     /// Returns the field `version`: the version of software or of a manual (BibLaTeX manual, 2.2.2). If it is missing, the
-    /// error is `Missing` with the name `version`.
+    /// error is `Missing` with the name `version`, or out of memory.
     pub fn version(&self, alloc: Global) -> Result<ChunksRef<'_>, RetrievalError>
         ensures { GetsChunks self.now (codes "version") result }
     {
@@ -402,7 +403,8 @@ impl Entry {
     }
 
     /// Returns the field `volumes`: the number of volumes (BibLaTeX manual, 2.2.2). If it is missing, the error is
-    /// `Missing` with the name `volumes`. If its chunks are no number, the error is a `TypeError`.
+    /// `Missing` with the name `volumes`, or out of memory. If its chunks are no number, the error is a `TypeError`, or out of
+    /// memory.
     pub fn volumes(&self, alloc: Global) -> Result<i64, RetrievalError>
         ensures { GetsValue ⟦<i64 as Type>⟧ self.now (codes "volumes") result }
     {
@@ -418,7 +420,8 @@ impl Entry {
     }
 
     /// Returns the field `gender`: the gender of the author, or of the editor if there is no author (BibLaTeX manual, 2.2.3).
-    /// If it is missing, the error is `Missing` with the name `gender`. If its chunks are no gender, the error is a `TypeError`.
+    /// If it is missing, the error is `Missing` with the name `gender`, or out of memory. If its chunks are no gender, the error
+    /// is a `TypeError`, or out of memory.
     pub fn gender(&self, alloc: Global) -> Result<Gender, RetrievalError>
         ensures { GetsValue ⟦<Gender as Type>⟧ self.now (codes "gender") result }
     {

@@ -11,7 +11,7 @@ use std::alloc::Global;
 
 impl Entry {
     /// Returns the field `booksubtitle`: the subtitle of the book that the work is a part of (BibLaTeX manual, 2.2.2). If
-    /// it is missing, the error is `Missing` with the name `booksubtitle`.
+    /// it is missing, the error is `Missing` with the name `booksubtitle`, or out of memory.
     pub fn book_subtitle(&self, alloc: Global) -> Result<ChunksRef<'_>, RetrievalError>
         ensures { GetsChunks self.now (codes "booksubtitle") result }
     {
@@ -27,7 +27,7 @@ impl Entry {
     }
 
     /// Returns the field `booktitleaddon`: the text after the title of the book that the work is a part of (BibLaTeX
-    /// manual, 2.2.2). If it is missing, the error is `Missing` with the name `booktitleaddon`.
+    /// manual, 2.2.2). If it is missing, the error is `Missing` with the name `booktitleaddon`, or out of memory.
     pub fn book_title_addon(&self, alloc: Global) -> Result<ChunksRef<'_>, RetrievalError>
         ensures { GetsChunks self.now (codes "booktitleaddon") result }
     {
@@ -43,7 +43,7 @@ impl Entry {
     }
 
     /// Returns the field `eventtitle`: the title of the conference (BibLaTeX manual, 2.2.2). If it is missing, the error is
-    /// `Missing` with the name `eventtitle`.
+    /// `Missing` with the name `eventtitle`, or out of memory.
     pub fn eventtitle(&self, alloc: Global) -> Result<ChunksRef<'_>, RetrievalError>
         ensures { GetsChunks self.now (codes "eventtitle") result }
     {
@@ -59,7 +59,7 @@ impl Entry {
     }
 
     /// Returns the field `eventtitleaddon`: the text after the title of the conference (BibLaTeX manual, 2.2.2). If it is
-    /// missing, the error is `Missing` with the name `eventtitleaddon`.
+    /// missing, the error is `Missing` with the name `eventtitleaddon`, or out of memory.
     pub fn eventtitle_addon(&self, alloc: Global) -> Result<ChunksRef<'_>, RetrievalError>
         ensures { GetsChunks self.now (codes "eventtitleaddon") result }
     {
@@ -75,7 +75,7 @@ impl Entry {
     }
 
     /// Returns the field `indextitle`: the title in an index (BibLaTeX manual, 2.2.2). If it is missing, the error is
-    /// `Missing` with the name `indextitle`.
+    /// `Missing` with the name `indextitle`, or out of memory.
     pub fn index_title(&self, alloc: Global) -> Result<ChunksRef<'_>, RetrievalError>
         ensures { GetsChunks self.now (codes "indextitle") result }
     {
@@ -91,7 +91,7 @@ impl Entry {
     }
 
     /// Returns the field `issuesubtitle`: the subtitle of an issue (BibLaTeX manual, 2.2.2). If it is missing, the error is
-    /// `Missing` with the name `issuesubtitle`.
+    /// `Missing` with the name `issuesubtitle`, or out of memory.
     pub fn issue_subtitle(&self, alloc: Global) -> Result<ChunksRef<'_>, RetrievalError>
         ensures { GetsChunks self.now (codes "issuesubtitle") result }
     {
@@ -107,7 +107,7 @@ impl Entry {
     }
 
     /// Returns the field `issuetitle`: the title of an issue (BibLaTeX manual, 2.2.2). If it is missing, the error is
-    /// `Missing` with the name `issuetitle`.
+    /// `Missing` with the name `issuetitle`, or out of memory.
     pub fn issue_title(&self, alloc: Global) -> Result<ChunksRef<'_>, RetrievalError>
         ensures { GetsChunks self.now (codes "issuetitle") result }
     {
@@ -123,7 +123,7 @@ impl Entry {
     }
 
     /// Returns the field `issuetitleaddon`: the text after the title of an issue (BibLaTeX manual, 2.2.2). If it is
-    /// missing, the error is `Missing` with the name `issuetitleaddon`.
+    /// missing, the error is `Missing` with the name `issuetitleaddon`, or out of memory.
     pub fn issue_title_addon(&self, alloc: Global) -> Result<ChunksRef<'_>, RetrievalError>
         ensures { GetsChunks self.now (codes "issuetitleaddon") result }
     {
@@ -139,7 +139,7 @@ impl Entry {
     }
 
     /// Returns the field `journalsubtitle`: the subtitle of the journal (BibLaTeX manual, 2.2.2). If it is missing, the
-    /// error is `Missing` with the name `journalsubtitle`.
+    /// error is `Missing` with the name `journalsubtitle`, or out of memory.
     pub fn journal_subtitle(&self, alloc: Global) -> Result<ChunksRef<'_>, RetrievalError>
         ensures { GetsChunks self.now (codes "journalsubtitle") result }
     {
@@ -155,7 +155,7 @@ impl Entry {
     }
 
     /// Returns the field `journaltitleaddon`: the text after the name of the journal (BibLaTeX manual, 2.2.2). If it is
-    /// missing, the error is `Missing` with the name `journaltitleaddon`.
+    /// missing, the error is `Missing` with the name `journaltitleaddon`, or out of memory.
     pub fn journal_title_addon(&self, alloc: Global) -> Result<ChunksRef<'_>, RetrievalError>
         ensures { GetsChunks self.now (codes "journaltitleaddon") result }
     {
@@ -171,7 +171,7 @@ impl Entry {
     }
 
     /// Returns the field `mainsubtitle`: the subtitle of a work in several volumes (BibLaTeX manual, 2.2.2). If it is
-    /// missing, the error is `Missing` with the name `mainsubtitle`.
+    /// missing, the error is `Missing` with the name `mainsubtitle`, or out of memory.
     pub fn main_subtitle(&self, alloc: Global) -> Result<ChunksRef<'_>, RetrievalError>
         ensures { GetsChunks self.now (codes "mainsubtitle") result }
     {
@@ -187,7 +187,7 @@ impl Entry {
     }
 
     /// Returns the field `maintitle`: the title of a work in several volumes (BibLaTeX manual, 2.2.2). If it is missing,
-    /// the error is `Missing` with the name `maintitle`.
+    /// the error is `Missing` with the name `maintitle`, or out of memory.
     pub fn main_title(&self, alloc: Global) -> Result<ChunksRef<'_>, RetrievalError>
         ensures { GetsChunks self.now (codes "maintitle") result }
     {
@@ -203,7 +203,7 @@ impl Entry {
     }
 
     /// Returns the field `maintitleaddon`: the text after the title of a work in several volumes (BibLaTeX manual, 2.2.2).
-    /// If it is missing, the error is `Missing` with the name `maintitleaddon`.
+    /// If it is missing, the error is `Missing` with the name `maintitleaddon`, or out of memory.
     pub fn main_title_addon(&self, alloc: Global) -> Result<ChunksRef<'_>, RetrievalError>
         ensures { GetsChunks self.now (codes "maintitleaddon") result }
     {
@@ -219,7 +219,7 @@ impl Entry {
     }
 
     /// Returns the field `reprinttitle`: the title of a reprint (BibLaTeX manual, 2.2.2). If it is missing, the error is
-    /// `Missing` with the name `reprinttitle`.
+    /// `Missing` with the name `reprinttitle`, or out of memory.
     pub fn reprint_title(&self, alloc: Global) -> Result<ChunksRef<'_>, RetrievalError>
         ensures { GetsChunks self.now (codes "reprinttitle") result }
     {
@@ -235,7 +235,7 @@ impl Entry {
     }
 
     /// Returns the field `shortjournal`: the name of the journal, abridged (BibLaTeX manual, 2.2.2). If it is missing, the
-    /// error is `Missing` with the name `shortjournal`.
+    /// error is `Missing` with the name `shortjournal`, or out of memory.
     pub fn short_journal(&self, alloc: Global) -> Result<ChunksRef<'_>, RetrievalError>
         ensures { GetsChunks self.now (codes "shortjournal") result }
     {
@@ -251,7 +251,7 @@ impl Entry {
     }
 
     /// Returns the field `shortseries`: the series, abridged (BibLaTeX manual, 2.2.2). If it is missing, the error is
-    /// `Missing` with the name `shortseries`.
+    /// `Missing` with the name `shortseries`, or out of memory.
     pub fn short_series(&self, alloc: Global) -> Result<ChunksRef<'_>, RetrievalError>
         ensures { GetsChunks self.now (codes "shortseries") result }
     {
@@ -267,7 +267,7 @@ impl Entry {
     }
 
     /// Returns the field `shorttitle`: the title, abridged (BibLaTeX manual, 2.2.2). If it is missing, the error is
-    /// `Missing` with the name `shorttitle`.
+    /// `Missing` with the name `shorttitle`, or out of memory.
     pub fn short_title(&self, alloc: Global) -> Result<ChunksRef<'_>, RetrievalError>
         ensures { GetsChunks self.now (codes "shorttitle") result }
     {
@@ -283,7 +283,7 @@ impl Entry {
     }
 
     /// Returns the field `subtitle`: the subtitle (BibLaTeX manual, 2.2.2). If it is missing, the error is `Missing` with
-    /// the name `subtitle`.
+    /// the name `subtitle`, or out of memory.
     pub fn subtitle(&self, alloc: Global) -> Result<ChunksRef<'_>, RetrievalError>
         ensures { GetsChunks self.now (codes "subtitle") result }
     {
@@ -299,7 +299,7 @@ impl Entry {
     }
 
     /// Returns the field `titleaddon`: the text after the title (BibLaTeX manual, 2.2.2). If it is missing, the error is
-    /// `Missing` with the name `titleaddon`.
+    /// `Missing` with the name `titleaddon`, or out of memory.
     pub fn title_addon(&self, alloc: Global) -> Result<ChunksRef<'_>, RetrievalError>
         ensures { GetsChunks self.now (codes "titleaddon") result }
     {

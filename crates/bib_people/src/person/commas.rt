@@ -77,8 +77,8 @@ fn last_space(text: &str) -> Option<usize>
     text.rfind(' ')
 }
 
-// Returns the person of a name whose given name is empty. The text before the comma is cut at its last space. Without a
-// space, all of it is the family name.
+// Returns the person of a name whose given name is one chunk without text. The text before the comma is cut at its last space.
+// Without a space, all of it is the family name.
 fn at_last_space(alloc: Global, text: &str, suffix: Text) -> Result<Person, AllocError>
     ensures { IfOk result (λ person. person ≡ at_last_space text.now suffix) }
 {

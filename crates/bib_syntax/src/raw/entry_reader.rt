@@ -55,7 +55,7 @@ fn next_entry<'s>(
     Ok(None)
 }
 
-/// Parses a file entry by entry, so that memory holds only one entry.
+/// Parses a file entry by entry, and keeps none of the entries that it returned.
 #[derive(Drop)]
 pub struct EntryReader<'s> {
     scanner: Scanner<'s>,
@@ -79,7 +79,7 @@ impl<'s> EntryReader<'s> {
         }
     }
 
-    /// Returns the offset after the last entry that was parsed, in bytes of the text.
+    /// Returns the offset up to which the text was parsed, in bytes.
     pub fn cursor(&self) -> usize
         ensures place { result ≡ self.now.at }
         ensures boundary { IsCharBoundary self.now.text result }

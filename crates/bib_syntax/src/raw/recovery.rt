@@ -32,17 +32,17 @@ use std::alloc::{AllocError, Global};
 pub struct SkippedBlock {
     /// Why it can't be parsed.
     pub error: ParseError,
-    /// The span of the skipped text, in bytes of the file. It is from the at sign of the block to before the next at sign with
+    /// The span of the skipped text, in bytes of the parsed text. It is from the at sign of the block to before the next at sign with
     /// only white space before it on its line, or to the end of the file.
     pub span: Span,
 }
 
-/// The parsed and the skipped blocks of a file.
+/// The parsed and the skipped blocks of a file, or of several files in one text.
 #[derive(Debug, Clone, Drop)]
 pub struct RawRecovery<'s> {
     /// The content of the parsed blocks. `RawBibliography::recover_parts` adds the complete parts of the skipped ones.
     pub raw: RawBibliography<'s>,
-    /// The skipped blocks, in the order of the file.
+    /// The skipped blocks, in the order of the text.
     pub skipped: Vec<SkippedBlock>,
 }
 

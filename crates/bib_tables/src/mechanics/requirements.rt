@@ -80,7 +80,7 @@ impl PagesChapterMode {
 pub struct Requirements {
     /// Required fields.
     pub required: Vec<&'static str>,
-    /// Optional fields, which styles use.
+    /// Optional fields.
     pub optional: Vec<&'static str>,
     /// Forbidden fields.
     pub forbidden: Vec<&'static str>,

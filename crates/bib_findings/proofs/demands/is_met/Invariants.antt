@@ -4,7 +4,7 @@ use Rattle.bib_syntax.specs.Views.{entry_reading_of}
 use Rattle.bib_findings.specs.Demands.{is_met}
 use Rattle.bib_findings.proofs.demands.is_met.Given as goal
 
--- the fields from this one on meet the requirement exactly if all of them do
+-- the requirement without the fields before this one is met exactly if the whole requirement is
 abbrev pub invariant-names : goal.invariant-names
 invariant-names l =
     is_met (entry_reading_of l.said) l.entry (texts (drop l.name-index l.demand))

@@ -5,7 +5,7 @@ use Rattle.bib_findings.specs.DemandRows.{demand_texts}
 use Rattle.bib_findings.specs.Demands.{unmet_fields}
 use Rattle.bib_findings.proofs.demands.push_unmet.Given as goal
 
--- the fields for the first requirements were appended
+-- the fields for the unmet ones of the first requirements were appended
 abbrev pub invariant-demands : goal.invariant-demands
 invariant-demands l =
     texts l.missing.items

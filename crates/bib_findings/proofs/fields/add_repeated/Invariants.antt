@@ -6,7 +6,7 @@ use Rattle.bib_findings.specs.Fields.{repeated_after}
 use Rattle.bib_findings.proofs.RepeatedFacts.{AreSeen}
 use Rattle.bib_findings.proofs.fields.add_repeated.Given as goal
 
--- the set contains the names of the first fields, and a finding was appended for each of these that is repeated
+-- the set contains the names of the first fields in lowercase, and a finding was appended for each of these that is repeated
 abbrev pub invariant-fields : goal.invariant-fields
 invariant-fields l = record {
   seen : AreSeen (contains_text l.seen) (map field_of (take l.field-index l.said.v.fields.items));

@@ -6,7 +6,7 @@ use Rattle.bib_findings.specs.FirstKeys.{AreKeysSeen}
 use Rattle.bib_findings.specs.ParentOrder.{early_findings}
 use Rattle.bib_findings.proofs.parent_order.add_early.Given as goal
 
--- the set contains the keys of the first entries, and the findings of these entries were appended
+-- the set contains the keys of the first entries in lowercase, and the findings of these entries were appended
 abbrev pub invariant-origins : goal.invariant-origins
 invariant-origins l = record {
   seen : AreKeysSeen (contains_text l.seen) (entries_at (map entry_reading_of l.said) (take l.index-index l.origins));

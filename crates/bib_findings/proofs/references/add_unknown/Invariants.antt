@@ -4,7 +4,7 @@ use Rattle.bib_syntax.specs.Views.{entry_reading_of}
 use Rattle.bib_findings.specs.References.{is_unknown, reference_finding}
 use Rattle.bib_findings.proofs.references.add_unknown.Given as goal
 
--- a finding was appended for each of the first keys that no entry has
+-- a finding was appended for each of the first keys that isn't empty and that no kept entry has
 abbrev pub invariant-keys : goal.invariant-keys
 invariant-keys l =
     l.found.items

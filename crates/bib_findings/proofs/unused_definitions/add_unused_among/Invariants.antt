@@ -7,7 +7,7 @@ use Rattle.bib_findings.specs.UnusedDefinitions.{unused_after}
 use Rattle.bib_findings.specs.UsedNames.{HasLowercaseNames, names_of_definitions}
 use Rattle.bib_findings.proofs.unused_definitions.add_unused_among.Given as goal
 
--- the set has the used names and those of the first definitions, and the findings of these definitions were appended
+-- the set has the used names and those of the first definitions, in lowercase, and the findings of these definitions were appended
 abbrev pub invariant-definitions : goal.invariant-definitions
 invariant-definitions l = (used : Names) → HasLowercaseNames (contains_text l.initial.set) used
     → HasLowercaseNames (contains_text l.set) (used ++ names_of_definitions (map field_of (take l.definition-index l.definitions)))

@@ -4,7 +4,7 @@ use Rattle.bib_inheritance.specs.Resolving.{at_index, texts_of_entries}
 use Rattle.bib_inheritance.specs.Turning.{AddsAmong, IsCacheOf}
 use Rattle.bib_inheritance.proofs.dates.last_date.Given as goal
 
--- the entries searched so far, from the end, have no date
+-- the entries searched so far, from the end, have no date that can be inherited
 abbrev pub invariant-indices : goal.invariant-indices
 invariant-indices l = record {
   none : last_date (map (at_index (texts_of_entries l.entries)) (drop (length l.indices - l.done) l.indices)) ≡ None;

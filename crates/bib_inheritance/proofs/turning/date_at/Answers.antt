@@ -11,7 +11,7 @@ use Rattle.bib_inheritance.proofs.turning.date_at.Goals as goal
 none_needed : (own : EntryTexts) (references : List EntryTexts) → looks_for_date own ≡ false → date_for own references ≡ None
 none_needed own references is = ap (λ b. cond b (last_date references) None) is
 
--- an entry that lacks a required date inherits that of the last reference that has one
+-- an entry that lacks a required date inherits that of the last reference whose date can be inherited
 one_needed : (own : EntryTexts) (references : List EntryTexts) → looks_for_date own ≡ true → date_for own references ≡ last_date references
 one_needed own references is = ap (λ b. cond b (last_date references) None) is
 

@@ -1,7 +1,8 @@
 use Rattle.std.proofs.Common.{◌∙◌, ap, map, subst, sym}
 use Rattle.std.specs.String.{string_bytes}
-use Rattle.bib_syntax.specs.Views.{file_of}
-use Rattle.bibkit_core.specs.Conditions.{selected_keys}
+use Rattle.bib_syntax.specs.Views.{entry_reading_of, file_of}
+use Rattle.bib_queries.specs.Answers.{lines_of_keys}
+use Rattle.bibkit_core.specs.Conditions.{entries_with, selected_keys}
 use Rattle.bibkit_core.specs.Selecting.{AreCommonPrinted, AreKeysPrinted, ArePrintedOf}
 use Rattle.bibkit_core.proofs.ConditionFacts.{if_ok_so}
 use Rattle.bibkit_core.proofs.selecting.selected_answer.Goals as goal
@@ -10,7 +11,7 @@ pub returns-in-Some : goal.returns-in-Some
 returns-in-Some c =
     if_ok_so
     (λ answer are.
-    let found = c.in_ok-found.found in
+    let found = c.args.found in
     let entries = c.in_ok-entries.entries.items in
     let text = c.args.text.now in
     let printed = string_bytes answer.text in
@@ -26,7 +27,7 @@ returns-in-Some c =
     record {
       says = file_of found.raw;
       skipped = found.skipped.items;
-      recovery = c.in_ok-found.ensures;
+      recovery = c.requires;
       keys = keys;
       are_selected = record {
         entries = entries;
@@ -37,20 +38,28 @@ returns-in-Some c =
       are_printed = subst (λ wanted. ArePrintedOf wanted keys text printed answer.has_entry) (sym c.in-Some.is) common;
     }) c.common_answer.result c.common_answer.ensures
 
-pub returns : goal.returns
-returns c =
+pub returns-in-None : goal.returns-in-None
+returns-in-None c =
     if_ok_so
     (λ answer are.
-    let found = c.in_ok-found.found in
+    let found = c.args.found in
     let entries = c.in_ok-entries.entries.items in
     let text = c.args.text.now in
     let printed = string_bytes answer.text in
     let keys = map (λ key. key.now) c.in_ok-keys.keys.items in
-    let listed = subst (λ ks. AreKeysPrinted (map (λ key. key.now) ks) text printed answer.has_entry) c.deref-in-None.ensures.value are in
+    let listed : AreKeysPrinted keys text printed answer.has_entry = record {
+      says = file_of found.raw;
+      skipped = found.skipped.items;
+      recovery = c.requires;
+      is = are.0
+          ∙ ap (λ ks. lines_of_keys (entries_with (map (λ key. key.now) ks) (map entry_reading_of found.raw.entries.items)))
+          c.deref-in-None.ensures.value;
+      found = are.1;
+    } in
     record {
       says = file_of found.raw;
       skipped = found.skipped.items;
-      recovery = c.in_ok-found.ensures;
+      recovery = c.requires;
       keys = keys;
       are_selected = record {
         entries = entries;

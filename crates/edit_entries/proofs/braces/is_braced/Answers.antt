@@ -11,7 +11,7 @@ use Rattle.edit_entries.proofs.braces.is_braced.Goals as goal
 braced : {u a b v : Place} → CharAt u 123 a → Parts a b → CharAt b 125 v → Braced u (part a b) v
 braced opens parts closes = record { inside = _; following = _; opens = opens; parts = parts; closes = closes; reading = refl }
 
--- if a brace, parts and a closing brace are parsed, the text is in braces exactly if the text ends there
+-- if an opening brace, parts and a closing brace are parsed, the text is in braces exactly if it ends there
 whole : (text : List ℕ) (answer : Bool) {u a b v : Place} → u ≡ place text 0 → CharAt u 123 a → Parts a b
     → CharAt b 125 v → MatchBool answer (AtEnd v) (AtEnd v → ⊥)
     → MatchBool answer ((p : Part) × Braced (place text 0) p (place text (length text)))

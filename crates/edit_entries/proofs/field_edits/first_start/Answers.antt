@@ -6,7 +6,7 @@ use Rattle.bib_syntax.specs.Views.{entry_reading_of}
 use Rattle.edit_entries.specs.FieldEdits.{first_start}
 use Rattle.edit_entries.proofs.field_edits.first_start.Goals as goal
 
--- an entry and those after it
+-- the first selected entry from an index on is the one there if it is selected, or else the first selected one after it
 first_step : {A : Type 0} (view : A → EntryReading) (selected : List ℕ → Bool) (other : ℕ) (xs : List A) (i : ℕ) (x : A)
     → i < length xs → x ≡ get_or xs i x → (b : Bool) → selected (view x).key.text ≡ b
     → first_start selected other (map view (drop i xs)) ≡ cond b (view x).start (first_start selected other (map view (drop (i + 1) xs)))

@@ -7,7 +7,7 @@ use Rattle.edit_format.specs.Delimited.{braced_in_style, delimited, quoted_in_st
 use Rattle.edit_format.specs.declared.style.Delimiters.{Delimiters}
 use Rattle.edit_format.proofs.delimiters.push_literal.Goals as goal
 
--- a literal after neither a brace nor a quote has no delimiters
+-- a literal after neither an opening brace nor a quote has no delimiters
 neither : (way : Delimiters) (before content : List ℕ) → ends_with eqb before (codes "{") ≡ false
     → ends_with eqb before (codes "\"") ≡ false → delimited way before content ≡ content
 neither way before content no_brace no_quote =

@@ -7,7 +7,7 @@ use Rattle.edit_format.specs.Formatted.{field_laid_out}
 use Rattle.edit_format.specs.Unlisted.{has_name_first, name_texts}
 use Rattle.edit_format.proofs.order.push_named.Given as goal
 
--- the text so far and that of the fields still to visit make the text of all fields
+-- the text so far, and that of the fields still to visit that have the name first, make the text of all fields that have it first
 abbrev pub invariant-fields : goal.invariant-fields
 invariant-fields l = record {
   written : string_bytes l.new

@@ -7,7 +7,7 @@ use Rattle.edit_format.specs.Formatted.{field_laid_out}
 use Rattle.edit_format.specs.Unlisted.{name_texts, unlisted}
 use Rattle.edit_format.proofs.order.push_unlisted.Given as goal
 
--- the text so far and that of the fields still to visit make the text of all fields
+-- the text so far, and that of the fields still to visit that have none of the names, make the text of all fields without these names
 abbrev pub invariant-fields : goal.invariant-fields
 invariant-fields l = record {
   written : string_bytes l.new

@@ -7,7 +7,7 @@ use Rattle.edit_format.specs.Delimited.{delimited}
 use Rattle.edit_format.specs.declared.style.Delimiters.TheVariants.{Keep}
 use Rattle.edit_strings.proofs.elements.push_literal.Goals as goal
 
--- a literal after neither a brace nor a quote has no delimiters
+-- a literal after neither an opening brace nor a quote has no delimiters
 neither : (before content : List ℕ) → ends_with eqb before (codes "{") ≡ false
     → ends_with eqb before (codes "\"") ≡ false → delimited Keep before content ≡ content
 neither before content no_brace no_quote =

@@ -2,7 +2,7 @@ use Rattle.std.proofs.Common.{◌-◌, length}
 use Rattle.bib_chunks.proofs.AndFacts.{IsSearchedTo}
 use Rattle.bib_chunks.proofs.chunk.cuts.first_and.Given as goal
 
--- no such word was found so far
+-- no word `and` with white space right before and after it begins before `at`
 abbrev pub invariant-text : goal.invariant-text
 invariant-text l = IsSearchedTo l.text l.at l.space
 

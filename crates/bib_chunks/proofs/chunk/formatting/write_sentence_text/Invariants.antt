@@ -5,7 +5,7 @@ use Rattle.bib_chunks.specs.Formatted.{ends_in_space, flowing, sentence_case}
 use Rattle.bib_text.proofs.TextFacts.{ahead}
 use Rattle.bib_chunks.proofs.chunk.formatting.write_sentence_text.Given as goal
 
--- the output followed by the rest in sentence case is the whole text, and both end in white space or neither
+-- the output and the rest in sentence case are the old output and the whole text in it; both texts end in white space or neither
 abbrev pub invariant-text : goal.invariant-text
 invariant-text l =
     (l.scanner.text ≡ l.text)

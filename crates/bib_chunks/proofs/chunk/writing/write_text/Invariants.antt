@@ -5,7 +5,7 @@ use Rattle.bib_chunks.specs.Written.{spelling}
 use Rattle.bib_text.proofs.TextFacts.{ahead}
 use Rattle.bib_chunks.proofs.chunk.writing.write_text.Given as goal
 
--- the output followed by the spelling of the rest is the spelling of the whole text
+-- the output and the spelling of the rest are the old output and the spelling of the whole text
 abbrev pub invariant-text : goal.invariant-text
 invariant-text l =
     (l.scanner.text ≡ l.text)

@@ -2,7 +2,7 @@ use Rattle.std.proofs.Common.{◌≡◌, ◌≤◌, ◌+◌, ◌++◌, ℕ, List
 use Rattle.bib_source.specs.Positions.{position_after}
 use Rattle.bib_source.proofs.positions.Position.advance_all.Given as goal
 
--- the position is the one after the bytes so far; its line and column grew by at most their number
+-- a position after a text is now the one after it and the bytes so far; line and column grew by at most their number
 abbrev pub invariant-bytes : goal.invariant-bytes
 invariant-bytes l = record {
   after : (before : List ℕ) → l.fn.self ≡ position_after before → l.position ≡ position_after (before ++ take l.byte-index l.bytes);

@@ -3,7 +3,7 @@ use Rattle.bib_text.proofs.EnumFacts.{named_none}
 use Rattle.bib_tables.specs.EntryType.{entry_type_named, type_names}
 use Rattle.bib_tables.proofs.mechanics.EntryType.from_name.Goals as goal
 
--- equal texts are names of the same type
+-- equal texts are names of the same type, or of none
 the_same : {text name : List ℕ} → text ≡ name → entry_type_named name ≡ entry_type_named text
 the_same is = ap entry_type_named (sym is)
 

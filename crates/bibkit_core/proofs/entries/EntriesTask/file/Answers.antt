@@ -15,13 +15,13 @@ returns c = (
       answer =
           subst
           (λ t. IsTextAnswer c.args.self.now.request.now t (string_bytes c.in_ok-answer.answer.text) c.in_ok-answer.answer.has_entry)
-          c.as_str.ensures.value c.in_ok-answer.ensures;
+          c.as_str-text.ensures.value c.in_ok-answer.ensures;
     },
     c.is_found_with-self.ensures,
   ),
   (
     c.in_ok-decoded.decoded,
     c.in_ok-decoded.ensures,
-    subst (λ t. AddsSkipped c.args.self.now.skipped c.args.name.now t c.next.new.self) c.as_str-2.ensures.value c.in_ok-next.ensures,
+    subst (λ t. AddsSkipped c.args.self.now.skipped c.args.name.now t c.next.new.self) c.as_str-text.ensures.value c.in_ok-next.ensures,
   ),
 )

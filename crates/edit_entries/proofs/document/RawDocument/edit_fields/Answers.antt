@@ -37,7 +37,7 @@ made c =
     ∙ ap (edits_of_entries (selected_edited d.text c.args.keys.now c.args.edit.now) d.text)
     (ap (map entry_reading_of) c.deref-3.ensures.value ∙ ap (λ x. x.says.entries) c.self.view_is)
 
--- the definitions are those of the document, and the byte offset is that of the first entry that is edited
+-- the definitions are those of the document, and the byte offset is that of the first selected entry, or else the end of the text
 defined : (c : After-deref-2) → (map field_of c.deref-2.result.now ≡ c.args.self.now.says.abbreviations)
     × (c.first_start-at.result ≡ first_start (is_in_set c.args.keys.now) (length c.args.self.now.text) c.args.self.now.says.entries)
 defined c =

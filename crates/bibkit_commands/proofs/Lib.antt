@@ -1,0 +1,4 @@
+mod ArgumentFacts
+mod AskedFacts
+mod EditsAskedFacts
+mod MessageFacts
