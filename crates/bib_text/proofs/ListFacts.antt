@@ -1,6 +1,6 @@
 -- Facts on lists and options that several crates need.
 use Rattle.std.proofs.Common.{◌≡◌, ◌≢◌, ℕ, zero, suc, ◌+◌, ◌-◌, ◌<◌, ◌||◌, ◌⊎◌, inl, inr, Bool, true, false, cond, List, [], ◌∷◌, ◌++◌, drop, get_or, length, map, take, Option, Some, refl, sym, ap, ◌∙◌, subst, arith, eqb}
-use Rattle.std.specs.List.{AllByRecursion, Contains, count_by, find, list_all, list_any, prefix_len, remove, starts_with}
+use Rattle.std.specs.List.{AllByRecursion, AllZip, Contains, count_by, find, list_all, list_any, prefix_len, remove, starts_with}
 use Rattle.std.specs.List.Sorted.{IsSortedBy}
 use Rattle.std.specs.Prelude.{slice_get, slice_set}
 use Rattle.std.proofs.lemmas.Bool.{and_from, and_parts}
@@ -23,6 +23,14 @@ all_append P (x ∷ xs) ys first rest = (first.0, all_append P xs ys first.1 res
 pub all_push : {A : Type 0} (P : A → Type 0) (xs : List A) (x : A) → AllByRecursion P xs → P x → AllByRecursion P (xs ++ x ∷ [])
 all_push P [] x all here = (here, tt)
 all_push P (y ∷ ys) x all here = (all.0, all_push P ys x all.1 here)
+
+-- if two pairs of lists are related element by element, so are their concatenations
+pub all_zip_append : {A B : Type 0} (R : A → B → Type 0) (xs more : List A) (ys others : List B) → AllZip R xs ys
+    → AllZip R more others → AllZip R (xs ++ more) (ys ++ others)
+all_zip_append R [] more [] others first rest = rest
+all_zip_append R [] more (y ∷ ys) others first rest = absurd first
+all_zip_append R (x ∷ xs) more [] others first rest = absurd first
+all_zip_append R (x ∷ xs) more (y ∷ ys) others first rest = (first.0, all_zip_append R xs more ys others first.1 rest)
 
 -- if a test finds an element, some element passes it
 pub found_any : {A : Type 0} (test : A → Bool) (xs : List A) (x : A) → find test xs ≡ Some x → list_any test xs ≡ true

@@ -10,6 +10,7 @@
 //! unwrapping don't allocate.
 #![tactic(auto)]
 
+pub mod digits;
 pub mod items;
 pub mod scanner;
 pub mod spanned;
