@@ -1,4 +1,5 @@
 pub mod AbbreviationFacts
+pub mod DefinitionFacts
 pub mod ExpansionFacts
 pub mod LawFacts
 pub mod MemoFacts

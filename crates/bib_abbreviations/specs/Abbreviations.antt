@@ -1,7 +1,7 @@
 -- Meaning: words of public contracts.
 -- Abbreviations: the styled text of a field in which each name is replaced by its definition or by a month. Names and texts are
 -- lists of their bytes.
-use Rattle.std.specs.Prelude.{◌≡◌, ◌+◌, ◌<◌, ◌^◌, ℕ, Bool, List, [], ◌∷◌, ◌++◌, length, map, ◌⊎◌, ◌||◌, Option, Some, None, is_some, bytes_eq}
+use Rattle.std.specs.Prelude.{◌≡◌, ◌+◌, ◌<◌, ◌^◌, ℕ, Bool, List, [], ◌∷◌, ◌++◌, length, map, ◌⊎◌, ◌||◌, Option, Some, None, find, is_some, bytes_eq, reverse}
 use Rattle.std.specs.Option.{option_map}
 use Rattle.std.specs.Borrow.{Bor}
 use Rattle.std.specs.Str.{chars}
@@ -21,13 +21,17 @@ use Rattle.bib_contents.specs.ContentErrors.{ContentFails}
 use Rattle.bib_contents.specs.Contents.{IsContent, IsUnread, LiesBetween}
 use Rattle.bib_tables.specs.Months as months
 use Rattle.bib_tables.specs.Months.{month_of_abbreviation}
-use Rattle.bib_syntax.specs.Reading.{Part, Piece}
+use Rattle.bib_syntax.specs.Reading.{FieldReading, Part, Piece}
 use Rattle.bib_syntax.specs.Reading.Piece.{literal, abbreviation}
 use Rattle.bib_syntax.specs.Views.{piece_of}
 
 -- the definition of each name that has one
 abbrev pub Definitions : Type 0
 Definitions = List ℕ → Option (List Piece)
+
+-- the definitions of a file: the last one of each name counts, even after its use; names are compared byte by byte
+abbrev pub definition_in : List FieldReading → Definitions
+definition_in abbreviations name = option_map (λ f. f.value.pieces) (find (λ f. bytes_eq name f.name.text) (reverse abbreviations))
 
 -- the English name of the month that a name abbreviates, in any ASCII case
 abbrev pub month : List ℕ → Option (List ℕ)

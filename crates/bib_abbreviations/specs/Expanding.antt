@@ -105,6 +105,10 @@ HasContents expansion pieces chunks = AreContents (known_to expansion) expansion
 abbrev pub PiecesSay : Expansion → List Piece → List Atom → Type 0
 PiecesSay expansion pieces atoms = Evaluates (known_to expansion) expansion.is_verbatim pieces atoms
 
+-- chunks of a piece were appended to chunks
+abbrev pub AppendsPiece : Expansion → Piece → List (Spanned Chunk) → List (Spanned Chunk) → Type 0
+AppendsPiece expansion piece old new = (atoms : List Atom) × PiecesSay expansion (piece ∷ []) atoms × (styled new ≡ styled old ++ atoms)
+
 -- chunks with the styled text of pieces were appended to the memo
 abbrev pub AddsPieces : Expansion → Memo → Memo → List Piece → Type 0
 AddsPieces expansion old new pieces = Expands (known_to expansion) expansion.is_verbatim old.values.items new.values.items pieces

@@ -181,9 +181,7 @@ impl<'m, 'f, 's> Expansion<'m, 'f, 's> {
         piece: &Spanned<RawChunk<'s>>,
     ) -> Result<(), ParseError>
         requires sound { IsSoundFor self memo.old [] }
-        ensures said { OnOk result ((atoms : List Atom) ×
-            PiecesSay self.entry (piece_of piece.now ∷ []) atoms ×
-            (styled out.new ≡ styled out.old ++ atoms)) }
+        ensures said { OnOk result (AppendsPiece self.entry (piece_of piece.now) out.old out.new) }
         ensures sound { OnOk result (IsSoundFor self.entry memo.new []) }
         ensures joined { OnOk result (AreJoined out.old → AreJoined out.new) }
         ensures placed { OnOk result ((p : Part) → piece_of piece.now ≡ literal p →
@@ -206,9 +204,7 @@ impl<'m, 'f, 's> Expansion<'m, 'f, 's> {
         piece: &Spanned<RawChunk<'s>>,
     ) -> Result<(), ParseError>
         requires sound { IsSoundFor self memo.old [] }
-        ensures said { OnOk result ((atoms : List Atom) ×
-            PiecesSay self.entry (piece_of piece.now ∷ []) atoms ×
-            (styled out.new ≡ styled out.old ++ atoms)) }
+        ensures said { OnOk result (AppendsPiece self.entry (piece_of piece.now) out.old out.new) }
         ensures sound { OnOk result (IsSoundFor self.entry memo.new []) }
         ensures joined { OnOk result (AreJoined out.old → AreJoined out.new) }
         ensures refused { IfErr result (λ e. StopsAt self.entry [] (piece_of piece.now) e) }

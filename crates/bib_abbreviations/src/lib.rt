@@ -6,13 +6,13 @@
 //! occurs again, there is a cycle. With one memo, each definition is parsed at most once, however often its name occurs. The
 //! chunks of a name include those of the names in its definition, so a chain of names isn't copied at each link.
 //!
-//! `definitions` looks up the definition of a name, in the map of the caller of `parse_field` or in a sorted one. A
-//! `FieldReader` has a sorted one. It keeps two memos from field to field, one for verbatim fields and one for others, since
+//! `definitions` makes a sorted map of a file's definitions, and looks up names in it or in the map of the caller of `parse_field`. A
+//! `FieldReader` has a sorted map. It keeps two memos from field to field, one for verbatim fields and one for others, since
 //! a definition may have different chunks in each. An error empties the memo that was in use.
 #![tactic(auto)]
 
 mod abbreviations;
-mod definitions;
+pub mod definitions;
 pub mod laws;
 pub mod parsing;
 pub mod reader;

@@ -6,7 +6,7 @@ use Rattle.std.proofs.lemmas.List.{get_or_past, get_or-replicate, length-replica
 use Rattle.std.proofs.lemmas.List.Elements.{All-contains, All-from_get_or, Contains-get_or, Contains-push_cases}
 use Rattle.std.proofs.lemmas.Bool.{false≢true, cases_lt, eqb-true}
 use Rattle.std.proofs.lemmas.Bool.Decides.{eqb_tells}
-use Rattle.bib_collections.specs.Graph.{refs_of, Leads, one, more, AreOnCycles}
+use Rattle.bib_collections.specs.Graph.{refs_of, Leads, one, more, AreOnCycles, IsInRange}
 use Rattle.bib_collections.specs.Search.{is_marked, root_at, IsSpread, AreReached, AreSuspects, AreRoots, AreBackInside, AllLeadToThemselves}
 use Rattle.bib_collections.proofs.Search.{set_decides, none_marked}
 use Rattle.bib_collections.proofs.Walks.{further}
@@ -24,12 +24,6 @@ no_root n index = elim (cases_lt index n) [
   | inl t ↦ get_or-replicate n index None None t
   | inr t ↦ get_or_past (replicate n None) index None (omega (arith, t, length-replicate {A = Option ℕ} n None))
 ]
-
--- each reference of `inside` is a reversed reference of `graph` between indices with the same root or without a root
-pub record IsTurnedInside (graph : List (List ℕ)) (roots : List (Option ℕ)) (inside : List (List ℕ)) : Type 0 where
-  pub same_length : length inside ≡ length graph
-  pub turned : (index entry : ℕ) → Contains (refs_of inside index) entry
-      → Contains (refs_of graph entry) index × (root_at roots index ≡ root_at roots entry)
 
 -- `Leads` is transitive
 joined : {graph : List (List ℕ)} {a b c : ℕ} → Leads graph a b → Leads graph b c → Leads graph a c
@@ -60,23 +54,48 @@ module _ (graph : List (List ℕ)) where
 
   -- ---- reversed references
 
+  -- an entry with references is in the graph
+  entry_below : (index entry : ℕ) → Contains (refs_of graph entry) index → entry < length graph
+  entry_below index entry c = elim (cases_lt entry (length graph)) [
+    | inl t ↦ t
+    | inr t ↦ let c' = subst (λ l. Contains l index) (get_or_past graph entry [] t) c in absurd (omega (arith, c'.1))
+  ]
+
+  -- if each reference of `inside` is a reversed reference of the graph, the references of `inside` are in its range
+  turned_in_range : (inside : List (List ℕ)) → length inside ≡ length graph
+      → ((index entry : ℕ) → Contains (refs_of inside index) entry → Contains (refs_of graph entry) index) → IsInRange inside
+  turned_in_range inside len turned = All-from_get_or (λ row. All (λ r. r < length inside) row) inside []
+      (λ i below. All-from_get_or (λ r. r < length inside) (refs_of inside i) 0
+      (λ k within. subst (λ n. get_or (refs_of inside i) k 0 < n) (sym len)
+      (entry_below i (get_or (refs_of inside i) k 0)
+      (turned i (get_or (refs_of inside i) k 0) (Contains-get_or (refs_of inside i) k 0 within)))))
+
   -- empty rows have no reversed references
   pub inside_none : (roots : List (Option ℕ)) (inside : List (List ℕ)) → length inside ≡ length graph
-      → ((index : ℕ) → refs_of inside index ≡ []) → IsTurnedInside graph roots inside
+      → ((index : ℕ) → refs_of inside index ≡ []) → AreBackInside graph roots inside
   inside_none roots inside len none = record {
     same_length = len;
-    turned = λ index entry c. absurd (nothing (subst (λ l. Contains l entry) (none index) c));
+    in_range = turned_in_range inside len (λ index entry c. absurd (nothing index entry c));
+    turned = λ index entry c. absurd (nothing index entry c);
   } where
-    nothing : {entry : ℕ} → Contains [] entry → ⊥
-    nothing c = omega (arith, c.1)
+    nothing : (index entry : ℕ) → Contains (refs_of inside index) entry → ⊥
+    nothing index entry c = let c' = subst (λ l. Contains l entry) (none index) c in omega (arith, c'.1)
 
   -- one more reversed reference between indices with the same root or without a root
   pub inside_more : (roots : List (Option ℕ)) (inside : List (List ℕ)) (r entry : ℕ) → r < length inside
-      → Contains (refs_of graph entry) r → root_at roots r ≡ root_at roots entry → IsTurnedInside graph roots inside
-      → IsTurnedInside graph roots (set inside r (refs_of inside r ++ entry ∷ []))
+      → Contains (refs_of graph entry) r → root_at roots r ≡ root_at roots entry → AreBackInside graph roots inside
+      → AreBackInside graph roots (set inside r (refs_of inside r ++ entry ∷ []))
   inside_more roots inside r entry within edge same h = record {
-    same_length = length-set inside r (refs_of inside r ++ entry ∷ []) ∙ h.same_length;
-    turned = λ index e c. elim (eqb_tells index r) [
+    same_length = len;
+    in_range = turned_in_range (set inside r (refs_of inside r ++ entry ∷ [])) len (λ index e c. (turned index e c).0);
+    turned = turned;
+  } where
+    len : length (set inside r (refs_of inside r ++ entry ∷ [])) ≡ length graph
+    len = length-set inside r (refs_of inside r ++ entry ∷ []) ∙ h.same_length
+
+    turned : (index e : ℕ) → Contains (refs_of (set inside r (refs_of inside r ++ entry ∷ [])) index) e
+        → Contains (refs_of graph e) index × (root_at roots index ≡ root_at roots e)
+    turned index e c = elim (eqb_tells index r) [
       | inl t ↦ ⊎_elim
           (λ was. h.turned index e (subst (λ x. Contains (refs_of inside x) e) (sym t.1) was))
           (λ new.
@@ -88,27 +107,7 @@ module _ (graph : List (List ℕ)) where
           (ap (refs_of (set inside r (refs_of inside r ++ entry ∷ []))) t.1
           ∙ get_or-set_same inside r (refs_of inside r ++ entry ∷ []) [] within) c))
       | inr t ↦ h.turned index e (subst (λ l. Contains l e) (get_or-set_other inside r index (refs_of inside r ++ entry ∷ []) [] t.1) c)
-    ];
-  }
-
-  -- an entry with references is in the graph
-  entry_below : (index entry : ℕ) → Contains (refs_of graph entry) index → entry < length graph
-  entry_below index entry c = elim (cases_lt entry (length graph)) [
-    | inl t ↦ t
-    | inr t ↦ let c' = subst (λ l. Contains l index) (get_or_past graph entry [] t) c in absurd (omega (arith, c'.1))
-  ]
-
-  -- the references in `inside` are also in the range of the graph
-  pub inside_all : (roots : List (Option ℕ)) (inside : List (List ℕ)) → IsTurnedInside graph roots inside → AreBackInside graph roots inside
-  inside_all roots inside h = record {
-    same_length = h.same_length;
-    in_range = All-from_get_or (λ row. All (λ r. r < length inside) row) inside []
-        (λ i below. All-from_get_or (λ r. r < length inside) (refs_of inside i) 0
-        (λ k within. subst (λ n. get_or (refs_of inside i) k 0 < n) (sym h.same_length)
-        (entry_below i (get_or (refs_of inside i) k 0)
-        (h.turned i (get_or (refs_of inside i) k 0) (Contains-get_or (refs_of inside i) k 0 within)).0)));
-    turned = h.turned;
-  }
+    ]
 
   module _ (roots : List (Option ℕ)) (inside : List (List ℕ)) (h : AreBackInside graph roots inside) where
     -- if an index leads to another in `inside`, the other leads to it in `graph` and has the same root

@@ -10,7 +10,7 @@ use Rattle.bib_text.specs.Places.{Place, place}
 use Rattle.bib_contents.specs.Arguments.{Closes}
 use Rattle.bib_contents.specs.Contents.{begins}
 use Rattle.bib_contents.specs.Progress.{left, Passes}
-use Rattle.bib_contents.proofs.ArgumentFacts.{BracedRead, braced_none, braced_opens, braced_closes, braced_found, is_no_brace, is_closing, next_brace, passes_ahead, passes_within}
+use Rattle.bib_contents.proofs.ArgumentFacts.{BracedRead, braced_none, braced_opens, braced_closes, braced_found, is_no_brace, is_closing, next_brace, passes_ahead, passes_one, passes_within}
 
 -- the offsets after open braces, the innermost first; from the first of them to `s`, `depth` braces are opened and stay open
 pub data AreOpen (text : List ℕ) (start : ℕ) (s : Place) : ℕ → List ℕ → Type 0 where
@@ -122,31 +122,34 @@ read_opened {text} {start} {c} {s} {t} {w} {run} {places} {waits} {more} read pa
 pub read_closed : {text : List ℕ} {start c begin : ℕ} {s t w : Place} {run places waits rest : List ℕ}
     → AreReadTo text start s places waits → Passes s run t → list_all is_no_brace run ≡ true
     → begins is_no_brace (left t) ≡ false → Passes t (c ∷ []) w → (c ≡ 123 → ⊥) → reverse waits ≡ begin ∷ reverse rest
-    → (start ≤ begin) × (begin ≤ s.at) × (begin - start < length places → AreReadTo text start w (set places (begin - start) t.at) rest)
+    → (start ≤ begin) × (begin - start < length places) × AreReadTo text start w (set places (begin - start) t.at) rest
 read_closed {text} {start} {c} {begin} {s} {t} {w} {run} {places} {waits} {rest} read passed plain ends brace differs popped =
     popped_one (reverse waits) read.opened popped
   where
     popped_one : (all : List ℕ) → AreOpen text start s 0 all → all ≡ begin ∷ reverse rest
-        → (start ≤ begin) × (begin ≤ s.at)
-        × (begin - start < length places → AreReadTo text start w (set places (begin - start) t.at) rest)
+        → (start ≤ begin) × (begin - start < length places) × AreReadTo text start w (set places (begin - start) t.at) rest
     popped_one all AreOpen.nothing is = absurd (cc)
     popped_one all (AreOpen.following {begin = first} {opened = others} first_read after ahead more) is =
         let first_is : first ≡ begin = cc in
         let others_are : others ≡ reverse rest = cc in
-        let same : w.text ≡ text = brace.same ∙ passed.same ∙ read.same in (
-          omega (arith, after, first_is),
-          omega (arith, ahead, first_is),
-          λ within. record {
+        let same : w.text ≡ text = brace.same ∙ passed.same ∙ read.same in
+        let end : w.at ≤ length w.text = passes_within brace (passes_within passed read.within) in
+        let run_ahead : s.at ≤ t.at = passes_ahead passed in
+        let brace_ahead : t.at + 1 ≤ w.at = passes_one brace in
+        let size : length places + start ≡ length w.text = read.size ∙ sym (ap length same) in
+        let low : start ≤ begin = omega (arith, after, first_is) in
+        let within : begin - start < length places = omega (arith, ahead, first_is, end, run_ahead, brace_ahead, size, low) in (
+          low,
+          within,
+          record {
             same = same;
-            following =
-                (let a = passes_ahead passed in
-                let b = passes_ahead brace in let here : start ≤ s.at = read.following in omega arith);
-            within = passes_within brace (passes_within passed read.within);
+            following = (let here : start ≤ s.at = read.following in omega (arith, here, run_ahead, brace_ahead));
+            within = end;
             size = ap (λ n. n + start) (length-set places (begin - start) t.at) ∙ read.size;
             noted =
                 noted_more start begin t.at places text read.noted
                 (closes_here (subst (λ n. BracedRead (place text n) 0 s) first_is first_read) passed plain ends
-                brace differs same) (omega (arith, after, first_is)) within;
+                brace differs same) low within;
             opened = subst (AreOpen text start w 0) others_are (open_closed 1 0 more refl passed plain ends brace differs);
           },
         )

@@ -119,11 +119,6 @@ pub no_unit : {is_verbatim : Bool} {depth : ℕ} {text : List ℕ} {atoms : List
 no_unit more none end = more refl
 no_unit more none (next {u = u} {rest = rest} one closable argument read) = none u rest one
 
--- chunks that are placed up to an offset are placed up to a later one
-pub placed_wider : (low high higher : ℕ) (cs : List (Spanned Chunk)) → ArePlaced low high cs → high ≤ higher → ArePlaced low higher cs
-placed_wider low high higher [] placed wider = omega (arith, placed, wider)
-placed_wider low high higher (c ∷ rest) placed wider = (placed.0, placed.1, placed_wider _ high higher rest placed.2 wider)
-
 -- the length of a unit's argument in braces, in characters; 0 if it has none
 abbrev pub inner_length : ContentUnit → ℕ
 inner_length (ContentUnit.command name space (Argument.braced text)) = length text

@@ -14,6 +14,7 @@ use Rattle.bib_text.proofs.ListFacts.{some_same}
 use Rattle.bib_contents.specs.Contents.{Argument, ContentUnit, IsNext, unit_spelling, Reads, character, meaning, is_closable, depth_after, inner_text, unit_text}
 use Rattle.bib_chunks.specs.Joined.{ArePlaced}
 use Rattle.bib_contents.specs.Progress.{Took, left, so_far}
+use Rattle.bib_chunks.proofs.JoinedFacts.{placed_up}
 use Rattle.bib_contents.proofs.UnitFacts.{command_parts}
 use Rattle.bib_contents.specs.UnitViews.{text_unit_of, argument_of, unit_of}
 use Rattle.bib_contents.specs.declared.growing.OpenChunk.{OpenChunk}
@@ -26,7 +27,7 @@ use Rattle.bib_contents.specs.declared.units.Unit as all_units
 use Rattle.bib_contents.specs.declared.units.Unit.TheVariants as any_unit
 use Rattle.bib_contents.specs.declared.units.TextUnit.{TextUnit}
 use Rattle.bib_contents.specs.declared.units.TextUnit.TheVariants as shown
-use Rattle.bib_contents.proofs.ReaderFacts.{nothing_grows, no_argument, placed_wider}
+use Rattle.bib_contents.proofs.ReaderFacts.{nothing_grows, no_argument}
 
 -- a text with appended characters has its characters and these
 pub grown_chars : (bs more cs : List ℕ) → IsUtf8 bs → IsUtf8 more → more ≡ bs ++ encode_utf8_all cs → chars more ≡ chars bs ++ cs
@@ -175,7 +176,7 @@ braced_wide name space text =
 pub placed_after : (low end following start : ℕ) (out : List (Spanned Chunk)) → ArePlaced low end out → end ≤ following
     → start ≡ following → ArePlaced low start out × (start ≤ following)
 placed_after low end following start out placed wider is =
-    (placed_wider low end start out placed (omega (arith, wider, is)), omega (arith, is))
+    (placed_up out low end start (omega (arith, wider, is)) placed, omega (arith, is))
 
 -- the unit of a command with this argument
 pub command_is : {unit : TextUnit} {name space : Bor (List ℕ)} {command_text : units.Argument}

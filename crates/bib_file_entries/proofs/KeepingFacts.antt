@@ -4,11 +4,12 @@ use Rattle.std.specs.Prelude.{slice_get, Some}
 use Rattle.std.specs.FinMap as by_name
 use Rattle.std.specs.List.{AllZip}
 use Rattle.std.specs.declared.ops.Range.{Range}
-use Rattle.std.proofs.lemmas.List.{append-nil, drop_more, map-append}
+use Rattle.std.proofs.lemmas.List.{append-nil, map-append}
 use Rattle.bib_abbreviations.specs.Abbreviations.{Definitions}
 use Rattle.bib_chunks.specs.declared.chunk.Chunk.{Chunk}
 use Rattle.bib_entry.specs.declared.entry.Entry.{Entry}
 use Rattle.bib_tables.specs.EntryType.{entry_type_of}
+use Rattle.bib_text.proofs.ListFacts.{all_zip_push}
 use Rattle.bib_file_entries.specs.Bibliography.{claims, empty_bibliography}
 use Rattle.bib_file_entries.specs.Claiming.{IsKeptSoFar, place_of}
 use Rattle.bib_file_entries.specs.Keeping.{AreKeptFields, IsKeptEntry, IsKeptField, IsLeftOut}
@@ -17,7 +18,7 @@ use Rattle.bib_file_entries.specs.Loaded.{CanBeRead, is_claimed, loaded_after}
 use Rattle.bib_file_entries.specs.Loading.{IsRead, last_field, pieces_of}
 use Rattle.bib_file_entries.proofs.BibliographyFacts.{below_empty}
 use Rattle.bib_file_entries.proofs.LoadedFacts.{same_next, bibliography_next, below_next}
-use Rattle.bib_file_entries.proofs.LoadingFacts.{AllZip-push, IsFound, are_readable, found_last}
+use Rattle.bib_file_entries.proofs.LoadingFacts.{IsFound, are_readable, found_last}
 use Rattle.bib_file_entries.proofs.RawFacts.{found_same, readable_same}
 use Rattle.bib_collections.specs.Names.{AreIndicesBelow, with_claims, claims_for}
 use Rattle.bib_collections.specs.Sorted.{ByText, by_bytes}
@@ -75,7 +76,7 @@ kept_next {definitions} {said} {rest} {f} {old} {errors} {new} {pairs} pair so_f
           (FieldsKept definitions (map field_of said)
           (map field_of so_far.kept ++ (mended_field definitions (field_of f) ∷ fields)))
           (sym (append_assoc so_far.more (unknown_names definitions (pieces_of f)) later)) told);
-      read = AllZip-push (IsRead definitions) so_far.kept pairs field.kept pair so_far.read field.read;
+      read = all_zip_push (IsRead definitions) so_far.kept pairs field.kept pair so_far.read field.read;
       noted = added_twice old so_far.more (unknown_names definitions (pieces_of f)) errors new so_far.noted field.errors;
     }
 
@@ -100,10 +101,6 @@ left_out_next {definitions} {said} {rest} {f} {old} {errors} {new} {pairs} so_fa
       read = so_far.read;
       noted = added_twice old so_far.more first errors new so_far.noted field.errors;
     }
-
--- the elements from an index on are the element at the index and those after it
-pub rest_at : {A : Type 0} (all : List A) (i : ℕ) (x : A) → i < length all → x ≡ get_or all i x → drop i all ≡ x ∷ drop (i + 1) all
-rest_at all i x within is = drop_more all i x within ∙ ap (λ y. y ∷ drop (i + 1) all) (sym is)
 
 -- once each field is kept or left out, the kept fields are those kept so far
 pub kept_all : {definitions : Definitions} {said : List Pair} {old errors : List ParseError}
@@ -241,7 +238,7 @@ entries_next {definitions} {said} {rest} {one} {found} {names} {places} {origins
           (sym (append_assoc errors read.more later) ∙ ap (λ l. l ++ later) (sym read.errors)) told));
       stand = ap (λ l. l ++ place_of one ∷ []) so_far.stand ∙ sym (map-append place_of so_far.kept (with_fields one read.fields ∷ []));
       ahead = ahead_next said rest index one so_far.ahead;
-      origin = AllZip-push (IsKeptFrom said) origins so_far.kept index (with_fields one read.fields) so_far.origin
+      origin = all_zip_push (IsKeptFrom said) origins so_far.kept index (with_fields one read.fields) so_far.origin
           (record { one = one; there = (begins_at said index one rest so_far.ahead).there; is = refl });
       bibliography = bibliography_next found entry names so_far.bibliography;
       below = below_next found entry names so_far.below;

@@ -13,48 +13,17 @@ use Rattle.std.proofs.lemmas.List.{reverse-append, take_more, take-append-drop}
 use Rattle.std.proofs.lemmas.Map.Text.{is_eq-slice_cmp}
 use Rattle.bib_chunks.specs.declared.chunk.Chunk.{Chunk}
 use Rattle.bib_text.specs.declared.spanned.Spanned.{Spanned}
-use Rattle.bib_text.proofs.OptionFacts.{mapped_cond}
+use Rattle.bib_text.proofs.ListFacts.{all_zip_push}
 use Rattle.bib_abbreviations.specs.Abbreviations.{Definitions}
 use Rattle.bib_syntax.specs.Errors.{out_of_memory}
 use Rattle.bib_syntax.specs.Reading.{Piece}
 use Rattle.bib_syntax.specs.declared.raw.Pair.{Pair}
 use Rattle.bib_syntax.specs.declared.raw.ParseError.{ParseError}
-use Rattle.bib_file_entries.specs.Loading.{AreReadable, IsFieldOf, IsFieldsError, IsRead, field_name, last_definition, last_field, pieces_of}
+use Rattle.bib_file_entries.specs.Loading.{AreReadable, IsFieldOf, IsFieldsError, IsRead, field_name, last_field}
 use Rattle.bib_file_entries.specs.Reading.{IsFieldError}
 use Rattle.bib_collections.specs.Sorted.{by_bytes}
 
--- a definition at the end of the list is the last one of its name
-pub last_definition-push : (pairs : List Pair) (p : Pair) (name : List ℕ)
-    → last_definition (pairs ++ p ∷ []) name ≡ cond (bytes_eq name p.key.v.now) (Some (pieces_of p)) (last_definition pairs name)
-last_definition-push pairs p name =
-    ap (λ l. option_map pieces_of (find (λ q. bytes_eq name q.key.v.now) l)) (reverse-append pairs (p ∷ []))
-    ∙ elim (bytes_eq name p.key.v.now) as
-    (λ b.
-    option_map pieces_of (cond b (Some p) (find (λ q. bytes_eq name q.key.v.now) (reverse pairs)))
-    ≡ cond b (Some (pieces_of p)) (last_definition pairs name)) [ true ↦ refl | false ↦ refl ]
-
--- inserting the next definition into the map of the last definitions so far gives the last definitions with it
-pub defined_more : {F : Type 0} (f : F → List Piece) (pairs : List Pair) (i : ℕ) (p : Pair) (field : F) (name : List ℕ)
-    (before after : Option F)
-    → i < length pairs → p ≡ get_or pairs i p → f field ≡ pieces_of p → option_map f before ≡ last_definition (take i pairs) name
-    → after ≡ cond (bytes_eq p.key.v.now name) (Some field) before → option_map f after ≡ last_definition (take (i + 1) pairs) name
-defined_more f pairs i p field name before after within here same so_far updated =
-    ap (option_map f) updated
-    ∙ mapped_cond f (bytes_eq p.key.v.now name) field before
-    ∙ ap (λ b. cond b (Some (f field)) (option_map f before)) (nat_list_eq_equiv.symm p.key.v.now name)
-    ∙ ap (λ a. cond (bytes_eq name p.key.v.now) (Some a) (option_map f before)) same
-    ∙ ap (cond (bytes_eq name p.key.v.now) (Some (pieces_of p))) so_far
-    ∙ sym (last_definition-push (take i pairs) p name)
-    ∙ ap (λ l. last_definition l name) (ap (λ q. take i pairs ++ q ∷ []) here ∙ sym (take_more pairs i p within))
-
 module _ {A B : Type 0} (R : A → B → Type 0) where
-  -- two lists related element by element stay so after adding related elements at the end
-  pub AllZip-push : (xs : List A) (ys : List B) (x : A) (y : B) → AllZip R xs ys → R x y → AllZip R (xs ++ x ∷ []) (ys ++ y ∷ [])
-  AllZip-push [] [] x y all last = (last, tt)
-  AllZip-push [] (b ∷ ys) x y all last = absurd all
-  AllZip-push (a ∷ xs) [] x y all last = absurd all
-  AllZip-push (a ∷ xs) (b ∷ ys) x y all last = (all.0, AllZip-push xs ys x y all.1 last)
-
   turned_onto : (xs xs₂ : List A) (ys ys₂ : List B) → AllZip R xs ys → AllZip R xs₂ ys₂ → AllZip R (reverse_aux xs xs₂) (reverse_aux ys ys₂)
   turned_onto [] xs₂ [] ys₂ all onto = onto
   turned_onto [] xs₂ (b ∷ ys) ys₂ all onto = absurd all
@@ -109,7 +78,7 @@ module _ (definitions : Definitions) where
   read_more fields i p pairs more pair within here all read pushed =
       subst (λ l. AllZip (IsRead definitions) l more) (ap (λ q. take i fields ++ q ∷ []) here ∙ sym (take_more fields i p within))
       (subst (AllZip (IsRead definitions) (take i fields ++ p ∷ [])) (sym pushed)
-      (AllZip-push (IsRead definitions) (take i fields) pairs p pair all read))
+      (all_zip_push (IsRead definitions) (take i fields) pairs p pair all read))
 
   -- `value` is the contents of the raw field of a name, or none if there is no such field
   abbrev pub IsFound : List ℕ → Option Pair → Option (List (Spanned Chunk)) → Type 0

@@ -5,7 +5,7 @@ use Rattle.std.specs.FinMap as by_name
 use Rattle.std.proofs.lemmas.Bool.{cases_Bool}
 use Rattle.bib_chunks.specs.declared.chunk.Chunk.{Chunk}
 use Rattle.bib_text.specs.declared.spanned.Spanned.{Spanned}
-use Rattle.bib_text.proofs.ReverseFacts.{reverse_of_map}
+use Rattle.bib_text.proofs.ReverseFacts.{find_of_map, reverse_of_map}
 use Rattle.bib_abbreviations.specs.Abbreviations.{Definitions}
 use Rattle.bib_syntax.specs.Reading.{FieldReading}
 use Rattle.bib_syntax.specs.Views.{field_of, entry_reading_of}
@@ -13,30 +13,8 @@ use Rattle.bib_syntax.specs.declared.raw.Pair.{Pair}
 use Rattle.bib_syntax.specs.declared.raw.RawEntry.{RawEntry}
 use Rattle.bib_syntax.specs.declared.raw.ParseError.{ParseError}
 use Rattle.bib_entry.specs.declared.entry.Entry.{Entry}
-use Rattle.bib_file_entries.specs.Loading.{IsEntryOf, IsFieldsError, AreReadable, IsFieldOf, last_definition, last_field}
-use Rattle.bib_file_entries.specs.Loaded.{IsEntry, IsFirstErrorOfFields, AllCanBeRead, FieldSays, definition_in, field_in, name_of}
-
--- the first image that passes a test is the image of the first element whose image passes
-find_map : {A B : Type 0} (test : B → Bool) (f : A → B) (xs : List A) → find test (map f xs) ≡ option_map f (find (λ x. test (f x)) xs)
-find_map test f [] = refl
-find_map test f (x ∷ xs) =
-    elim (cases_Bool (test (f x))) [
-      | inl found ↦ rw found refl
-      | inr other ↦ rw other (find_map test f xs)
-    ]
-
-found_map : {A B C : Type 0} (g : B → C) (f : A → B) (o : Option A) → option_map g (option_map f o) ≡ option_map (λ x. g (f x)) o
-found_map g f None = refl
-found_map g f (Some x) = refl
-
--- the last definition of a name is its definition in terms of the grammar
-pub definition_same : (pairs : List Pair) (name : List ℕ) → last_definition pairs name ≡ definition_in (map field_of pairs) name
-definition_same pairs name =
-    sym (
-    ap (λ fs. option_map (λ (f : FieldReading). f.value.pieces) (find (λ f. bytes_eq name f.name.text) fs)) (reverse_of_map field_of pairs)
-    ∙ ap (option_map (λ (f : FieldReading). f.value.pieces)) (find_map (λ f. bytes_eq name f.name.text) field_of (reverse pairs))
-    ∙ found_map (λ (f : FieldReading). f.value.pieces) field_of (find (λ p. bytes_eq name p.key.v.now) (reverse pairs))
-    )
+use Rattle.bib_file_entries.specs.Loading.{IsEntryOf, IsFieldsError, AreReadable, IsFieldOf, last_field}
+use Rattle.bib_file_entries.specs.Loaded.{IsEntry, IsFirstErrorOfFields, AllCanBeRead, FieldSays, field_in, name_of}
 
 -- raw fields that can be parsed can be parsed in terms of the grammar
 pub readable_same : (definitions : Definitions) (pairs : List Pair) → AreReadable definitions pairs
@@ -67,7 +45,7 @@ pub found_same : (definitions : Definitions) (fields : List Pair) (name : List �
 found_same definitions fields name at found =
     let same : field_in (map field_of fields) name ≡ option_map field_of (last_field fields name) =
     ap (find (λ f. bytes_eq name (name_of f))) (reverse_of_map field_of fields)
-    ∙ find_map (λ f. bytes_eq name (name_of f)) field_of (reverse fields) in
+    ∙ find_of_map field_of (λ f. bytes_eq name (name_of f)) (reverse fields) in
     subst
     (λ o.
     MatchOption o (at ≡ None)

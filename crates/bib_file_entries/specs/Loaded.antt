@@ -8,6 +8,7 @@ use Rattle.std.specs.List.{list_any}
 use Rattle.bib_chunks.specs.declared.chunk.Chunk.{Chunk}
 use Rattle.bib_text.specs.declared.spanned.Spanned.{Spanned}
 use Rattle.bib_abbreviations.specs.Abbreviations.{AreContents, Definitions, IsFirstError, IsReadable}
+pub use Rattle.bib_abbreviations.specs.Abbreviations.{definition_in}
 use Rattle.bib_tables.specs.VerbatimFields.{is_verbatim_field}
 use Rattle.bib_syntax.specs.Reading.{FieldReading, EntryReading}
 use Rattle.bib_syntax.specs.declared.raw.ParseError.{ParseError}
@@ -15,10 +16,6 @@ use Rattle.bib_syntax.specs.declared.raw.ParseErrorKind.TheVariants.{DuplicateKe
 use Rattle.bib_tables.specs.EntryType.{entry_type_of}
 use Rattle.bib_entry.specs.declared.entry.Entry.{Entry}
 use Rattle.bib_file_entries.specs.Bibliography.{Bibliography, claims, with_last_entry}
-
--- the definition of an abbreviation: the last one in the file, even after its use
-abbrev pub definition_in : List FieldReading → Definitions
-definition_in abbreviations name = option_map (λ f. f.value.pieces) (find (λ f. bytes_eq name f.name.text) (reverse abbreviations))
 
 -- the name of a raw field, with ASCII letters in lowercase
 abbrev pub name_of : FieldReading → List ℕ

@@ -19,10 +19,6 @@ use Rattle.bib_entry.specs.declared.entry.Entry.{Entry}
 abbrev pub pieces_of : Pair → List Piece
 pieces_of p = map piece_of p.value.v.items
 
--- the definition of an abbreviation: the last one in the file, even after its use
-abbrev pub last_definition : List Pair → Definitions
-last_definition pairs name = option_map pieces_of (find (λ p. bytes_eq name p.key.v.now) (reverse pairs))
-
 -- the name of a field, with ASCII letters in lowercase
 abbrev pub field_name : Pair → List ℕ
 field_name p = map to_ascii_lowercase p.key.v.now

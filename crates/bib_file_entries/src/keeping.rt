@@ -14,8 +14,9 @@ ghost use Rattle.bib_file_entries.specs.Loading.{pieces_of};
 ghost use Rattle.bib_collections.specs.Names.{AreIndicesBelow};
 
 use crate::claiming::claims;
-use crate::loading::{definitions, entry_with, read_field};
+use crate::loading::{entry_with, read_field};
 use crate::reading::duplicate;
+use bib_abbreviations::definitions::definitions;
 use bib_abbreviations::reader::FieldReader;
 use bib_chunks::chunk::{Chunks, Span, Spanned};
 use bib_collections::claims::Claims;

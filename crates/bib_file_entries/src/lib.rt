@@ -1,8 +1,7 @@
 //! Loads the entries of a file, each with its own fields, and the names that they claim.
 //!
-//! `loading` converts a raw entry to an entry. It first collects the definitions of abbreviations. It parses each field with
-//! one `FieldReader`, and sorts the fields once into a map. `reading` converts all raw entries, frees each afterwards, and
-//! reports a key that was claimed before. `Claims` keeps the claimed names in a tree, and returns them in order at the end.
+//! `loading` converts a raw entry to an entry. It parses each field with one `FieldReader`, and sorts the fields once into a map.
+//! `reading` converts all raw entries, frees each afterwards, and reports a key that was claimed before. `Claims` keeps the claimed names in a tree, and returns them in order at the end.
 //! Loading is therefore not quadratic for any order of the keys, and the tree stores each name once. `claiming` finds the names
 //! that an entry claims. The definitions in `Loaded` describe the entries in terms of the grammar, not of the data structures.
 //! The private definitions in `Loading` say the same in terms of the data structures, and lemmas connect them.

@@ -1,39 +1,23 @@
 //! Converts raw entries to entries of a bibliography.
 
-ghost use Rattle.std.specs.Prelude.{◌≡◌, ◌⊎◌, OnOk, IfOk, IfErr, List, ℕ, reverse};
+ghost use Rattle.std.specs.Prelude.{◌≡◌, ◌⊎◌, OnOk, IfOk, IfErr, reverse};
 ghost use Rattle.std.specs.FinMap as by_name;
-ghost use Rattle.bib_abbreviations.specs.Abbreviations.{given_by, sorted_in};
+ghost use Rattle.bib_abbreviations.specs.Abbreviations.{given_by};
 ghost use Rattle.bib_tables.specs.EntryType.{entry_type_of};
 ghost use Rattle.bib_collections.specs.Sorted.{by_bytes};
 ghost use Rattle.bib_syntax.specs.Errors.{out_of_memory};
-ghost use Rattle.bib_file_entries.specs.Loading.{IsEntryOf, IsFieldOf, IsFieldReadable, IsFieldsError, field_name, last_definition};
+ghost use Rattle.bib_file_entries.specs.Loading.{IsEntryOf, IsFieldOf, IsFieldReadable, IsFieldsError, field_name};
 ghost use Rattle.bib_file_entries.specs.Reading.{IsFieldError};
 
 use bib_abbreviations::reader::FieldReader;
 use bib_chunks::chunk::Chunks;
 use bib_collections::text_map::TextMap;
 use bib_entry::entry::Entry;
-use bib_syntax::raw::{Field, Pair, ParseError, RawEntry};
+use bib_syntax::raw::{Pair, ParseError, RawEntry};
 use bib_tables::mechanics::EntryType;
 use bib_text::items::Items;
 use bib_text::text::Text;
 use std::alloc::{AllocError, Global};
-use std::collections::BTreeMap;
-
-// Returns the definitions of abbreviations. If a name is defined twice, the last definition counts.
-pub(crate) fn definitions<'f, 's>(
-    alloc: Global,
-    pairs: &'f [Pair<'s>],
-) -> Result<BTreeMap<&'s str, &'f Field<'s>>, AllocError>
-    ensures { IfOk result (λ definitions. (name : List ℕ) →
-        sorted_in definitions name ≡ last_definition pairs.now name) }
-{
-    let mut definitions = BTreeMap::new(alloc);
-    'definitions: for pair in pairs {
-        definitions.insert(pair.key.v, &pair.value.v)?;
-    }
-    Ok(definitions)
-}
 
 // Converts a raw entry to an entry, parsing its fields in order. ASCII letters in field names are converted to lowercase. If
 // two fields then have the same name, the last one counts.

@@ -10,7 +10,8 @@ ghost use Rattle.bib_file_entries.specs.Loaded.{IsFirstErrorOfEntries, definitio
 ghost use Rattle.bib_collections.specs.Names.{AreIndicesBelow};
 
 use crate::claiming::aliases;
-use crate::loading::{definitions, read_entry};
+use crate::loading::read_entry;
+use bib_abbreviations::definitions::definitions;
 use bib_abbreviations::reader::FieldReader;
 use bib_chunks::chunk::{Span, Spanned};
 use bib_collections::claims::Claims;

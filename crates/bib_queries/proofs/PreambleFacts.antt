@@ -20,7 +20,7 @@ use Rattle.bib_syntax.specs.Recovery.{Recovered}
 use Rattle.bib_syntax.specs.Recovery.{Keeps as keep}
 use Rattle.bib_syntax.specs.Recovery.{Recovered as recovered}
 use Rattle.bib_syntax.specs.declared.raw.recovery.SkippedBlock.{SkippedBlock}
-use Rattle.bib_syntax.proofs.WordFacts.{unquoted_is}
+use Rattle.bib_syntax.proofs.WordFacts.{quotable_differs}
 use Rattle.bib_queries.specs.Lines.{text_after_prefix}
 use Rattle.bib_queries.specs.Preambles.{ArePreambles, CanBeQuoted, are_quotes_hidden, quoted_text, joined_quotes, preamble_line}
 
@@ -111,7 +111,7 @@ parts_inside (quotes.plain {c = c} char passes rest) =
     record {
       bytes = encode_utf8 c ++ others.bytes;
       spans = spans_then (spans_char char) others.spans;
-      inside = past_other c others.bytes (unquoted_is 92 passes refl) (unquoted_is 34 passes refl) ∙ others.inside;
+      inside = past_other c others.bytes (quotable_differs 92 passes refl) (quotable_differs 34 passes refl) ∙ others.inside;
     }
 parts_inside (quotes.hidden {c = c} slash char rest) =
     let others = parts_inside rest in

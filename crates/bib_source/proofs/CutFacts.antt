@@ -3,7 +3,7 @@ use Rattle.std.proofs.Common.{◌≡◌, ℕ, ◌+◌, ◌-◌, ◌<◌, ◌≤�
 use Rattle.std.specs.List.{AllByRecursion, slice_get}
 use Rattle.std.proofs.Math.Seq.{take-append-add}
 use Rattle.std.proofs.lemmas.Bool.{cases_lt, false≢true}
-use Rattle.std.proofs.lemmas.List.{append-nil, drop_more, get_or-append-add, get_or_append_left, length-take-le, take-append-drop, take-append-le, take_more}
+use Rattle.std.proofs.lemmas.List.{append-nil, drop_more, get_or-append-add, get_or_append_left, length-take, length-take-le, take-append-drop, take-append-le, take_more}
 use Rattle.std.proofs.lemmas.Option.{get_or_from_slice_get, slice_get-get_or, slice_get_within}
 use Rattle.bib_source.specs.Comparison.{AreRuns, is_changed, new_side, old_side}
 use Rattle.bib_source.specs.Hunks.{AreBetweenEnds, Hunk, IsBetween}
@@ -161,6 +161,29 @@ skipped_new lines at start number low within context is =
     sym (ap length (same_sides skipped context).0) ∙ (same_sides skipped context).1
     ∙ length-take-le (start - at) (drop at lines) (omega (arith, length-drop at lines)) in
     omega (arith, is, size, new_up_to lines at start low)
+
+-- `old` and `new` are the numbers of the lines after the first `at` merged lines in the old and in the new text
+pub record AreNumbersAt (lines : List Line) (at old new : ℕ) : Type 0 where
+  pub old_is : old ≡ 1 + length (old_side (take at lines))
+  pub new_is : new ≡ 1 + length (new_side (take at lines))
+  pub old_within : old ≤ at + 1
+  pub new_within : new ≤ at + 1
+
+-- the line numbers after lines up to `start` that are in both texts, and after the lines from `start` to `end`
+pub numbers_after : (lines : List Line) (at start end old new of_old of_new : ℕ) → at ≤ start → start ≤ end
+    → start ≤ length lines → AreContext (take (start - at) (drop at lines)) → AreNumbersAt lines at old new
+    → of_old ≡ length (old_side (take (end - start) (drop start lines)))
+    → of_new ≡ length (new_side (take (end - start) (drop start lines)))
+    → of_old ≤ length (take (end - start) (drop start lines)) → of_new ≤ length (take (end - start) (drop start lines))
+    → AreNumbersAt lines end (old + (start - at) + of_old) (new + (start - at) + of_new)
+numbers_after lines at start end old new of_old of_new low high within context before counted counted' few few' =
+    let size = length-take (end - start) (drop start lines) in
+    record {
+      old_is = omega (arith, skipped_old lines at start old low within context before.old_is, counted, old_up_to lines start end high);
+      new_is = omega (arith, skipped_new lines at start new low within context before.new_is, counted', new_up_to lines start end high);
+      old_within = omega (arith, low, high, before.old_within, few, size);
+      new_within = omega (arith, low, high, before.new_within, few', size);
+    }
 
 -- an unchanged empty line, the default for an index past the end
 abbrev d : Line

@@ -15,6 +15,7 @@ use Rattle.bib_syntax.specs.Reading.{Part, part}
 use Rattle.bib_syntax.specs.Reading.Piece.{literal}
 use Rattle.bib_syntax.specs.Grammar.{Identifier, Number, Braced, Quoted, Element, NoDigit, longest}
 use Rattle.bib_syntax.specs.Grammar.Element.{number, named, braced, quoted}
+use Rattle.bib_syntax.proofs.QuoteFacts.{is_quotable}
 use Rattle.bib_syntax.specs.Grammar.Number.{whole, broken}
 
 -- testing the character at a place decides whether a passing character is there
@@ -103,10 +104,6 @@ named_piece {u} {v} s t same spans no_digit i = rw (same, spans) (named no_digit
 pub no_digit_without : {u : Place} → ((c : ℕ) (v : Place) → CharAt u c v → is_ascii_digit c ≡ false) → NoDigit u
 no_digit_without none c v char digit = test_clash _ digit (none c v char)
 
--- whether a character is neither a quote nor a backslash
-abbrev pub is_unquoted : ℕ → Bool
-is_unquoted c = not (c == 34) && not (c == 92)
-
 -- a character that is neither a quote nor a backslash differs from both
-pub unquoted_is : {c : ℕ} (d : ℕ) → is_unquoted c ≡ true → is_unquoted d ≡ false → c ≡ d → ⊥
-unquoted_is d passes fails same = test_clash (is_unquoted d) (subst (λ x. is_unquoted x ≡ true) same passes) fails
+pub quotable_differs : {c : ℕ} (d : ℕ) → is_quotable c ≡ true → is_quotable d ≡ false → c ≡ d → ⊥
+quotable_differs d passes fails same = test_clash (is_quotable d) (subst (λ x. is_quotable x ≡ true) same passes) fails

@@ -32,6 +32,11 @@ all_zip_append R [] more (y ∷ ys) others first rest = absurd first
 all_zip_append R (x ∷ xs) more [] others first rest = absurd first
 all_zip_append R (x ∷ xs) more (y ∷ ys) others first rest = (first.0, all_zip_append R xs more ys others first.1 rest)
 
+-- two lists related element by element stay so after adding related elements at the end
+pub all_zip_push : {A B : Type 0} (R : A → B → Type 0) (xs : List A) (ys : List B) (x : A) (y : B) → AllZip R xs ys → R x y
+    → AllZip R (xs ++ x ∷ []) (ys ++ y ∷ [])
+all_zip_push R xs ys x y all last = all_zip_append R xs (x ∷ []) ys (y ∷ []) all (last, tt)
+
 -- if a test finds an element, some element passes it
 pub found_any : {A : Type 0} (test : A → Bool) (xs : List A) (x : A) → find test xs ≡ Some x → list_any test xs ≡ true
 found_any test [] x found = cc

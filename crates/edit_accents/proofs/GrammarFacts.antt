@@ -11,6 +11,8 @@ use Rattle.bib_text.specs.Braces.{Parts as parts}
 use Rattle.bib_text.proofs.PlaceFacts.{ahead_then, ahead_char, test_clash}
 use Rattle.bib_text.proofs.TextFacts.{chars_whole}
 use Rattle.bib_text.proofs.BraceFacts.{is_plain_from, plain_is}
+use Rattle.bib_syntax.proofs.QuoteFacts.{is_quotable}
+use Rattle.bib_syntax.proofs.WordFacts.{quotable_differs}
 use Rattle.bib_syntax.specs.Grammar.{QuotedParts}
 use Rattle.bib_syntax.specs.Grammar.{QuotedParts as quotes}
 use Rattle.bib_syntax.specs.OpenBraces.{ClosesOpen}
@@ -107,11 +109,7 @@ parts_characters {u} {v} (parts.nested {v = w} {w = x} {x = y} opens inner close
 abbrev Unquoted : List ℕ → Type 0
 Unquoted cs = text_fits true false 0 cs ≡ true
 
-unquoted_is : {c : ℕ} (d : ℕ) → not (c == 34) && not (c == 92) ≡ true → not (d == 34) && not (d == 92) ≡ false → c ≡ d → ⊥
-unquoted_is d passes fails same =
-    test_clash (not (d == 34) && not (d == 92)) (subst (λ x. not (x == 34) && not (x == 92) ≡ true) same passes) fails
-
-over_unquoted : (c : ℕ) (cs : List ℕ) → not (c == 34) && not (c == 92) ≡ true → text_fits true false 0 (c ∷ cs) ≡ text_fits true false 0 cs
+over_unquoted : (c : ℕ) (cs : List ℕ) → is_quotable c ≡ true → text_fits true false 0 (c ∷ cs) ≡ text_fits true false 0 cs
 over_unquoted c cs passes =
     elim (cases_eq c 123) [
       | inl opens ↦ subst (λ x. text_fits true false 0 (x ∷ cs) ≡ text_fits true false 0 cs) (sym opens) refl
@@ -119,8 +117,8 @@ over_unquoted c cs passes =
         | inl closes ↦ subst (λ x. text_fits true false 0 (x ∷ cs) ≡ text_fits true false 0 cs) (sym closes) refl
         | inr no_close ↦ over_dull true 0 c cs
             (record {
-              no_slash = unquoted_is 92 passes refl;
-              no_quote = unquoted_is 34 passes refl;
+              no_slash = quotable_differs 92 passes refl;
+              no_quote = quotable_differs 34 passes refl;
               no_open = no_open;
               no_close = no_close;
             })

@@ -17,7 +17,8 @@ use Rattle.bib_syntax.specs.OpenBraces.{ClosesOpen}
 use Rattle.bib_syntax.specs.OpenBraces.ClosesOpen.{last, level}
 use Rattle.bib_syntax.proofs.FieldFacts.{ahead_parts, ahead_quoted_parts}
 use Rattle.bib_syntax.proofs.BraceFacts.{closes_suc}
-use Rattle.bib_syntax.proofs.WordFacts.{unquoted_is, is_unquoted}
+use Rattle.bib_syntax.proofs.QuoteFacts.{is_quotable}
+use Rattle.bib_syntax.proofs.WordFacts.{quotable_differs}
 use Rattle.edit_format.specs.Delimited.{close_braces, hide_quotes}
 use Rattle.edit_entries.proofs.ElementFacts.{char_parted, parted}
 use Rattle.edit_entries.proofs.StandsFacts.{between_stands}
@@ -139,8 +140,8 @@ stops_at_quote rest = ap (λ t. hide_quotes false (t ++ rest)) (encode_ascii 34 
 
 -- ---- the cases of a character
 
-is_unquoted_from : (c : ℕ) → (c ≡ 34 → ⊥) → (c ≡ 92 → ⊥) → is_unquoted c ≡ true
-is_unquoted_from c no_quote no_slash = ap (λ x. not x && not (c == 92)) (ne_eqb c 34 no_quote) ∙ ap not (ne_eqb c 92 no_slash)
+is_quotable_from : (c : ℕ) → (c ≡ 34 → ⊥) → (c ≡ 92 → ⊥) → is_quotable c ≡ true
+is_quotable_from c no_quote no_slash = ap (λ x. not x && not (c == 92)) (ne_eqb c 34 no_quote) ∙ ap not (ne_eqb c 92 no_slash)
 
 -- ---- contents of quoted literals, in braces
 
@@ -172,7 +173,7 @@ closes_quoted {u} {v} depth (quotes.plain {v = w} {c = c} char passes rest) with
     let up : v.at ≤ length w.text = omega (arith, within, ap length char.same) in
     let here : close_braces false depth (encode_utf8 c ++ between w v) ≡ true =
     ap (close_braces false depth) (sym (char_parted char (ahead_quoted_parts rest) within)) ∙ is in
-    let no_slash = unquoted_is 92 passes refl in
+    let no_slash = quotable_differs 92 passes refl in
     elim (cases_eq c 123) [
       | inl opens ↦ closes_suc (subst (λ d. CharAt u d w) opens char)
           (closes_quoted (suc depth) rest up
@@ -223,7 +224,7 @@ quoted_char {u} {w} {c} bytes char no_slash is =
           (test_clash (hide_quotes false (encode_utf8 34 ++ bytes))
           (ap (λ d. hide_quotes false (encode_utf8 d ++ bytes)) (sym quote) ∙ is) (stops_at_quote bytes))
       | inr no_quote ↦ (
-        quotes.plain char (is_unquoted_from c no_quote no_slash) quotes.none,
+        quotes.plain char (is_quotable_from c no_quote no_slash) quotes.none,
         sym (past_other c bytes no_slash no_quote) ∙ is,
       )
     ]
@@ -331,7 +332,7 @@ hides_quoted : {u v : Place} → QuotedParts u v → v.at ≤ length u.text → 
 hides_quoted {u} quotes.none within = ap (hide_quotes false) (none_between u)
 hides_quoted {u} {v} (quotes.plain {v = w} {c = c} char passes rest) within =
     ap (hide_quotes false) (char_parted char (ahead_quoted_parts rest) within)
-    ∙ past_other c (between w v) (unquoted_is 92 passes refl) (unquoted_is 34 passes refl)
+    ∙ past_other c (between w v) (quotable_differs 92 passes refl) (quotable_differs 34 passes refl)
     ∙ hides_quoted rest (omega (arith, within, ap length char.same))
 hides_quoted {u} {v} (quotes.hidden {v = w} {w = x} {c = c} slash char rest) within =
     let within' : v.at ≤ length w.text = omega (arith, within, ap length slash.same) in

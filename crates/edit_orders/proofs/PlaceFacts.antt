@@ -8,9 +8,8 @@ use Rattle.std.proofs.lemmas.List.{get_or-map, get_or_append_left, get_or_push, 
 use Rattle.std.proofs.lemmas.List.Elements.{Contains-get_or}
 use Rattle.std.proofs.lemmas.List.Sorted.{Contains-permutation, ranks_by, sorted_far}
 use Rattle.std.specs.List.{AllZip}
-use Rattle.bib_abbreviations.specs.Abbreviations.{Definitions}
+use Rattle.bib_abbreviations.specs.Abbreviations.{Definitions, definition_in}
 use Rattle.bib_syntax.specs.Reading.{EntryReading, FileReading}
-use Rattle.edit_orders.specs.Fields.{file_definition}
 use Rattle.edit_orders.specs.Places.{ArePlacesOf, AreValuesOf, IsPlaceIn, ArePlacesIn}
 use Rattle.edit_orders.specs.Values.{values_cmp}
 use Rattle.edit_orders.specs.declared.order.SortBy.{SortBy}
@@ -145,13 +144,13 @@ module _ (order : List SortBy) where
 
 -- the places of the sort values of the entries are the places of the entries
 pub placed_by : (says : FileReading) (order parts lent : List SortBy) (d : Definitions) (entries : List EntryReading)
-    (all kept : List Values) (places : List ℕ) → parts ≡ order → lent ≡ order → d ≡ file_definition says.abbreviations
+    (all kept : List Values) (places : List ℕ) → parts ≡ order → lent ≡ order → d ≡ definition_in says.abbreviations
     → entries ≡ says.entries → kept ≡ all → AllZip (AreValuesOf d parts) entries all → ArePlacesOf lent kept places
     → ArePlacesIn order says places
 placed_by says order parts lent d entries all kept places same again defined listed kept_same values placed = record {
   all = all;
   values =
-      subst (λ es. AllZip (AreValuesOf (file_definition says.abbreviations) order) es all) listed
+      subst (λ es. AllZip (AreValuesOf (definition_in says.abbreviations) order) es all) listed
       (subst (λ e. AllZip (AreValuesOf e order) entries all) defined (subst (λ o. AllZip (AreValuesOf d o) entries all) same values));
   placed = subst (λ vs. ArePlacesOf order vs places) kept_same (subst (λ o. ArePlacesOf o kept places) again placed);
 }

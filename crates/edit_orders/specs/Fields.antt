@@ -13,10 +13,6 @@ use Rattle.edit_orders.specs.declared.order.Property.{Property}
 use Rattle.edit_orders.specs.declared.order.Property.TheVariants as property
 use Rattle.edit_orders.specs.declared.values.SortValue.{SortValue}
 
--- the definition of an abbreviation: the last one in the file with exactly this name, even after its use
-abbrev pub file_definition : List FieldReading → Definitions
-file_definition abbreviations name = option_map (λ f. f.value.pieces) (find (λ f. bytes_eq name f.name.text) (reverse abbreviations))
-
 -- the text of a piece: of a literal, or the name of an abbreviation
 abbrev pub plain_piece : Piece → List ℕ
 plain_piece (literal p) = p.text

@@ -3,9 +3,9 @@
 use Rattle.std.specs.Prelude.{◌≡◌, ◌≤◌, ◌<◌, ℕ, true, false, List, [], Option, length, slice_index, slice_index_or}
 use Rattle.std.specs.List.{AllWithin, AllZip}
 use Rattle.std.specs.Ordering.{is_lt, nat_cmp}
-use Rattle.bib_abbreviations.specs.Abbreviations.{Definitions}
+use Rattle.bib_abbreviations.specs.Abbreviations.{Definitions, definition_in}
 use Rattle.bib_syntax.specs.Reading.{EntryReading, FileReading}
-use Rattle.edit_orders.specs.Fields.{IsValueOf, file_definition}
+use Rattle.edit_orders.specs.Fields.{IsValueOf}
 use Rattle.edit_orders.specs.Values.{values_cmp}
 use Rattle.edit_orders.specs.declared.order.SortBy.{SortBy}
 use Rattle.edit_orders.specs.declared.values.SortValue.{SortValue}
@@ -23,7 +23,7 @@ pub record ArePlacesOf (order : List SortBy) (all : List (List (Option SortValue
 -- numbers that are the places of the entries of a file in an order: the entries have sort values, and the numbers are their places
 pub record ArePlacesIn (order : List SortBy) (says : FileReading) (places : List ℕ) : Type 0 where
   pub all : List (List (Option SortValue))
-  pub values : AllZip (AreValuesOf (file_definition says.abbreviations) order) says.entries all
+  pub values : AllZip (AreValuesOf (definition_in says.abbreviations) order) says.entries all
   pub placed : ArePlacesOf order all places
 
 -- `place` is the place of sort values among sorted ones: those before the place are less, and the others aren't

@@ -1,7 +1,7 @@
 //! The fields in which properties are, and their contents.
 
-ghost use Rattle.std.specs.Prelude.{◌≡◌, ℕ, IfOk, List, map, option_map};
-ghost use Rattle.bib_abbreviations.specs.Abbreviations.{given_by, sorted_in};
+ghost use Rattle.std.specs.Prelude.{◌≡◌, IfOk, map, option_map};
+ghost use Rattle.bib_abbreviations.specs.Abbreviations.{given_by};
 ghost use Rattle.bib_syntax.specs.Views.{entry_reading_of, field_of, piece_of};
 ghost use Rattle.edit_orders.specs.Fields as spec;
 
@@ -10,27 +10,11 @@ use crate::values::{SortValue, one_text, sort_value_of};
 use bib_abbreviations::reader::FieldReader;
 use bib_chunks::chunk::Chunks;
 use bib_chunks::chunk::making::push_normal;
-use bib_syntax::raw::{Field, Pair, RawChunk, RawEntry};
+use bib_syntax::raw::{Pair, RawChunk, RawEntry};
 use bib_text::items::Items;
 use bib_text::spanned::Spanned;
 use bib_text::text::Text;
 use std::alloc::{AllocError, Global};
-use std::collections::BTreeMap;
-
-// Returns the definitions of abbreviations. If a name is defined twice, the last definition counts.
-pub(crate) fn definitions<'f, 's>(
-    alloc: Global,
-    pairs: &'f [Pair<'s>],
-) -> Result<BTreeMap<&'s str, &'f Field<'s>>, AllocError>
-    ensures { IfOk result (λ definitions. (name : List ℕ) →
-        sorted_in definitions name ≡ spec.file_definition (map field_of pairs.now) name) }
-{
-    let mut definitions = BTreeMap::new(alloc);
-    'definitions: for pair in pairs {
-        definitions.insert(pair.key.v, &pair.value.v)?;
-    }
-    Ok(definitions)
-}
 
 // Returns the text of a piece: of a literal, or the name of an abbreviation.
 fn piece_text<'s>(piece: &Spanned<RawChunk<'s>>) -> &'s str
@@ -57,7 +41,7 @@ fn is_named(field: &Pair<'_>, name: &str) -> bool
 }
 
 // Returns the last field of this name with a value that isn't empty.
-fn last_named<'f, 's>(fields: &'f [Pair<'s>], name: &str) -> Option<&'f Pair<'s>>
+fn last_given<'f, 's>(fields: &'f [Pair<'s>], name: &str) -> Option<&'f Pair<'s>>
     ensures { option_map (λ f. field_of f.now) result ≡ spec.last_given (map field_of fields.now) name.now }
 {
     fields.iter().rev().find(|field| is_named(field, name))
@@ -67,9 +51,9 @@ fn last_named<'f, 's>(fields: &'f [Pair<'s>], name: &str) -> Option<&'f Pair<'s>
 fn either<'f, 's>(fields: &'f [Pair<'s>], name: &str, other: &str) -> Option<&'f Pair<'s>>
     ensures { option_map (λ f. field_of f.now) result ≡ spec.either_field (map field_of fields.now) name.now other.now }
 {
-    match last_named(fields, name) {
+    match last_given(fields, name) {
         Some(field) => Some(field),
-        None => last_named(fields, other),
+        None => last_given(fields, other),
     }
 }
 
@@ -80,7 +64,7 @@ fn field_with<'f, 's>(fields: &'f [Pair<'s>], property: Property) -> Option<&'f 
     match property {
         Property::Year => either(fields, "date", "year"),
         Property::Author => either(fields, "author", "editor"),
-        Property::Title => last_named(fields, "title"),
+        Property::Title => last_given(fields, "title"),
         Property::Key | Property::Type => None,
     }
 }

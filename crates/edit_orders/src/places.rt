@@ -10,7 +10,7 @@ ghost use Rattle.edit_orders.specs.Places.{ArePlacesOf, AreValuesOf, IsPlaceIn, 
 ghost use Rattle.edit_orders.specs.Values.{values_cmp};
 
 use crate::comparing::entries_compared;
-use crate::fields::{definitions, entry_value};
+use crate::fields::entry_value;
 use crate::order::{Order, SortBy};
 use crate::values::SortValue;
 use bib_abbreviations::reader::FieldReader;

@@ -4,10 +4,10 @@ use Rattle.std.proofs.lemmas.List.{map-set, length-replicate}
 use Rattle.std.specs.declared.alloc.Global.{Global}
 use Rattle.std.specs.declared.vec.Vec.{Vec}
 use Rattle.bib_collections.specs.Rows.{rows}
-use Rattle.bib_collections.specs.Search.{root_at}
+use Rattle.bib_collections.specs.Search.{root_at, AreBackInside}
 use Rattle.bib_collections.proofs.Rows.{length-rows, row_at, edge_at}
 use Rattle.bib_collections.proofs.Fill.{empty_rows}
-use Rattle.bib_collections.proofs.Roots.{IsTurnedInside, same_root, inside_none, inside_more, inside_all}
+use Rattle.bib_collections.proofs.Roots.{same_root, inside_none, inside_more}
 use Rattle.bib_collections.proofs.Walks.{below_from_edge}
 use Rattle.bib_collections.proofs.cycles.waiting_lists_inside.Goals as goal
 use Rattle.bib_collections.proofs.cycles.waiting_lists_inside.Goals.{then-eq+in_ok-push-2, else-eq}
@@ -64,7 +64,7 @@ loop-r-preserved c =
             ← old,
           ) more
       | else-eq w ↦ subst
-          (λ (v : Vec (Vec ℕ Global) Global). IsTurnedInside (rows refs) c.args.roots.now (rows v.items))
+          (λ (v : Vec (Vec ℕ Global) Global). AreBackInside (rows refs) c.args.roots.now (rows v.items))
           (sym w.inside-is) c.loop-r.invariant
     ]
 
@@ -81,7 +81,7 @@ loop-entry-init c =
     (λ p. rw c.loop-index.invariant (empty_rows c.loop-index._index p))
 
 pub returns : goal.returns
-returns c = inside_all (rows c.args.refs.now) c.args.roots.now (rows c.loop-entry.inside.items) c.loop-entry.invariant
+returns c = c.loop-entry.invariant
 
 pub loop-index-preserved : goal.loop-index-preserved
 loop-index-preserved c = grind (arith, common_steps)

@@ -1,6 +1,6 @@
-use Rattle.std.proofs.Common.{ap, ◌∙◌}
-use Rattle.bib_file_entries.specs.Loading.{last_definition}
-use Rattle.bib_file_entries.proofs.RawFacts.{definition_same}
+use Rattle.std.proofs.Common.{ap, map, ◌∙◌}
+use Rattle.bib_abbreviations.specs.Abbreviations.{definition_in}
+use Rattle.bib_syntax.specs.Views.{field_of}
 use Rattle.bib_file_entries.proofs.keeping.keep.Goals as goal
 use Rattle.bib_abbreviations.proofs.AbbreviationFacts.{definitions_same}
 
@@ -9,6 +9,5 @@ returns-clause-kept c =
     let same =
     definitions_same
     (λ name.
-    c.in_ok-definitions.ensures name ∙ ap (λ pairs. last_definition pairs name) c.deref.ensures.value
-    ∙ definition_same c.args.raw.now.abbreviations.items name) in
+    c.in_ok-definitions.ensures name ∙ ap (λ pairs. definition_in (map field_of pairs) name) c.deref.ensures.value) in
     rw (← same, ← c.deref-2.ensures.value) c.keep_entries.ensures.kept

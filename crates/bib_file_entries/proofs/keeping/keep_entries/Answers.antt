@@ -6,7 +6,8 @@ use Rattle.bib_abbreviations.proofs.AbbreviationFacts.{sorted_given}
 use Rattle.bib_file_entries.specs.Bibliography.{claims}
 use Rattle.bib_collections.specs.Names.{with_claims, claims_for}
 use Rattle.bib_syntax.specs.Views.{entry_reading_of}
-use Rattle.bib_file_entries.proofs.KeepingFacts.{entries_none, entries_duplicate, entries_next, entries_all, rest_at}
+use Rattle.bib_text.proofs.ListFacts.{drop_is}
+use Rattle.bib_file_entries.proofs.KeepingFacts.{entries_none, entries_duplicate, entries_next, entries_all}
 use Rattle.bib_file_entries.proofs.keeping.keep_entries.Goals as goal
 
 pub entries-init : goal.entries-init
@@ -26,7 +27,7 @@ pub entries-preserved-then-is_some : goal.entries-preserved-then-is_some
 entries-preserved-then-is_some c =
     let here =
     ap (map entry_reading_of)
-    (rest_at c.args.raw.now c.entries.said-index c.said-item.result c.entries-test.true c.said-item.is) in
+    (drop_is c.args.raw.now c.entries.said-index c.said-item.result c.entries-test.true c.said-item.is) in
     let had : is_some (get c.entries.names c.said-item.result.v.key.v.now) ≡ true =
     ap is_some (sym c.get.ensures) ∙ sym c.is_some.ensures ∙ c.if-is_some.true in
     record {
@@ -41,7 +42,7 @@ pub entries-preserved : goal.entries-preserved
 entries-preserved c =
     let here =
     ap (map entry_reading_of)
-    (rest_at c.args.raw.now c.entries.said-index c.said-item.result c.entries-test.true c.said-item.is) in
+    (drop_is c.args.raw.now c.entries.said-index c.said-item.result c.entries-test.true c.said-item.is) in
     let same : given_by c.entries.reader ≡ sorted_in c.args.definitions =
     ap given_by c.entries.invariant.reader ∙ sym (sorted_given c.args.definitions) in
     let absent : is_some (get c.entries.names c.said-item.result.v.key.v.now) ≡ false =

@@ -1,6 +1,7 @@
 use Rattle.std.proofs.Common.{refl, ◌∙◌}
 use Rattle.std.proofs.lemmas.List.{drop_all}
-use Rattle.bib_file_entries.proofs.KeepingFacts.{kept_none, kept_next, left_out_next, kept_all, rest_at}
+use Rattle.bib_text.proofs.ListFacts.{drop_is}
+use Rattle.bib_file_entries.proofs.KeepingFacts.{kept_none, kept_next, left_out_next, kept_all}
 use Rattle.bib_file_entries.proofs.keeping.keep_fields.Goals as goal
 
 pub fields-init : goal.fields-init
@@ -8,7 +9,7 @@ fields-init c = record { same = refl; kept = rw c.in_ok-pairs.ensures.items (kep
 
 pub fields-preserved : goal.fields-preserved
 fields-preserved c =
-    let here = rest_at c.args.fields.now c.fields.field-index c.field-item.result c.fields-test.true c.field-item.is in
+    let here = drop_is c.args.fields.now c.fields.field-index c.field-item.result c.fields-test.true c.field-item.is in
     record {
       same = c.in_ok-kept.ensures.same ∙ c.fields.invariant.same;
       kept =
@@ -19,7 +20,7 @@ fields-preserved c =
 
 pub fields-preserved-in-None : goal.fields-preserved-in-None
 fields-preserved-in-None c =
-    let here = rest_at c.args.fields.now c.fields.field-index c.field-item.result c.fields-test.true c.field-item.is in
+    let here = drop_is c.args.fields.now c.fields.field-index c.field-item.result c.fields-test.true c.field-item.is in
     record {
       same = c.in_ok-kept.ensures.same ∙ c.fields.invariant.same;
       kept = left_out_next (rw here at c.fields.invariant.kept) (rw (c.fields.invariant.same, c.in-None.is) at c.in_ok-kept.ensures.tried);

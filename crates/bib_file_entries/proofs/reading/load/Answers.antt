@@ -1,6 +1,6 @@
-use Rattle.std.proofs.Common.{ap, ◌∙◌}
-use Rattle.bib_file_entries.specs.Loading.{last_definition}
-use Rattle.bib_file_entries.proofs.RawFacts.{definition_same}
+use Rattle.std.proofs.Common.{ap, map, ◌∙◌}
+use Rattle.bib_abbreviations.specs.Abbreviations.{definition_in}
+use Rattle.bib_syntax.specs.Views.{field_of}
 use Rattle.bib_file_entries.proofs.reading.load.Goals as goal
 use Rattle.bib_abbreviations.proofs.AbbreviationFacts.{definitions_same}
 
@@ -9,8 +9,7 @@ returns-clause-loaded c =
     let same =
     definitions_same
     (λ name.
-    c.in_ok-definitions.ensures name ∙ ap (λ pairs. last_definition pairs name) c.as_slice.ensures.value
-    ∙ definition_same c.args.raw.abbreviations.items name) in
+    c.in_ok-definitions.ensures name ∙ ap (λ pairs. definition_in (map field_of pairs) name) c.as_slice.ensures.value) in
     rw (← same) c.load_entries.ensures.loaded
 
 pub returns-clause-refused : goal.returns-clause-refused
@@ -18,6 +17,5 @@ returns-clause-refused c =
     let same =
     definitions_same
     (λ name.
-    c.in_ok-definitions.ensures name ∙ ap (λ pairs. last_definition pairs name) c.as_slice.ensures.value
-    ∙ definition_same c.args.raw.abbreviations.items name) in
+    c.in_ok-definitions.ensures name ∙ ap (λ pairs. definition_in (map field_of pairs) name) c.as_slice.ensures.value) in
     rw (← same) c.load_entries.ensures.refused

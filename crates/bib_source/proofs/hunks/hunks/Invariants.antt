@@ -1,8 +1,9 @@
-use Rattle.std.proofs.Common.{◌≡◌, false, length, ◌-◌, ◌<◌, ◌≤◌, ◌++◌, List, ℕ, map, take, ◌+◌}
+use Rattle.std.proofs.Common.{◌≡◌, false, length, ◌-◌, ◌<◌, ◌≤◌, ◌++◌, List, ℕ, map, take}
 use Rattle.std.specs.List.{AllByRecursion}
 use Rattle.bib_source.specs.Comparison.{new_side, old_side}
 use Rattle.bib_source.specs.Visible.{IsCutOut, hunk_of, is_visible}
 use Rattle.bib_source.specs.Hunks.{Hunk, IsNarrow, Make}
+use Rattle.bib_source.proofs.CutFacts.{AreNumbersAt}
 use Rattle.bib_source.proofs.hunks.hunks.Given as goal
 
 -- If more hunks turn the remaining old lines into the remaining new ones, the hunks so far and these turn all old lines into
@@ -13,12 +14,9 @@ invariant-hunks l = record {
       → Make 1 1 (map hunk_of l.hunks.items ++ more) (old_side (take l.at l.lines) ++ rest) (new_side (take l.at l.lines) ++ rest');
   narrow : AllByRecursion IsNarrow (map hunk_of l.hunks.items);
   cut : AllByRecursion (IsCutOut l.lines) (map hunk_of l.hunks.items);
-  old_is : l.old ≡ 1 + length (old_side (take l.at l.lines));
-  new_is : l.new ≡ 1 + length (new_side (take l.at l.lines));
+  numbers : AreNumbersAt l.lines l.at l.old l.new;
   ended : 0 < l.at → l.at < length l.lines → is_visible l.lines l.at ≡ false;
   within : l.at ≤ length l.lines;
-  old_within : l.old ≤ l.at + 1;
-  new_within : l.new ≤ l.at + 1;
 }
 
 abbrev pub decreases-hunks : goal.decreases-hunks

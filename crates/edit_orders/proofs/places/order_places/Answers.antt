@@ -1,9 +1,8 @@
 use Rattle.std.proofs.Common.{◌≡◌, ◌∙◌, ap, sym, map}
 use Rattle.std.proofs.lemmas.Result.{IfOk-weaker}
-use Rattle.bib_abbreviations.specs.Abbreviations.{given_by}
+use Rattle.bib_abbreviations.specs.Abbreviations.{definition_in, given_by}
 use Rattle.bib_abbreviations.proofs.AbbreviationFacts.{definitions_same, sorted_given}
 use Rattle.bib_syntax.specs.Views.{entry_reading_of, field_of, file_of}
-use Rattle.edit_orders.specs.Fields.{file_definition}
 use Rattle.edit_orders.specs.Orders.{order_parts}
 use Rattle.edit_orders.proofs.PlaceFacts.{placed_by}
 use Rattle.edit_orders.proofs.places.order_places.Goals as goal
@@ -11,10 +10,10 @@ use Rattle.edit_orders.proofs.places.order_places.Goals as goal
 pub returns : goal.returns
 returns c =
     let says = file_of c.args.raw.now in
-    let defined : given_by c.new-reader.result ≡ file_definition says.abbreviations =
+    let defined : given_by c.new-reader.result ≡ definition_in says.abbreviations =
     ap given_by c.new-reader.ensures ∙ sym (sorted_given c.in_ok-definitions.field-0)
     ∙ definitions_same (λ name.
-    c.in_ok-definitions.ensures name ∙ ap (λ l. file_definition (map field_of l) name) c.deref.ensures.value) in
+    c.in_ok-definitions.ensures name ∙ ap (λ l. definition_in (map field_of l) name) c.deref.ensures.value) in
     IfOk-weaker c.places_of.result _ _
     (λ places is.
     placed_by says (order_parts c.args.order) c.deref-2.result.now c.deref-4.result.now (given_by c.new-reader.result)

@@ -1,6 +1,6 @@
 use Rattle.std.proofs.Common.{rules, arith, ◌≡◌, ◌∙◌, ◌≤◌, ◌-◌, ◌+◌, ◌∷◌, sym, ap, refl, length, replicate, reverse, append-nil}
 use Rattle.std.proofs.lemmas.List.{nil_from_length}
-use Rattle.bib_contents.proofs.ArgumentFacts.{is_no_brace, passes_ahead, passes_one, passes_within}
+use Rattle.bib_contents.proofs.ArgumentFacts.{is_no_brace}
 use Rattle.bib_contents.proofs.EndFacts.{read_none, read_opened, read_closed, read_alone}
 use Rattle.bib_contents.proofs.StackFacts.{reversed_push}
 use Rattle.bib_contents.proofs.ends.Ends.between_braces.Goals as goal
@@ -29,16 +29,7 @@ index_mut-requires c =
     read_closed {rest = c.pop.new.self.items} c.braces.invariant c.eat_while.ensures.passed run.0 run.1
     c.in-Some.ensures c.if-brace-eq123.false
     (reversed_push c.braces.open.items c.pop.new.self.items c.in-Some-pop.begin c.in-Some-pop.ensures.items) in
-    let inside : c.eat.new.self.at ≤ length c.eat.new.self.text =
-    passes_within c.in-Some.ensures (passes_within c.eat_while.ensures.passed c.braces.invariant.within) in
-    let ahead = passes_ahead c.eat_while.ensures.passed in
-    let more = passes_one c.in-Some.ensures in
-    let same : length c.eat.new.self.text ≡ length c.args.s.text =
-    ap length (c.in-Some.ensures.same ∙ c.eat_while.ensures.passed.same ∙ c.braces.invariant.same) in
-    let low : c.cursor-start.result ≤ c.in-Some-pop.begin = closed.0 in
-    let high : c.in-Some-pop.begin ≤ c.braces.s.at = closed.1 in
-    let size : length c.braces.places.items + c.cursor-start.result ≡ length c.args.s.text = c.braces.invariant.size in
-    omega (arith, low, high, size, same, inside, more, ahead, c.braces.places.ok.0)
+    closed.1.0
 
 pub overflow_sub-begin : goal.overflow_sub-begin
 overflow_sub-begin c =
@@ -56,16 +47,7 @@ braces-preserved-in-Some-pop c =
     read_closed {rest = c.pop.new.self.items} c.braces.invariant c.eat_while.ensures.passed run.0 run.1
     c.in-Some.ensures c.if-brace-eq123.false
     (reversed_push c.braces.open.items c.pop.new.self.items c.in-Some-pop.begin c.in-Some-pop.ensures.items) in
-    let inside : c.eat.new.self.at ≤ length c.eat.new.self.text =
-    passes_within c.in-Some.ensures (passes_within c.eat_while.ensures.passed c.braces.invariant.within) in
-    let ahead = passes_ahead c.eat_while.ensures.passed in
-    let more = passes_one c.in-Some.ensures in
-    let same : length c.eat.new.self.text ≡ length c.args.s.text =
-    ap length (c.in-Some.ensures.same ∙ c.eat_while.ensures.passed.same ∙ c.braces.invariant.same) in
-    let low : c.cursor-start.result ≤ c.in-Some-pop.begin = closed.0 in
-    let high : c.in-Some-pop.begin ≤ c.braces.s.at = closed.1 in
-    let size : length c.braces.places.items + c.cursor-start.result ≡ length c.args.s.text = c.braces.invariant.size in
-    rw c.cursor-end.ensures.place (closed.2 (omega (arith, low, high, size, same, inside, more, ahead)))
+    rw c.cursor-end.ensures.place closed.1.1
 
 pub braces-preserved : goal.braces-preserved
 braces-preserved c =

@@ -3,10 +3,10 @@ use Rattle.std.proofs.lemmas.List.{take_all}
 use Rattle.std.proofs.lemmas.Map.Text.{btree_map_updates_str}
 use Rattle.std.specs.Prelude.{bytes_eq}
 use Rattle.bib_abbreviations.proofs.PieceFacts.{lookup_sorted}
-use Rattle.bib_syntax.specs.Views.{piece_of}
-use Rattle.bib_file_entries.specs.Loading.{last_definition}
-use Rattle.bib_file_entries.proofs.LoadingFacts.{defined_more}
-use Rattle.bib_file_entries.proofs.loading.definitions.Goals as goal
+use Rattle.bib_syntax.specs.Views.{field_of, piece_of}
+use Rattle.bib_abbreviations.specs.Abbreviations.{definition_in}
+use Rattle.bib_abbreviations.proofs.DefinitionFacts.{defined_more}
+use Rattle.bib_abbreviations.proofs.definitions.definitions.Goals as goal
 
 pub definitions-preserved : goal.definitions-preserved
 definitions-preserved c = λ name.
@@ -19,4 +19,4 @@ definitions-preserved c = λ name.
 pub returns : goal.returns
 returns c = λ name.
     c.definitions.invariant name
-    ∙ ap (λ l. last_definition l name) (take_all c.definitions.pair-index c.args.pairs.now c.definitions-test.false)
+    ∙ ap (λ l. definition_in (map field_of l) name) (take_all c.definitions.pair-index c.args.pairs.now c.definitions-test.false)
