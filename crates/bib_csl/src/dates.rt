@@ -2,7 +2,7 @@
 
 ghost use Rattle.std.specs.Prelude.{◌≡◌, ◌<◌, pos, true, length, ◌++◌, Some, OnOk, IfOk};
 ghost use Rattle.std.specs.Char.{is_ascii_digit};
-ghost use Rattle.std.specs.List.{list_all, prefix_len};
+ghost use Rattle.std.specs.List.{prefix_len};
 ghost use Rattle.std.specs.Option.{option_map, option_copied};
 ghost use Rattle.bib_chunks.specs.Values.{text};
 ghost use Rattle.bib_dates.specs.Chunks.{date_read};
@@ -16,6 +16,7 @@ use crate::variables::Variable;
 use bib_chunks::chunk::ChunksRef;
 use bib_dates::date::{Date, DateValue, Datetime};
 use bib_entry::entry::Entry;
+use bib_text::digits::are_digits;
 use bib_text::items::Items;
 use bib_text::text::Text;
 use std::alloc::{AllocError, Global};
@@ -128,13 +129,6 @@ fn first_year(text: &[u8]) -> i32
 {
     let year = 1000 * digit(text, 0) + 100 * digit(text, 1) + 10 * digit(text, 2) + digit(text, 3);
     year as i32
-}
-
-// Returns whether all bytes are ASCII digits.
-fn are_digits(text: &[u8]) -> bool
-    ensures { result ≡ list_all is_ascii_digit text.now }
-{
-    text.iter().all(|byte| byte.is_ascii_digit())
 }
 
 // Returns whether a text is four ASCII digits, `-2` and one more byte: ISO 8601-2 has the seasons 21 to 24 there.

@@ -4,6 +4,7 @@ use Rattle.std.specs.List.{filter, AllZip}
 use Rattle.std.specs.declared.ops.Range.{Range}
 use Rattle.std.proofs.lemmas.List.{append_assoc, append-nil}
 use Rattle.std.proofs.lemmas.List.Elements.{filter-append}
+use Rattle.bib_text.proofs.ListFacts.{all_zip_append}
 use Rattle.bib_tables.specs.declared.type_error.TypeError.{TypeError}
 use Rattle.bib_tables.specs.declared.type_error.TypeErrorKind.{TypeErrorKind}
 use Rattle.bib_tables.specs.Requirements.{Names}
@@ -35,14 +36,6 @@ pub only_if_first : (is_reported : Bool) (name : List ℕ) (names : Names)
 only_if_first true name names = refl
 only_if_first false name names = refl
 
--- if two pairs of lists are related element by element, so are their concatenations
-pub all_zip_append : {A B : Type 0} (R : A → B → Type 0) (xs : List A) (ys : List B) (vs : List A) (ws : List B)
-    → AllZip R xs ys → AllZip R vs ws → AllZip R (xs ++ vs) (ys ++ ws)
-all_zip_append R [] [] vs ws h k = k
-all_zip_append R [] (y ∷ ys) vs ws h k = absurd h
-all_zip_append R (x ∷ xs) [] vs ws h k = absurd h
-all_zip_append R (x ∷ xs) (y ∷ ys) vs ws h k = (h.0, all_zip_append R xs ys vs ws h.1 k)
-
 -- appending the errors of some verdicts, and then of others, appends those of both
 pub adds_then : (said more : List (List ℕ × Verdict)) (old mid new : FieldErrors) → AppendsErrors said old mid
     → AppendsErrors more mid new → AppendsErrors (said ++ more) old new
@@ -50,7 +43,7 @@ adds_then said more old mid new h k = (
   h.0 ++ k.0,
   k.1 ∙ ap (λ reported. reported ++ k.0) h.1 ∙ append_assoc old h.0 k.0,
   subst (λ errors. AllZip IsErrorOfField errors (h.0 ++ k.0)) (sym (filter-append is_error said more))
-      (all_zip_append IsErrorOfField (filter is_error said) h.0 (filter is_error more) k.0 h.2 k.2),
+      (all_zip_append IsErrorOfField (filter is_error said) (filter is_error more) h.0 k.0 h.2 k.2),
 )
 
 -- the verdict `fine` appends nothing

@@ -1,7 +1,7 @@
 //! Findings of printed fields: HTML and special characters.
 
 ghost use Rattle.std.specs.Prelude.{◌≡◌, ◌==◌, ◌++◌, false, map, option_map, slice_get, IfOk, OnOk};
-ghost use Rattle.std.specs.Char.{is_ascii_digit, is_ascii_hexdigit};
+ghost use Rattle.std.specs.Char.{is_ascii_hexdigit};
 ghost use Rattle.std.specs.List.{flat_map, list_all, take_while};
 ghost use Rattle.std.specs.Option.{option_map_or};
 ghost use Rattle.std.specs.String.{string_bytes};
@@ -19,6 +19,7 @@ use crate::identities::literal_text;
 use crate::nearest::is_among;
 use crate::special_characters::{Zone, add_special, is_printed, zone_after};
 use bib_syntax::raw::{Pair, RawEntry};
+use bib_text::digits::are_digits;
 use bib_text::spanned::Spanned;
 use bib_text::text::Text;
 use std::alloc::{AllocError, Global};
@@ -135,13 +136,6 @@ fn tag_after_less(bytes: &[u8]) -> Option<HtmlPart<'_>>
         [b'/', rest @ ..] => tag("</", rest),
         _ => tag("<", bytes),
     }
-}
-
-// Returns whether all bytes are ASCII digits.
-fn are_digits(bytes: &[u8]) -> bool
-    ensures { result ≡ list_all is_ascii_digit bytes.now }
-{
-    bytes.iter().all(|b| b.is_ascii_digit())
 }
 
 // Returns whether all bytes are hexadecimal digits.

@@ -13,12 +13,12 @@ use crate::codes::Code;
 use crate::entries::field_finding;
 use crate::finding::Finding;
 use crate::places::last_named;
-use crate::standard_numbers::are_digits;
 use bib_chunks::chunk::making::normal;
 use bib_chunks::chunk::{ChunksRef, format_verbatim};
 use bib_dates::date::Date;
 use bib_entry::entry::Entry;
 use bib_syntax::raw::RawEntry;
+use bib_text::digits::are_digits;
 use bib_text::spanned::Spanned;
 use std::alloc::{AllocError, Global};
 

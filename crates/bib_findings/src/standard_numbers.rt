@@ -13,6 +13,7 @@ use crate::finding::Finding;
 use crate::identities::own_literal;
 use crate::places::field_place;
 use bib_syntax::raw::RawEntry;
+use bib_text::digits::are_digits;
 use bib_text::spanned::Spanned;
 use bib_text::text::Text;
 use std::alloc::{AllocError, Global};
@@ -43,13 +44,6 @@ fn are_digits_or_x(digits: &[u8]) -> bool
     ensures { result ≡ list_all spec.is_digit_or_x digits.now }
 {
     digits.iter().all(|b| is_digit_or_x(*b))
-}
-
-/// Returns whether all bytes are digits.
-pub(crate) fn are_digits(digits: &[u8]) -> bool
-    ensures { result ≡ list_all is_ascii_digit digits.now }
-{
-    digits.iter().all(|b| b.is_ascii_digit())
 }
 
 // Returns whether all bytes except the last one are digits.

@@ -1,16 +1,13 @@
 -- Entries on cycles lose their references.
 use Rattle.std.proofs.Common.{◌≡◌, ◌≢◌, ℕ, zero, suc, ◌+◌, ◌<◌, ◌≤◌, List, [], ◌∷◌, ◌++◌, length, set, map, cond, refl, sym, ap, ◌∙◌, subst, arith, inl, inr, ◌⊎◌, ⊎_elim, Option, Some, None, option_map, add-one, length-set, get_or-set_other, get_or-set_same}
-use Rattle.std.specs.Prelude.{codes, slice_get, bytes_eq}
+use Rattle.std.specs.Prelude.{codes, slice_get}
 use Rattle.std.specs.FinMap as by_name
-use Rattle.std.specs.FinMap.{get-remove}
 use Rattle.std.specs.List.{All, Contains, filter_map}
 use Rattle.std.specs.Option.{option_map_or}
 use Rattle.std.specs.declared.ops.Range.{Range}
 use Rattle.std.proofs.lemmas.Bool.Decides.{eqb_tells}
-use Rattle.std.proofs.lemmas.Cmp.{nat_list_cmp_total}
 use Rattle.std.proofs.lemmas.List.{map-set}
 use Rattle.std.proofs.lemmas.List.Elements.{All-from_get_or, All-get_or, All-nil}
-use Rattle.std.proofs.lemmas.Map.Text.{is_eq-slice_cmp}
 use Rattle.std.proofs.lemmas.Option.{get_or_from_slice_get, slice_get-get_or, slice_get_within}
 use Rattle.bib_text.specs.declared.spanned.Spanned.{Spanned}
 use Rattle.bib_chunks.specs.declared.chunk.Chunk.{Chunk}
@@ -25,6 +22,7 @@ use Rattle.bib_syntax.specs.declared.raw.ParseError.{ParseError}
 use Rattle.bib_inheritance.specs.Cutting.{IsCut}
 use Rattle.bib_inheritance.specs.Recovered.{EachReported, none, passed, reported, without_references}
 use Rattle.bib_inheritance.specs.Resolving.{IsCycleAt, graph_by}
+use Rattle.bib_inheritance.proofs.FieldFacts.{removed_at}
 use Rattle.bib_inheritance.proofs.TurnFacts.{keys_kept}
 use Rattle.bib_text.proofs.ListFacts.{some_same}
 
@@ -46,10 +44,6 @@ set_apart (y ∷ xs) (suc i) (suc k) x apart = set_apart xs i k x (λ e. apart (
 
 abbrev Fields : Type 0
 Fields = ByText (List (Spanned Chunk))
-
--- the field of a name in a map after removing a key
-removed_at : (m : Fields) (k q : List ℕ) → by_name.get (by_name.remove m k) q ≡ cond (bytes_eq q k) None (by_name.get m q)
-removed_at m k q = get-remove nat_list_cmp_total m k q ∙ ap (λ b. cond b None (by_name.get m q)) (is_eq-slice_cmp q k)
 
 -- fields without `crossref` and `xdata` have no references
 no_names : (names : ByText ℕ) (fields : FieldTexts) → fields (codes "crossref") ≡ None → fields (codes "xdata") ≡ None

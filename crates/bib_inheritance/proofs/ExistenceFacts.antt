@@ -35,7 +35,7 @@ use Rattle.bib_inheritance.specs.EntryTexts.{EntryTexts, FieldTexts, fields_of, 
 use Rattle.bib_inheritance.proofs.FieldFacts as made
 use Rattle.bib_inheritance.proofs.GatheredFacts.{Value, bytes_decides, has_names, styled_first, flipped}
 use Rattle.bib_collections.specs.Sorted.{ByText, by_bytes}
-use Rattle.bib_inheritance.specs.Resolving.{AllKeepChunks, Inherits, KeepsChunks, at_index, rule_by, texts_of_entries, texts_of_entry}
+use Rattle.bib_inheritance.specs.Resolving.{HaveInherited, KeepsChunks, at_index, rule_by, texts_of_entries, texts_of_entry}
 
 -- ---- the fields that a reference offers, as chunks
 
@@ -370,12 +370,6 @@ at_indices values (r ∷ rest) =
 abbrev next : List Entry → ℕ → List Entry → Entry
 next own index refs = (heir (get_or own index blank) refs).0
 
--- entries that solve the equation, with the keys of the own entries and the chunks that they keep
-pub record AreHeirs (own : List Entry) (graph : Graph) (entries : List Entry) : Type 0 where
-  pub keys : map (λ (e : Entry). e.key) entries ≡ map (λ (e : Entry). e.key) own
-  pub inherits : Inherits (texts_of_entries own) graph (texts_of_entries entries)
-  pub chunks : AllKeepChunks own entries
-
 module _ (own : List Entry) (graph : Graph) (long : length graph ≡ length own) (in_range : IsInRange graph) (none : HasNoCycle graph) where
   solved : (values : List Entry) × Solves blank (next own) graph values
   solved = let one = walks.one_solution graph in_range none blank (next own) in (one.0, one.1)
@@ -415,7 +409,7 @@ module _ (own : List Entry) (graph : Graph) (long : length graph ≡ length own)
   key_at entries index = get_or-map (λ (e : Entry). e.key) entries index blank
 
   -- if each reference is in range and there is no cycle, the equation has a solution of entries
-  pub heirs : (entries : List Entry) × AreHeirs own graph entries
+  pub heirs : (entries : List Entry) × HaveInherited own graph entries
   heirs = (
     values,
     record {

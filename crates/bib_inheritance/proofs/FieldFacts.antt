@@ -19,7 +19,7 @@ abbrev pub Map : Type 0
 Map = ByText Value
 
 -- the field of a name in a map after removing a key
-removed_at : (m : Map) (k q : List ℕ) → get (remove m k) q ≡ cond (bytes_eq q k) None (get m q)
+pub removed_at : {V : Type 0} (m : ByText V) (k q : List ℕ) → get (remove m k) q ≡ cond (bytes_eq q k) None (get m q)
 removed_at m k q = get-remove nat_list_cmp_total m k q ∙ ap (λ b. cond b None (get m q)) (is_eq-slice_cmp q k)
 
 -- the map of a list of fields

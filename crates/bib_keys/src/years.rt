@@ -1,16 +1,9 @@
 //! The year in a key.
 
 ghost use Rattle.std.specs.Prelude.{◌≡◌, ◌⊎◌, length, IsAscii};
-ghost use Rattle.std.specs.Char.{is_ascii_digit};
-ghost use Rattle.std.specs.List.{list_all};
 ghost use Rattle.bib_keys.specs.Years as spec;
 
-// Returns whether all bytes are ASCII digits.
-fn are_digits(bytes: &[u8]) -> bool
-    ensures { result ≡ list_all is_ascii_digit bytes.now }
-{
-    bytes.iter().all(|byte| byte.is_ascii_digit())
-}
+use bib_text::digits::are_digits;
 
 // Returns whether bytes begin with four ASCII digits.
 fn begins_with_year(bytes: &[u8]) -> bool

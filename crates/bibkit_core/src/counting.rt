@@ -1,8 +1,6 @@
 //! The task that counts the entries, types, fields, years and findings of files, and prints the counts at the end.
 
 ghost use Rattle.std.specs.Prelude.{◌≡◌, [], ◌∷◌, ◌++◌, ℕ, List, map, IfOk, OnOk};
-ghost use Rattle.std.specs.Char.{is_ascii_digit};
-ghost use Rattle.std.specs.List.{list_all};
 ghost use Rattle.std.specs.Option.{option_map};
 ghost use Rattle.std.specs.Str.{str_to_ascii_lowercase};
 ghost use Rattle.std.specs.String.{string_bytes};
@@ -17,6 +15,7 @@ use crate::tables::Counts;
 use crate::task::{End, Task};
 use bib_findings::finding::Finding;
 use bib_findings::findings::findings;
+use bib_text::digits::are_digits;
 use biblatex::{Pair, RawBibliography, RawChunk, RawEntry, Spanned};
 use std::alloc::{AllocError, Global};
 
@@ -109,18 +108,11 @@ fn before_slash(text: &str) -> &str
     }
 }
 
-// Returns whether all bytes of a text are ASCII digits.
-fn are_digits(text: &str) -> bool
-    ensures { result ≡ list_all is_ascii_digit text.now }
-{
-    text.as_bytes().iter().all(|byte| byte.is_ascii_digit())
-}
-
 // Returns whether a text is one or more ASCII digits.
 fn is_number(text: &str) -> bool
     ensures { result ≡ spec.is_number text.now }
 {
-    !text.is_empty() && are_digits(text)
+    !text.is_empty() && are_digits(text.as_bytes())
 }
 
 // Returns the text before the first hyphen or slash, or the whole text without one. Returns `None` if it isn't one or more ASCII digits.

@@ -3,6 +3,7 @@
 use Rattle.std.proofs.Common.{◌≡◌, ℕ, true, cond, List, [], ◌∷◌, ◌++◌, length, refl, sym, ap, ap₂, ◌∙◌, subst, inl, inr, ◌⊎◌, ◌||◌, is_some, Option, Some, None}
 use Rattle.std.specs.List.{AllZip}
 use Rattle.std.proofs.lemmas.Bool.{both_ways}
+use Rattle.bib_text.proofs.ListFacts.{all_zip_append}
 use Rattle.bib_abbreviations.proofs.LawFacts.{error_is_one}
 use Rattle.bib_abbreviations.specs.Abbreviations.{AreOneError, Definitions, HoldsName, IsKnown, Reaches, error_at, is_known, month}
 use Rattle.bib_entry.specs.declared.entry.Entry.{Entry}
@@ -112,14 +113,6 @@ entries_fine {d} {claimed} (AreEntries.next {said = s} {rest = more} {entry = on
 
 -- ---- the kept raw entries are unique
 
-module _ {A B : Type 0} (R : A → B → Type 0) where
-  -- if two pairs of lists are related element by element, so are their concatenations
-  pub AllZip-append : (xs more : List A) (ys others : List B) → AllZip R xs ys → AllZip R more others → AllZip R (xs ++ more) (ys ++ others)
-  AllZip-append [] more [] others first rest = rest
-  AllZip-append [] more (y ∷ ys) others first rest = absurd first
-  AllZip-append (x ∷ xs) more [] others first rest = absurd first
-  AllZip-append (x ∷ xs) more (y ∷ ys) others first rest = (first.0, AllZip-append xs more ys others first.1 rest)
-
 -- each error agrees with itself
 each_is_one : (errors : List ParseError) → AllZip AreOneError errors errors
 each_is_one [] = tt
@@ -133,7 +126,7 @@ fields_once FieldsKept.none FieldsKept.none = (refl, tt)
 fields_once {d} (FieldsKept.kept {f = f} {errors = es} can rest) (FieldsKept.kept {errors = fs} can' rest') =
     let more = fields_once rest rest' in (
       ap (λ gs. mended_field d f ∷ gs) more.0,
-      AllZip-append AreOneError (unknown_names d f.value.pieces) es (unknown_names d f.value.pieces) fs
+      all_zip_append AreOneError (unknown_names d f.value.pieces) es (unknown_names d f.value.pieces) fs
           (each_is_one (unknown_names d f.value.pieces)) more.1,
     )
 fields_once (FieldsKept.kept can rest) (FieldsKept.left_out first unread rest') = absurd (unread can)
@@ -142,7 +135,7 @@ fields_once {d} (FieldsKept.left_out {f = f} {e = one} {errors = es} first unrea
     (FieldsKept.left_out {e = other} {errors = fs} first' unread' rest') =
     let more = fields_once rest rest' in (
       more.0,
-      AllZip-append AreOneError (unknown_names d f.value.pieces) (one ∷ es) (unknown_names d f.value.pieces)
+      all_zip_append AreOneError (unknown_names d f.value.pieces) (one ∷ es) (unknown_names d f.value.pieces)
           (other ∷ fs) (each_is_one (unknown_names d f.value.pieces)) (error_is_one first first', more.1),
     )
 
@@ -163,4 +156,4 @@ entries_once {d} {claimed} (EntriesKept.next {said = s} {entry = a} {first = bef
     let first = fields_once fields fields' in
     let same : claims b ≡ claims a = claims_same b a is' (subst (λ l. IsEntry d (with_fields s l) a) first.0 is) in
     let more = entries_once rest (subst (λ names. EntriesKept d (claimed ++ names) unsaid ks bs fs) same rest') in
-    (ap₂ (λ l m. with_fields s l ∷ m) first.0 more.0, AllZip-append AreOneError before es before' fs first.1 more.1)
+    (ap₂ (λ l m. with_fields s l ∷ m) first.0 more.0, all_zip_append AreOneError before es before' fs first.1 more.1)

@@ -5,6 +5,7 @@ use Rattle.std.specs.List.{AllZip, list_any}
 use Rattle.std.specs.declared.ops.Range.{Range}
 use Rattle.std.proofs.lemmas.Bool.{cases_lt, false≢true, false_from_ne_true}
 use Rattle.std.proofs.lemmas.List.{length-map}
+use Rattle.bib_text.proofs.ListFacts.{all_zip_append}
 use Rattle.bib_abbreviations.specs.Abbreviations.{AreOneError}
 use Rattle.bib_entry.specs.declared.entry.Entry.{Entry}
 use Rattle.bib_file_entries.specs.Bibliography.{Bibliography}
@@ -28,7 +29,7 @@ use Rattle.bib_syntax.proofs.RecoveryFacts as raw
 use Rattle.biblatex.specs.BibliographyRecovery.{IsRecoveredBibliography, IsSameRecovery}
 use Rattle.biblatex.specs.Headline.{IsAcceptedText, IsBibliographyOf}
 use Rattle.biblatex.specs.Resolved.{AreOneErrorOf, AreOwn, IsAccepted, IsLoaded, graph_of, names_of}
-use Rattle.biblatex.proofs.KeptFacts.{AllZip-append, entries_all, entries_fine, entries_once, kept_are_entries, none_after, none_before}
+use Rattle.biblatex.proofs.KeptFacts.{entries_all, entries_fine, entries_once, kept_are_entries, none_after, none_before}
 use Rattle.biblatex.proofs.RecoveryFacts.{cut_alike, decided, fine_is_silent, none_fails, nothing_cut, reported_once}
 use Rattle.biblatex.proofs.ResolvedFacts.{all_texts_same, dates_of_each, graph_same, graphs_by, keys_same, names_below, names_same, solutions_by}
 use Rattle.biblatex.proofs.AloneFacts.{rows_length}
@@ -279,7 +280,7 @@ module _ {places : List (Range ℕ)} {own others entries found : List Entry} {er
       )) in
       subst (λ es. AllZip AreOneErrorOf es faults) (sym one.are)
       (subst (λ fs. AllZip AreOneErrorOf (one.cycles ++ one.dates) fs) (sym other.are)
-      (AllZip-append AreOneErrorOf one.cycles one.dates other.cycles other.dates cycles dates))
+      (all_zip_append AreOneErrorOf one.cycles one.dates other.cycles other.dates cycles dates))
 
 -- two recoveries of one raw bibliography agree, if they have the same skipped blocks
 once_of : (says : FileReading) {kept left : List EntryReading} {own others : List Entry} (one other : Bibliography)
@@ -304,7 +305,7 @@ once_of says {kept} {left} {own} {others} one other {skipped} {passed} {of_entri
     record {
       skips = skips;
       tells =
-          AllZip-append AreOneErrorOf of_entries of_references of_others of_fields
+          all_zip_append AreOneErrorOf of_entries of_references of_others of_fields
           (each_weaker of_entries of_others same.1)
           (errors_once found moved one_keys (names_same file first second) (all_texts_same file first second));
       keys = found.keys ∙ one_keys ∙ sym moved.keys;

@@ -21,8 +21,7 @@ use Rattle.bib_inheritance.specs.Recovered.{AreCut, EachReported, without_refere
 use Rattle.bib_inheritance.specs.Resolving.{texts_of_entries, texts_of_entry}
 use Rattle.bib_syntax.specs.declared.raw.ParseError.{ParseError}
 use Rattle.bib_text.specs.declared.spanned.Spanned.{Spanned}
-use Rattle.bib_text.proofs.ListFacts.{element_at, some_same}
-use Rattle.biblatex.proofs.KeptFacts.{AllZip-append}
+use Rattle.bib_text.proofs.ListFacts.{all_zip_append, element_at, some_same}
 use Rattle.biblatex.proofs.ResolvedFacts.{entry_texts_same}
 
 -- ---- each index either fails and is reported, or doesn't fail
@@ -85,7 +84,7 @@ reported_once {fails} {others} R (EachReported.reported {index = i} rest fault r
 reported_once {tells = tells} R (EachReported.reported {index = i} {errors = es} {e = e} rest fault report)
     (EachReported.reported {index = j} {errors = fs} {e = f} rest' fault' report') same there back alike =
     let one : j ≡ i = omega (arith, same) in
-    AllZip-append R es (e ∷ []) fs (f ∷ [])
+    all_zip_append R es (e ∷ []) fs (f ∷ [])
     (reported_once R rest rest' (omega (arith, same)) (λ k less. there k (omega arith)) (λ k less. back k (omega arith))
     (λ k a b less. alike k a b (omega arith)))
     (alike i e f (omega arith) report (subst (λ k. tells k f) one report'), tt)

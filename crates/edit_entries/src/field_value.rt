@@ -1,8 +1,7 @@
 //! Values that fields get.
 
 ghost use Rattle.std.specs.Prelude.{◌≡◌, ◌⊎◌, IfErr, IfOk, MatchBool, OnOk, map};
-ghost use Rattle.std.specs.Char.{is_ascii_digit};
-ghost use Rattle.std.specs.List.{list_all, list_any};
+ghost use Rattle.std.specs.List.{list_any};
 ghost use Rattle.std.specs.String.{string_bytes};
 ghost use Rattle.bib_syntax.specs.Views.{field_of, piece_of};
 ghost use Rattle.edit_entries.specs.Documents as documents;
@@ -16,6 +15,7 @@ use crate::errors::EditError;
 use crate::names::can_be_new_name;
 use bib_syntax::raw::{Pair, RawChunk, is_word};
 use bib_tables::months::Month;
+use bib_text::digits::are_digits;
 use bib_text::spanned::Spanned;
 use std::alloc::{AllocError, Global};
 
@@ -26,13 +26,6 @@ pub enum FieldValue<'a> {
     Text(&'a str),
     /// A number, or the name of an abbreviation, which are written without braces.
     Bare(&'a str),
-}
-
-// Returns whether these bytes are ASCII digits.
-fn are_digits(bytes: &[u8]) -> bool
-    ensures { result ≡ list_all is_ascii_digit bytes.now }
-{
-    bytes.iter().all(|byte| byte.is_ascii_digit())
 }
 
 // Returns whether a text consists of one or more ASCII digits.
