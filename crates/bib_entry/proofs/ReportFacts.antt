@@ -25,6 +25,7 @@ use Rattle.bib_dates.specs.declared.date.Date.{Date}
 use Rattle.bib_dates.specs.Chunks.{AnswersReading}
 use Rattle.bib_dates.specs.Readings.{Reading}
 use Rattle.bib_dates.specs.Readings.Reading.{says, error, unread as not_read}
+use Rattle.bib_text.proofs.OptionFacts.{none_is_some}
 use Rattle.bib_entry.specs.Reports.{only_if, Verdict, is_error, IsErrorOfField, read_or, verdict, date_verdict, field_verdicts, date_verdicts, AreMalformed}
 use Rattle.bib_entry.specs.Reports.Verdict.{fine}
 use Rattle.bib_entry.specs.Verdicts.{FieldErrors, AppendsError, AppendsFieldError, AppendsErrors}
@@ -100,10 +101,6 @@ pub adds_number : (field : Option Value) (name : List ℕ) (old new : FieldError
     → AppendsFieldError number.ghosts field name old new
     → AppendsErrors ((name, verdict number_read number_error field) ∷ []) old new
 adds_number = adds_field number.ghosts number_error (λ _ _ same. same)
-
--- `None` is not a value
-none_is_some : {A : Type 0} {a : A} → None ≡ Some a → ⊥
-none_is_some h = search rules
 
 -- if the error of parsing a date, if any, is appended, then so is the error of its verdict
 pub adds_date : (reading : Reading Date) (place : Range ℕ) (read : Result Date TypeError) (name : List ℕ)

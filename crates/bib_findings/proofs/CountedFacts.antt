@@ -22,29 +22,9 @@ firsts_after = each_after if_first
 abbrev pub raised : FieldReading → FieldReading × ℕ → FieldReading × ℕ
 raised g c = (c.0, cond (have_one_name c.0 g) (one_field_more c.1) c.1)
 
--- one more item adds 1 to the number of items that pass a test if it passes, and 0 otherwise
-pub count_more : {A : Type 0} (p : A → Bool) (items : List A) (one : A)
-    → count_by p (items ++ one ∷ []) ≡ count_by p items + cond (p one) 1 0
-count_more p items one = omega (arith, sum_by-append (λ x. cond (p x) 1 0) items (one ∷ []))
-
--- no item is counted if none passes the test
-pub count_none : {A : Type 0} (p : A → Bool) (items : List A) → list_any p items ≡ false → count_by p items ≡ 0
-count_none p [] none = refl
-count_none p (one ∷ items) none =
-    let here : ◌≡◌ {A = ℕ} (cond (p one) 1 0) 0 = ap {B = ℕ} (λ b. cond b 1 0) (or_false_left (p one) (list_any p items) none) in
-    omega (
-      arith,
-      sum_by-append (λ x. cond (p x) 1 0) (one ∷ []) items,
-      here,
-      count_none p items (or_false_right (p one) (list_any p items) none),
-    )
-
 -- whether two fields have one name doesn't depend on their order
 pub name_turned : (f g : FieldReading) → have_one_name f g ≡ have_one_name g f
 name_turned f g = by (have_one_name f g) (have_one_name g f) refl refl where
-  turned : (x y : List ℕ) → bytes_eq x y ≡ true → bytes_eq y x ≡ true
-  turned x y same = (bytes_eq-Decides y x).1 (sym ((bytes_eq-Decides x y).0 same))
-
   by : (a b : Bool) → have_one_name f g ≡ a → have_one_name g f ≡ b → have_one_name f g ≡ have_one_name g f
   by true true one other = one ∙ sym other
   by false false one other = one ∙ sym other
@@ -149,10 +129,6 @@ any_counted fields g =
     ∙ sym (or_false (list_any (have_one_name g) (firsts_after [] fields)))
     ∙ any_first g [] fields ∙ or_false (list_any (have_one_name g) fields)
   where
-    or_false : (b : Bool) → (b || false) ≡ b
-    or_false true = refl
-    or_false false = refl
-
 -- mapping doesn't change a list whose items are their own images
 pub map_same : {A : Type 0} (f : A → A) (items : List A) (d : A)
     → ((k : ℕ) → k < length items → f (get_or items k d) ≡ get_or items k d) → map f items ≡ items

@@ -11,6 +11,7 @@ use Rattle.bib_text.specs.Characters as char
 use Rattle.bib_syntax.specs.Reading.{FieldReading}
 use Rattle.bib_syntax.specs.Views.{field_of}
 use Rattle.bib_syntax.specs.declared.raw.Pair.{Pair}
+use Rattle.bib_text.proofs.ListFacts.{all_zip_append, some_same}
 use Rattle.bib_findings.specs.Adding.{Adds}
 use Rattle.bib_findings.specs.Foreign.{is_foreign}
 use Rattle.bib_findings.specs.Met.{AreFieldNames, IsFieldName}
@@ -42,13 +43,6 @@ known_alone key field old known = record {
   new_is = sym (append-nil old);
 }
 
-zip_append : {A B : Type 0} (P : A → B → Type 0) (xs more : List A) (ys others : List B) → AllZip P xs ys
-    → AllZip P more others → AllZip P (xs ++ more) (ys ++ others)
-zip_append P [] more [] others first second = second
-zip_append P [] more (y ∷ ys) others first second = absurd first
-zip_append P (x ∷ xs) more [] others first second = absurd first
-zip_append P (x ∷ xs) more (y ∷ ys) others first second = (first.0, zip_append P xs more ys others first.1 second)
-
 -- the findings of the first fields and of the next one are those of all these fields
 pub fields_next : (key : List ℕ) (fields : List Pair) (index : ℕ) (field : Pair) (old mid new : List Finding)
     → index < length fields → field ≡ get_or fields index field
@@ -63,7 +57,7 @@ fields_next key fields index field old mid new within is before more =
     record {
       added = before.added ++ more.added;
       are = subst (λ l. AllZip (IsOfUnknown key) l (before.added ++ more.added)) (sym cut)
-          (zip_append (IsOfUnknown key) (unknown_among so_far) (unknown_among (field_of field ∷ [])) before.added
+          (all_zip_append (IsOfUnknown key) (unknown_among so_far) (unknown_among (field_of field ∷ [])) before.added
           more.added before.are more.are);
       new_is = more.new_is ∙ ap (λ l. l ++ more.added) before.new_is ∙ append_assoc old before.added more.added;
     }
@@ -75,9 +69,6 @@ pub names_more : (old new : List ℕ → Option FieldName) (name : List ℕ) (is
 names_more old new name is before this updates other found_is found =
     of_test (bytes_eq name other) refl (sym (updates other) ∙ found)
   where
-    some_same : {A : Type 0} {x y : A} → Some x ≡ Some y → x ≡ y
-    some_same e = cc
-
     of_test : (test : Bool) → bytes_eq name other ≡ test
         → cond (bytes_eq name other) (Some is) (old other) ≡ Some found_is → IsFieldName other found_is
     of_test true same at =

@@ -24,6 +24,7 @@ use Rattle.bib_people.proofs.ByteFacts.{all_follow, ascii_fact, ascii_of, capita
 use Rattle.bib_people.proofs.LineFacts.{AllWords, all_any, is_line_item, items_ascii, items_bytes, items_part, line_all, line_items, line_spelt, more_some, plain_line, spaced_then}
 use Rattle.bib_people.proofs.SurviveFacts.{some_words}
 use Rattle.bib_csl.specs.declared.item.NameParts.{NameParts}
+use Rattle.std.proofs.Math.Bool.{or-true}
 use Rattle.bib_from_csl.specs.PlainPeople.{IsPlainParts}
 use Rattle.bib_from_csl.specs.WrittenPeople.{are_plain_words, begins_small, begins_with_small, extended_chunks, has_no_small_word, has_small_words, is_bibtex_name, is_nothing_or_words, is_one_word, is_plain_particle, is_plain_word, may_stand_in_name, particle, parts_chunks, plain_text_of, with_separator, words_in}
 
@@ -337,10 +338,7 @@ shown_normal t true following same flows spelt =
 -- two texts with a comma between them contain a comma; by the next lemma, so does the line of a plain name
 has_comma : (leading_run rest : List ℕ) → list_any (λ b. b == 44) (leading_run ++ (44 ∷ rest)) ≡ true
 has_comma [] rest = refl
-has_comma (b ∷ bs) rest = ap (λ c. (b == 44) || c) (has_comma bs rest) ∙ or_true (b == 44) where
-  or_true : (x : Bool) → (x || true) ≡ true
-  or_true true = refl
-  or_true false = refl
+has_comma (b ∷ bs) rest = ap (λ c. (b == 44) || c) (has_comma bs rest) ∙ or-true (b == 44)
 
 pub line_comma : (uses : Bool) (p : NameParts) (k : IsPlainParts uses p) → list_any (λ b. b == 44) (text_of_parts uses p k) ≡ true
 unfolding text_of_parts words_of_parts

@@ -24,7 +24,7 @@ use Rattle.bib_inheritance.specs.Recovered.{EachReported, none, passed, reported
 use Rattle.bib_inheritance.specs.Resolving.{IsCycleAt, graph_by}
 use Rattle.bib_inheritance.proofs.FieldFacts.{removed_at}
 use Rattle.bib_inheritance.proofs.TurnFacts.{keys_kept}
-use Rattle.bib_text.proofs.ListFacts.{some_same}
+use Rattle.bib_text.proofs.ListFacts.{some_same, contains_nothing}
 
 -- ---- lists
 
@@ -84,9 +84,6 @@ each_same fails fails' reports reports' n errors there back same (passed {index 
     passed (each_same fails fails' reports reports' index before there back same h) (λ f. never (back index f))
 each_same fails fails' reports reports' n errors there back same (reported {index = index} {errors = before} {e = e} h f r) =
     reported (each_same fails fails' reports reports' index before there back same h) (there index f) (same index e r)
-
-no_edge : {b : ℕ} → Contains [] b → ⊥
-no_edge c = omega (arith, c.1)
 
 -- ---- all entries on cycles
 
@@ -203,7 +200,7 @@ module _ (spans : List (Range ℕ)) (own : List Entry) (graph : Graph) where
     edge_kept : (a b : ℕ) → Contains (refs_of refs a) b → Contains (refs_of graph a) b
     edge_kept a b edge =
         ⊎_elim (λ same. subst (λ l. Contains l b) same edge)
-        (λ gone. absurd (no_edge (subst (λ l. Contains l b) gone edge))) (h.fewer a)
+        (λ gone. absurd (contains_nothing (subst (λ l. Contains l b) gone edge))) (h.fewer a)
 
     chain_kept : (a b : ℕ) → Leads refs a b → Leads graph a b
     chain_kept a b (one edge) = one (edge_kept a b edge)
@@ -228,7 +225,7 @@ module _ (spans : List (Range ℕ)) (own : List Entry) (graph : Graph) where
           (h.fewer k)));
       no_cycle = λ index within leads.
           let first = first_edge leads in
-          no_edge
+          contains_nothing
           (subst (λ l. Contains l first.0)
           (h.nothing index (omega (arith, within, h.rows, rows, at_end)) (chain_kept index index leads)) first.1);
       follows = h.follows;

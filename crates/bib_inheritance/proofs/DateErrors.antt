@@ -6,6 +6,7 @@ use Rattle.std.proofs.lemmas.Bool.{false≢true}
 use Rattle.bib_entry.specs.declared.entry.Entry.{Entry}
 use Rattle.bib_tables.specs.declared.type_error.TypeError.{TypeError}
 use Rattle.bib_collections.specs.Graph.{Graph, refs_of}
+use Rattle.std.proofs.Math.Bool.{and-false}
 use Rattle.bib_inheritance.specs.InheritableDate.{looks_for_date}
 use Rattle.bib_inheritance.specs.EntryTexts.{EntryTexts}
 use Rattle.bib_syntax.specs.declared.raw.ParseError.{ParseError}
@@ -41,11 +42,7 @@ module _ (looks : List Bool) (graph : Graph) (entries : List Entry) (index : ℕ
   finds_none read h =
       passed h
       (λ bad.
-      false≢true (sym (ap (λ b. get_or looks index false && b) read ∙ never (get_or looks index false)) ∙ bad))
-    where
-      never : (b : Bool) → (b && false) ≡ false
-      never true = refl
-      never false = refl
+      false≢true (sym (ap (λ b. get_or looks index false && b) read ∙ and-false (get_or looks index false)) ∙ bad))
 
   -- if it lacks a required date, and references of it have unreadable dates, it adds the error of the first of these
   pub finds_one : (error : TypeError) (e : ParseError) → get_or looks index false ≡ true

@@ -2,7 +2,7 @@
 use Rattle.std.proofs.Common.{◌≡◌, ◌≢◌, ℕ, zero, suc, ◌+◌, ◌-◌, ◌<◌, List, [], ◌∷◌, ◌++◌, true, length, get_or, set, take, drop, map, eqb, eq-eqb, refl, sym, ap, ◌∙◌, subst, arith, Option, Some, None, is_some, inl, inr, ◌⊎◌, length-set, get_or-set_other, get_or-set_same}
 use Rattle.std.specs.Prelude.{IsNone, IsSome}
 use Rattle.std.specs.List.{Contains}
-use Rattle.std.proofs.lemmas.Bool.{both_ways, cases_Bool, false≢true}
+use Rattle.std.proofs.lemmas.Bool.{both_ways, cases_Bool, false≢true, eqb-true}
 use Rattle.std.proofs.lemmas.List.{at_drop_more, get_or_default, map-set, take_more}
 use Rattle.std.proofs.lemmas.List.Elements.{Contains-append_left, Contains-get_or}
 use Rattle.std.proofs.lemmas.Option.{slice_get-get_or, slice_get_within}
@@ -22,9 +22,6 @@ use Rattle.bib_text.proofs.ListFacts.{some_same}
 
 -- ---- an empty cache, and one more date
 
-same_index : (x y : ℕ) → eqb x y ≡ true → x ≡ y
-same_index x y is = grind (arith, is)
-
 -- a cache without dates still has none after an empty place is added
 pub unread_more : (dates : Dates) → ((index : ℕ) → IsNone (date_at dates index)) → (index : ℕ) → IsNone (date_at (dates ++ None ∷ []) index)
 unread_more [] none zero = refl
@@ -42,7 +39,7 @@ module _ (entries : List Entry) where
       → AreDates entries dates → AreDates entries (set dates index (Some d))
   dates_more dates index d within here are other e is = elim (cases_Bool (eqb other index)) [
     | inl same ↦
-        let at : other ≡ index = same_index other index same in
+        let at : other ≡ index = eqb-true other index same in
         let now : Some d ≡ Some e =
         sym (get_or-set_same dates index (Some d) None within) ∙ ap (date_at (set dates index (Some d))) (sym at)
         ∙ is in
@@ -54,7 +51,7 @@ module _ (entries : List Entry) where
 pub reads_more : (dates : Dates) (index other : ℕ) (d : Kept) → index < length dates
     → IsSome (date_at (set dates index (Some d)) other) → IsSome (date_at dates other) ⊎ (other ≡ index)
 reads_more dates index other d within there = elim (cases_Bool (eqb other index)) [
-  | inl same ↦ inr (same_index other index same)
+  | inl same ↦ inr (eqb-true other index same)
   | inr apart ↦ inl (subst IsSome (get_or-set_other dates index other (Some d) None (λ x. both_ways _ apart (eq-eqb other index x))) there)
 ]
 

@@ -14,8 +14,8 @@ use Rattle.std.proofs.lemmas.List.Folds.{list_any-append}
 use Rattle.std.proofs.lemmas.Map.Text.{is_eq-slice_cmp}
 use Rattle.std.proofs.lemmas.Option.{get_or_from_slice_get, slice_get_within}
 use Rattle.std.proofs.Math.ListN.{get_or-map}
-use Rattle.bib_text.proofs.BytesFacts.{bytes_turned}
-use Rattle.bib_text.proofs.BoolFacts.{and_true_right}
+use Rattle.bib_text.proofs.BytesFacts.{bytes_turned, bytes_itself}
+use Rattle.bib_text.proofs.BoolFacts.{and_true_right, not_or_left}
 use Rattle.bib_chunks.specs.Styled.{Atom, styled}
 use Rattle.bib_chunks.specs.declared.chunk.Chunk.TheVariants.{Normal}
 use Rattle.bib_entry.specs.declared.entry.Entry.{Entry}
@@ -33,7 +33,7 @@ use Rattle.bib_inheritance.specs.Inherited.{date_parts, field_by, first_offer, i
 use Rattle.bib_inheritance.specs.References.{plain}
 use Rattle.bib_inheritance.specs.EntryTexts.{EntryTexts, FieldTexts, fields_of, first_named, first_some, has, no_entry, texts_of_fields}
 use Rattle.bib_inheritance.proofs.FieldFacts as made
-use Rattle.bib_inheritance.proofs.GatheredFacts.{Value, bytes_decides, has_names, styled_first, flipped}
+use Rattle.bib_inheritance.proofs.GatheredFacts.{Value, bytes_decides, has_names, styled_first, flipped, nothing_either}
 use Rattle.bib_collections.specs.Sorted.{ByText, by_bytes}
 use Rattle.bib_inheritance.specs.Resolving.{HaveInherited, KeepsChunks, at_index, rule_by, texts_of_entries, texts_of_entry}
 
@@ -139,13 +139,8 @@ listed_first f name q rest among below =
     ]
   where
     here : (o : Option Value) → f q ≡ o → first_named (with_first q o rest) q ≡ f q
-    here None none = below ∙ ap (λ o. cond among o None) none ∙ nothing among ∙ sym none where
-      nothing : (b : Bool) → cond {A = Option Value} b None None ≡ None
-      nothing true = refl
-      nothing false = refl
-    here (Some value) is = ap (λ b. cond b (Some value) (first_named rest q)) (flipped q q ∙ same_bytes q) ∙ sym is where
-      same_bytes : (n : List ℕ) → bytes_eq n n ≡ true
-      same_bytes n = elim (bytes_decides n n) [ inl t ↦ t.0 | inr t ↦ absurd (t.1 refl) ]
+    here None none = below ∙ ap (λ o. cond among o None) none ∙ nothing_either among ∙ sym none
+    here (Some value) is = ap (λ b. cond b (Some value) (first_named rest q)) (flipped q q ∙ bytes_itself q) ∙ sym is
 
     there : (o : Option Value) → bytes_eq name q ≡ false → first_named (with_first name o rest) q ≡ first_named rest q
     there None apart = refl
@@ -196,10 +191,7 @@ given_styled own refs q =
     all false is =
         sym
         (ap (cond (is_some (fields_of own.fields q)) None) (other_name own.entry_type refs q is)
-        ∙ nothing (is_some (fields_of own.fields q))) where
-          nothing : (b : Bool) → cond {A = Option (List Atom)} b None None ≡ None
-          nothing true = refl
-          nothing false = refl
+        ∙ nothing_either (is_some (fields_of own.fields q)))
 
 -- a text as one normal chunk
 abbrev as_chunk : List ℕ → Value
@@ -303,10 +295,6 @@ stays_by date own given name chunks has free = with_date date free where
     past true = inr refl
     past false = plainly
 
-neither : (a b : Bool) → not (a || b) ≡ true → a ≡ false
-neither true b e = absurd (false≢true e)
-neither false b e = refl
-
 nothing_there : (o : Option Value) → is_some (option_map styled o) ≡ false → o ≡ None
 nothing_there None e = refl
 nothing_there (Some value) e = absurd (false≢true (sym e))
@@ -321,7 +309,7 @@ free_of_date own refs = go (looks_for_date (texts_of_entry own)) refl where
   go true looks =
       inr
       (nothing_there (get own.fields (codes "date"))
-      (neither (has (texts_of_entry own) (codes "date")) (has (texts_of_entry own) (codes "year"))
+      (not_or_left (has (texts_of_entry own) (codes "date")) (has (texts_of_entry own) (codes "year"))
       (and_true_right (rules_of own.entry_type).needs_date
       (not (has (texts_of_entry own) (codes "date") || has (texts_of_entry own) (codes "year"))) looks)))
 

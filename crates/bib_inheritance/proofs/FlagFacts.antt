@@ -14,6 +14,7 @@ use Rattle.std.specs.declared.vec.Vec.{Vec}
 use Rattle.bib_collections.specs.Graph.{Graph, IsTopologicalOrder, refs_of}
 use Rattle.bib_collections.specs.Rows.{rows}
 use Rattle.bib_collections.proofs.Solving.{new_turn}
+use Rattle.bib_text.proofs.BoolFacts.{and_true_right}
 use Rattle.bib_inheritance.specs.InheritableDate.{looks_for_date}
 use Rattle.bib_inheritance.specs.References.{plain, references}
 use Rattle.bib_inheritance.specs.EntryTexts.{EntryTexts, fields_of}
@@ -79,10 +80,7 @@ bad_flagged names own looks values index are =
 looks_flagged : (own : List Entry) (index : ℕ) → get_or (map looks_by own) index false ≡ true
     → looks_for_date (at_index (texts_of_entries own) index) ≡ true
 looks_flagged [] index is = absurd (false≢true is)
-looks_flagged (e ∷ own) zero is = both (has_references e) (looks_for_date (texts_of_entry e)) is where
-  both : (a b : Bool) → (a && b) ≡ true → b ≡ true
-  both true b is = is
-  both false b is = absurd (false≢true is)
+looks_flagged (e ∷ own) zero is = and_true_right (has_references e) (looks_for_date (texts_of_entry e)) is
 looks_flagged (e ∷ own) (suc index) is = looks_flagged own index is
 
 -- a flag that is set belongs to an entry that lacks a required date

@@ -23,6 +23,7 @@ use Rattle.bib_text.proofs.BytesFacts.{bytes_turned}
 use Rattle.bib_collections.specs.Sorted.{ByText, by_bytes}
 use Rattle.bib_tables.specs.Requirements.{Names, texts, rules_of, author_names, page_names, inheritable, is_container, is_one_of, never_inherited}
 use Rattle.bib_tables.specs.declared.mechanics.EntryType.{EntryType}
+use Rattle.bib_text.proofs.OptionFacts.{some_mapped}
 use Rattle.bib_inheritance.specs.Inherited.{offer, offered_field, inherited_field}
 use Rattle.bib_inheritance.specs.Gathering.{gathered_text, gathered_text_in, offer_among}
 use Rattle.bib_inheritance.specs.EntryTexts.{EntryTexts, fields_of, first_named, first_some, has, texts_of_reference, texts_of_references}
@@ -78,17 +79,18 @@ among_other names i s q h e =
     ap (λ b. cond (not (is_one_of never_inherited q) && b) (offer s q) None)
     (among_more names i q false h e ∙ or-false (is_one_of (take i names) q))
 
+-- no field, whether a test passes or fails
+pub nothing_either : {A : Type 0} (b : Bool) → cond {A = Option A} b None None ≡ None
+nothing_either true = refl
+nothing_either false = refl
+
 -- nothing is offered for a name that is never inherited or has no offer
 among_none : (names : Names) (s : EntryTexts) (q : List ℕ) → (is_one_of never_inherited q ≡ true) ⊎ (offer s q ≡ None)
     → offer_among names s q ≡ None
 among_none names s q (inl k) = ap (λ k. cond (not k && is_one_of names q) (offer s q) None) k
 among_none names s q (inr o) =
     ap (λ v. cond (not (is_one_of never_inherited q) && is_one_of names q) v None) o
-    ∙ both (not (is_one_of never_inherited q) && is_one_of names q)
-  where
-    both : (b : Bool) → cond {A = Option (List Atom)} b None None ≡ None
-    both true = refl
-    both false = refl
+    ∙ nothing_either (not (is_one_of never_inherited q) && is_one_of names q)
 
 -- before the first name, nothing is collected
 pub gathered_none : (names : Names) (s : EntryTexts) (gathered : GatheredFields) → IsGathered names 0 s gathered gathered
@@ -152,10 +154,6 @@ offered_both a b s q x =
     ∙ ap (λ v. first_some (cond (not (is_one_of never_inherited q) && v) (offer s q) None) x)
     (sym (list_any-append (λ each. bytes_eq each q) a b))
 
-same_some : {A B : Type 0} (f : A → B) (o : Option A) → is_some o ≡ is_some (option_map f o)
-same_some f None = refl
-same_some f (Some x) = refl
-
 -- comparing two names by order is comparing their bytes
 pub flipped : (q n : List ℕ) → eq_by_cmp by_bytes q n ≡ bytes_eq n q
 flipped q n = is_eq-slice_cmp q n ∙ bytes_turned q n
@@ -172,7 +170,7 @@ is_some-find q (e ∷ es) =
 
 -- a map has a field of a name exactly if the name is among its names
 pub has_names : (m : ByText Value) (q : List ℕ) → is_one_of (map (λ e. e.0) (entries m)) q ≡ is_some (fields_of m q)
-has_names m q = sym (is_some-find q (entries m)) ∙ ap is_some (sym (get-entries m q)) ∙ same_some styled (get m q)
+has_names m q = sym (is_some-find q (entries m)) ∙ ap is_some (sym (get-entries m q)) ∙ sym (some_mapped styled (get m q))
 
 -- for a container, the offers among the names of a reference's fields are the fields that it inherits from this reference
 pub given_container : (entry_type : EntryType) (reference : Reference) (names : Names) (q : List ℕ)
@@ -313,8 +311,13 @@ pub styled_first : (a b : Option Value) → option_map styled (first_some a b) �
 styled_first None b = refl
 styled_first (Some x) b = refl
 
+-- `first_some` of a value and `None` is the value
+pub first_alone : {A : Type 0} (o : Option A) → first_some o None ≡ o
+first_alone None = refl
+first_alone (Some x) = refl
+
 -- `first_some` is associative
-first_last : {A : Type 0} (a b c : Option A) → first_some a (first_some b c) ≡ first_some (first_some a b) c
+pub first_last : {A : Type 0} (a b c : Option A) → first_some a (first_some b c) ≡ first_some (first_some a b) c
 first_last None b c = refl
 first_last (Some x) b c = refl
 
@@ -337,7 +340,7 @@ copied_skip own all rest left n c copies is had h q =
     ∙ elim (bytes_decides n.now q) [
       | inl t ↦
           let own_has : is_some (fields_of own q) ≡ true =
-          sym (same_some styled (get own q)) ∙ subst (λ x. is_some (get own x) ≡ true) t.1 had in
+          some_mapped styled (get own q) ∙ subst (λ x. is_some (get own x) ≡ true) t.1 had in
           ap (λ b. cond b None (cond (bytes_eq n.now q) (Some (styled c.now)) (gathered_text_in rest q))) own_has
           ∙ ap (λ b. cond b None (gathered_text_in rest q)) (sym own_has)
       | inr t ↦ ap (λ b. cond (is_some (fields_of own q)) None (cond b (Some (styled c.now)) (gathered_text_in rest q))) t.0
@@ -364,7 +367,7 @@ copied_more own all rest left n c v copies is lacks same h q =
     ∙ elim (bytes_decides n.now q) [
       | inl t ↦
           let own_lacks : is_some (fields_of own q) ≡ false =
-          sym (same_some styled (get own q)) ∙ subst (λ x. is_some (get own x) ≡ false) t.1 lacks in
+          some_mapped styled (get own q) ∙ subst (λ x. is_some (get own x) ≡ false) t.1 lacks in
           ap (λ b. cond b None (cond (bytes_eq n.now q) (Some (styled c.now)) (gathered_text_in rest q))) own_lacks
           ∙ ap (λ b. cond b (Some (styled c.now)) (gathered_text_in rest q)) t.0
           ∙ sym (ap (λ b. first_some (cond b (Some (styled c.now)) None) (copied_text own rest q)) t.0)
@@ -387,13 +390,5 @@ pub copied_all : (own : ByText Value) (all left : List Loan) (copies : List (Lis
 copied_all own all left copies none h q =
     sym
     (h q ∙ ap (λ l. first_some (option_map styled (first_named copies q)) (copied_text own l q)) none
-    ∙ ap (first_some (option_map styled (first_named copies q))) (nothing (is_some (fields_of own q)))
-    ∙ alone (option_map styled (first_named copies q)))
-  where
-    nothing : (b : Bool) → cond {A = Option (List Atom)} b None None ≡ None
-    nothing true = refl
-    nothing false = refl
-
-    alone : {A : Type 0} (o : Option A) → first_some o None ≡ o
-    alone None = refl
-    alone (Some x) = refl
+    ∙ ap (first_some (option_map styled (first_named copies q))) (nothing_either (is_some (fields_of own q)))
+    ∙ first_alone (option_map styled (first_named copies q)))

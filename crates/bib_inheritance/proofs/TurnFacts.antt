@@ -5,7 +5,7 @@ use Rattle.std.specs.List.{All, Contains, list_any}
 use Rattle.std.specs.Cmp.{unsigned_tied}
 use Rattle.std.specs.Ordering.{eq_by_cmp, nat_cmp}
 use Rattle.std.specs.FinMap.{get}
-use Rattle.std.proofs.lemmas.Bool.{cases_Bool, both_ways, false≢true}
+use Rattle.std.proofs.lemmas.Bool.{cases_Bool, both_ways, false≢true, eqb-true}
 use Rattle.std.proofs.lemmas.List.{get_or-map, get_or_default, map-set, map_push, nil_from_length, take_more, set-get_or, length-map}
 use Rattle.std.proofs.lemmas.Option.{slice_get-get_or, slice_get_within}
 use Rattle.std.proofs.lemmas.List.Elements.{Contains-append_left, Contains-push}
@@ -17,12 +17,14 @@ use Rattle.bib_collections.specs.Graph.{Graph, IsTopologicalOrder, refs_of}
 use Rattle.bib_collections.specs.Solving.{IsSolvedTo}
 use Rattle.bib_collections.proofs.Solving.{new_turn, solved_none, solved_more}
 use Rattle.bib_collections.proofs.LeadFacts.{turn_within}
+use Rattle.std.proofs.Math.Bool.{and-false, or-false}
+use Rattle.bib_text.proofs.ListFacts.{some_same}
 use Rattle.bib_inheritance.specs.InheritableDate.{date_for, last_date, looks_for_date}
 use Rattle.bib_inheritance.specs.Inherited.{date_parts, field_by, offered_field, plain_field, inherited_field, with_inherited_fields}
 use Rattle.bib_inheritance.specs.EntryTexts.{EntryTexts, fields_of, first_named, first_some, has, no_entry, texts_of_fields, texts_of_reference, texts_of_references}
 use Rattle.bib_inheritance.specs.declared.offers.Reference.{Reference}
 use Rattle.bib_inheritance.proofs.FieldFacts.{inherits}
-use Rattle.bib_inheritance.proofs.GatheredFacts.{Value}
+use Rattle.bib_inheritance.proofs.GatheredFacts.{Value, first_alone, first_last}
 use Rattle.bib_tables.specs.Requirements.{is_one_of, rules_of}
 use Rattle.bib_tables.specs.declared.mechanics.EntryType.{EntryType}
 use Rattle.bib_inheritance.specs.Resolving.{AllKeepChunks, KeepsChunks, at_index, rule_by, texts_of_entries, texts_of_entry}
@@ -34,17 +36,10 @@ use Rattle.bib_inheritance.specs.Turning.{IsTurned}
 taken_last : (entry_type : EntryType) (name : List ℕ) (rs : List EntryTexts) (r : EntryTexts)
     → inherited_field entry_type name (rs ++ r ∷ [])
     ≡ first_some (inherited_field entry_type name rs) (offered_field entry_type r name)
-taken_last entry_type name [] r = alone (offered_field entry_type r name) where
-  alone : {A : Type 0} (o : Option A) → first_some o None ≡ o
-  alone None = refl
-  alone (Some x) = refl
+taken_last entry_type name [] r = first_alone (offered_field entry_type r name)
 taken_last entry_type name (x ∷ rs) r =
     ap (first_some (offered_field entry_type x name)) (taken_last entry_type name rs r)
-    ∙ either (offered_field entry_type x name) (inherited_field entry_type name rs)
-    (offered_field entry_type r name) where
-      either : {A : Type 0} (a b c : Option A) → first_some a (first_some b c) ≡ first_some (first_some a b) c
-      either None b c = refl
-      either (Some y) b c = refl
+    ∙ first_last (offered_field entry_type x name) (inherited_field entry_type name rs) (offered_field entry_type r name)
 
 -- a reference that occurred before adds no field
 given_before : (entry_type : EntryType) (name : List ℕ) (at : ℕ → EntryTexts) (p : ℕ) (indices : List ℕ)
@@ -59,11 +54,11 @@ given_before entry_type name at p (x ∷ indices) among =
           first_some
           (first_some (offered_field entry_type (at y) name)
           (inherited_field entry_type name (map at indices))) (offered_field entry_type (at p) name))
-          (same_index x p is)
+          (eqb-true x p is)
           ∙ again (offered_field entry_type (at p) name) (inherited_field entry_type name (map at indices))
           ∙ ap
           (λ y. first_some (offered_field entry_type (at y) name) (inherited_field entry_type name (map at indices)))
-          (sym (same_index x p is))
+          (sym (eqb-true x p is))
       | inr other ↦ later (offered_field entry_type (at x) name) (inherited_field entry_type name (map at indices))
           (offered_field entry_type (at p) name)
           (given_before entry_type name at p indices
@@ -78,9 +73,6 @@ given_before entry_type name at p (x ∷ indices) among =
     later : {A : Type 0} (a b c : Option A) → first_some b c ≡ b → first_some (first_some a b) c ≡ first_some a b
     later None b c h = h
     later (Some x) b c h = refl
-
-    same_index : (x p : ℕ) → eqb x p ≡ true → x ≡ p
-    same_index x p is = grind (arith, is)
 
 -- an entry inherits the same from `first` as from `indices`
 abbrev pub GivesSame : List ℕ → List ℕ → Type 0
@@ -132,16 +124,10 @@ pub seen_again : (indices : List ℕ) (i q : ℕ) → i < length indices
 seen_again indices i q within again = list_any_more (λ x. eqb x q) indices i 0 within ∙ elim (cases_Bool (eqb (get_or indices i 0) q)) [
   | inl is ↦
       let among : list_any (λ x. eqb x q) (take i indices) ≡ true =
-      subst (λ y. list_any (λ x. eqb x y) (take i indices) ≡ true) (nat_same (get_or indices i 0) q is) again in
+      subst (λ y. list_any (λ x. eqb x y) (take i indices) ≡ true) (eqb-true (get_or indices i 0) q is) again in
       ap (λ b. b || eqb (get_or indices i 0) q) among ∙ sym among
-  | inr other ↦ ap (λ b. list_any (λ x. eqb x q) (take i indices) || b) other ∙ or_false (list_any (λ x. eqb x q) (take i indices))
-] where
-  or_false : (b : Bool) → (b || false) ≡ b
-  or_false true = refl
-  or_false false = refl
-
-  nat_same : (x y : ℕ) → eqb x y ≡ true → x ≡ y
-  nat_same x y is = grind (arith, is)
+  | inr other ↦ ap (λ b. list_any (λ x. eqb x q) (take i indices) || b) other ∙ or-false (list_any (λ x. eqb x q) (take i indices))
+]
 
 -- ---- resolving one entry
 
@@ -178,10 +164,7 @@ kept_plain own offered_field name chunks is = go (bytes_eq name (codes "xdata"))
 looks_not : (own : EntryTexts) → has own (codes "date") ≡ true → looks_for_date own ≡ false
 looks_not own had =
     ap (λ h. (rules_of own.entry_type).needs_date && not (h || has own (codes "year"))) had
-    ∙ never (rules_of own.entry_type).needs_date where
-      never : (b : Bool) → (b && false) ≡ false
-      never true = refl
-      never false = refl
+    ∙ and-false (rules_of own.entry_type).needs_date
 
 -- an entry with a field `date` inherits no date
 no_date : (own : EntryTexts) (refs : List EntryTexts) → has own (codes "date") ≡ true → date_for own refs ≡ None
@@ -247,11 +230,8 @@ alone_by : (own : EntryTexts) (name : List ℕ) → own.fields (codes "xdata") �
 alone_by own name none = elim (cases_Bool (bytes_eq name (codes "xdata"))) [
   | inl is ↦ ap (λ b. cond b None (first_some (own.fields name) None)) is
       ∙ sym (ap own.fields ((bytes_eq-Decides name (codes "xdata")).0 is) ∙ none)
-  | inr other ↦ ap (λ b. cond b None (first_some (own.fields name) None)) other ∙ found (own.fields name)
-] where
-  found : {A : Type 0} (o : Option A) → first_some o None ≡ o
-  found None = refl
-  found (Some x) = refl
+  | inr other ↦ ap (λ b. cond b None (first_some (own.fields name) None)) other ∙ first_alone (own.fields name)
+]
 
 -- an entry without references inherits no date
 pub date_alone : (own : EntryTexts) → date_for own [] ≡ None
@@ -355,7 +335,7 @@ turned_more refs turns own entries after i new indices order within as_long row 
       waiting = λ q d none. get_or-set_other entries p q new d (later q none).1 ∙ h.waiting q d (later q none).0;
       chunks = λ q d. elim (cases_Bool (eqb q p)) [
         | inl e ↦
-            let q_is : q ≡ p = nat_same q p e in
+            let q_is : q ≡ p = eqb-true q p e in
             let mine : get_or own q d ≡ old =
             ap (λ x. get_or own x d) q_is ∙ sym (h.waiting p d fresh) ∙ get_or_default entries p d new below in
             let now : get_or (set entries p new) q d ≡ new =
@@ -366,9 +346,6 @@ turned_more refs turns own entries after i new indices order within as_long row 
       ];
     }
   where
-    nat_same : (x y : ℕ) → eqb x y ≡ true → x ≡ y
-    nat_same x y is = grind (arith, is)
-
     nat_is : (x y : ℕ) → x ≡ y → eqb x y ≡ true
     nat_is x y is = eq-eqb x y is
 
@@ -390,9 +367,7 @@ turned_chunks refs turns own entries i h index written entry mine now =
     (subst (KeepsChunks (get_or own index entry)) (at_get entries index entry entry now) (h.chunks index entry))
   where
     at_get : (es : List Entry) (index : ℕ) (e d : Entry) → slice_get es index ≡ Some e → get_or es index d ≡ e
-    at_get es index e d is = some_same (sym (slice_get-get_or es index d (slice_get_within es index e is)) ∙ is) where
-      some_same : {A : Type 0} {x y : A} → Some x ≡ Some y → x ≡ y
-      some_same e = cc
+    at_get es index e d is = some_same (sym (slice_get-get_or es index d (slice_get_within es index e is)) ∙ is)
 
 -- indices among others are below any bound of these
 pub all_below : {n : ℕ} (indices first : List ℕ) → All (λ r. r < n) indices → All (Contains indices) first → All (λ r. r < n) first
@@ -401,9 +376,7 @@ all_below {n} indices first below among k d within =
     subst (λ r. r < n) at.2 (below at.0 (get_or first k d) at.1)
 
 pub no_indices : (indices : List ℕ) → (eqb (length indices) 0) ≡ true → indices ≡ []
-no_indices indices t = nil_from_length indices (nat_same (length indices) 0 t) where
-  nat_same : (x y : ℕ) → eqb x y ≡ true → x ≡ y
-  nat_same x y is = grind (arith, is)
+no_indices indices t = nil_from_length indices (eqb-true (length indices) 0 t)
 
 pub is_nothing : {A : Type 0} (o : Option A) {b : Bool} → is_some o ≡ not b → b ≡ true → o ≡ None
 is_nothing None e t = refl

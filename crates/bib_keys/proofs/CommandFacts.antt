@@ -9,11 +9,8 @@ use Rattle.std.proofs.lemmas.List.Splits.{slice_split_first}
 use Rattle.std.proofs.lemmas.List.Sums.{prefix_len-le-length, prefix_len_passes}
 use Rattle.std.proofs.lemmas.List.{append-nil}
 use Rattle.std.proofs.lemmas.Str.{IsCharBoundary-after_ascii, IsCharBoundary-start}
+use Rattle.bib_text.proofs.DigitFacts.{letter_small}
 use Rattle.bib_keys.specs.Commands.{joined_commands, name_len, without_name, without_names, without_space}
-
--- a letter is ASCII
-letter_ascii : (c : ℕ) → is_ascii_alphabetic c ≡ true → c < 128
-letter_ascii c h = grind (arith, nat_tests)
 
 -- in a UTF-8 text, the offset after a name is a character boundary
 pub name_ends : (text : List ℕ) (n : ℕ) → IsUtf8 text → n ≡ name_len text → IsCharBoundary text n
@@ -21,7 +18,7 @@ name_ends text zero utf8 is = IsCharBoundary-start text utf8
 name_ends text (suc n) utf8 is =
     let within : n < length text = omega (arith, is, prefix_len-le-length is_ascii_alphabetic text) in
     let letter = prefix_len_passes is_ascii_alphabetic text n 0 (omega (arith, is)) in
-    subst (IsCharBoundary text) (one_more n) (IsCharBoundary-after_ascii text n utf8 within (letter_ascii (get_or text n 0) letter)) where
+    subst (IsCharBoundary text) (one_more n) (IsCharBoundary-after_ascii text n utf8 within (letter_small (get_or text n 0) letter)) where
       one_more : (m : ℕ) → m + 1 ≡ suc m
       one_more m = omega arith
 

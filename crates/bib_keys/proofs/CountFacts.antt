@@ -16,7 +16,7 @@ use Rattle.std.proofs.lemmas.Map.Steps.{le-length_from_below}
 use Rattle.std.proofs.lemmas.Map.Text.{is_eq-slice_cmp}
 use Rattle.std.proofs.lemmas.Slice.Eq.{bytes_eq-Decides}
 use Rattle.std.specs.Map.{keys_of}
-use Rattle.std.proofs.lemmas.Bool.{eq-eqb}
+use Rattle.std.proofs.lemmas.Bool.{eq-eqb, or_right}
 use Rattle.bib_text.proofs.ListFacts.{any_mapped}
 use Rattle.bib_keys.specs.Keys.{IsSuffix}
 use Rattle.bib_keys.specs.Taken.{AreTakenBelow}
@@ -75,10 +75,7 @@ any_weaker p q weaker (x ∷ xs) h = of (p x) refl (weaker x) (any_weaker p q we
   of : (b : Bool) → p x ≡ b → (p x ≡ true → q x ≡ true) → (list_any p xs ≡ true → list_any q xs ≡ true) → (p x || list_any p xs) ≡ true
       → (q x || list_any q xs) ≡ true
   of true is here there all = ap (λ c. c || list_any q xs) (here is)
-  of false is here there all = or_true (q x) (list_any q xs) (there (sym (ap (λ c. c || list_any p xs) is) ∙ all)) where
-    or_true : (a b : Bool) → b ≡ true → (a || b) ≡ true
-    or_true true b t = refl
-    or_true false b t = t
+  of false is here there all = or_right (q x) (list_any q xs) (there (sym (ap (λ c. c || list_any p xs) is) ∙ all))
 
 -- two texts that compare as equal are equal
 same_name : (a b : List ℕ) → is_eq (slice_cmp nat_cmp a b) ≡ true → a ≡ b

@@ -12,6 +12,8 @@ use Rattle.std.proofs.lemmas.List.Folds.{list_any-append, list_any_at}
 use Rattle.std.proofs.lemmas.Slice.Eq.{bytes_eq-Decides}
 use Rattle.std.proofs.lemmas.Bool.{or_right, cases_lt, cases_Bool}
 use Rattle.bib_entry.specs.declared.entry.Entry.{Entry}
+use Rattle.bib_text.proofs.PlaceFacts.{test_clash}
+use Rattle.bib_text.proofs.BoolFacts.{or_last}
 use Rattle.bib_keys.specs.Bases.{pattern_text}
 use Rattle.bib_keys.specs.Characters.{CanServeAsKey}
 use Rattle.bib_keys.specs.Keys.{AreDistinct, AreKeys, HasSuffix, IsFirstNew, IsSuffix, has_same_key}
@@ -92,9 +94,7 @@ now_taken m0 m1 m2 text key number new one two other = of (cases_Bool (bytes_eq 
     equal = (bytes_eq-Decides t q).0 same
 
     from : (text ≡ key) ⊎ (is_key_taken m0 text ≡ true) → is_key_taken m0 other ≡ true
-    from (inl is) = absurd (clash (bytes_eq k q) ((bytes_eq-Decides k q).1 (ap str_to_ascii_lowercase (sym is) ∙ equal)) differs) where
-      clash : (b : Bool) → b ≡ true → b ≡ false → ⊥
-      clash b x y = cc
+    from (inl is) = absurd (test_clash (bytes_eq k q) ((bytes_eq-Decides k q).1 (ap str_to_ascii_lowercase (sym is) ∙ equal)) differs)
     from (inr taken) = same_taken m0 text other equal taken
 
   of : (bytes_eq k q ≡ true) ⊎ (bytes_eq k q ≡ false) → (bytes_eq t q ≡ true) ⊎ (bytes_eq t q ≡ false)
@@ -188,24 +188,16 @@ gets_key m0 m1 m2 text key text_name key_name number closed is_text is_key free 
 -- a test that fails for a whole list fails for each element
 none_at : {X : Type 0} (p : X → Bool) (xs : List X) (i : ℕ) (d : X) → i < length xs → list_any p xs ≡ false → p (get_or xs i d) ≡ false
 none_at p xs i d within none = of (cases_Bool (p (get_or xs i d))) where
-  clash : (b : Bool) → b ≡ true → b ≡ false → ⊥
-  clash b x y = cc
-
   of : (p (get_or xs i d) ≡ true) ⊎ (p (get_or xs i d) ≡ false) → p (get_or xs i d) ≡ false
-  of (inl passes) = absurd (clash (list_any p xs) (list_any_at p xs i d within passes) none)
+  of (inl passes) = absurd (test_clash (list_any p xs) (list_any_at p xs i d within passes) none)
   of (inr fails) = fails
 
 -- a key is among keys and one more exactly if it is that one, in any ASCII case, or among the others
 has_more : (keys : List (List ℕ)) (key other : List ℕ) (b : Bool) → b ≡ has_same_key keys other
     → (str_eq_ignore_ascii_case key other || b) ≡ has_same_key (keys ++ (key ∷ [])) other
 has_more keys key other b is =
-    of (str_eq_ignore_ascii_case key other) b ∙ ap (λ x. x || (str_eq_ignore_ascii_case key other || false)) is
-    ∙ sym (list_any-append (λ own. str_eq_ignore_ascii_case own other) keys (key ∷ [])) where
-      of : (a c : Bool) → (a || c) ≡ (c || (a || false))
-      of true true = refl
-      of true false = refl
-      of false true = refl
-      of false false = refl
+    or_last (str_eq_ignore_ascii_case key other) b ∙ ap (λ x. x || (str_eq_ignore_ascii_case key other || false)) is
+    ∙ sym (list_any-append (λ own. str_eq_ignore_ascii_case own other) keys (key ∷ []))
 
 -- the taken keys are exactly these, in any ASCII case, and for each name in the map, the suffixes with smaller numbers are taken
 pub record AreTaken (taken : Numbers) (keys : List (List ℕ)) : Type 0 where

@@ -3,6 +3,7 @@ use Rattle.std.proofs.Common.{◌≡◌, ℕ, ◌<◌, ◌≤◌, ◌⊎◌, Boo
 use Rattle.std.proofs.lemmas.List.{length-map, map-append}
 use Rattle.std.proofs.lemmas.Bool.{cases_lt}
 use Rattle.bib_entry.specs.declared.entry.Entry.{Entry}
+use Rattle.bib_text.proofs.PlaceFacts.{test_clash}
 use Rattle.bib_keys.specs.Bases.{pattern_text}
 use Rattle.bib_keys.specs.Characters.{is_in_keys}
 use Rattle.bib_keys.specs.Keys.{AreKeys, HasSuffix, IsFirstNew, has_same_key, without_key}
@@ -81,12 +82,9 @@ one_pattern _ qs _ (IsPattern.next {part = p} {parts = ps} {text = t} {rest = r}
 -- a text has one first new key
 one_first : (keys : List (List ℕ)) (text a b : List ℕ) → IsFirstNew keys text a → IsFirstNew keys text b → a ≡ b
 one_first keys text a b one other = of (cases_lt one.number other.number) (cases_lt other.number one.number) where
-  clash : (t : Bool) → t ≡ true → t ≡ false → ⊥
-  clash t x y = cc
-
   of : (one.number < other.number) ⊎ (other.number ≤ one.number) → (other.number < one.number) ⊎ (one.number ≤ other.number) → a ≡ b
-  of (inl less) _ = absurd (clash (has_same_key keys a) (other.first one.number a less one.suffixed) one.new)
-  of (inr _) (inl less) = absurd (clash (has_same_key keys b) (one.first other.number b less other.suffixed) other.new)
+  of (inl less) _ = absurd (test_clash (has_same_key keys a) (other.first one.number a less one.suffixed) one.new)
+  of (inr _) (inl less) = absurd (test_clash (has_same_key keys b) (one.first other.number b less other.suffixed) other.new)
   of (inr below) (inr above) =
       let same : other.number ≡ one.number = omega arith in
       one_with_suffix one.number text a b one.suffixed (subst (λ n. HasSuffix n text b) same other.suffixed)

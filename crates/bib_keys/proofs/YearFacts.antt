@@ -9,6 +9,7 @@ use Rattle.std.proofs.lemmas.List.{get_or-drop, get_or-take, length-take-le}
 use Rattle.std.proofs.lemmas.Str.{IsCharBoundary-after_ascii}
 use Rattle.std.proofs.lemmas.Str.Ascii.{IsAscii-nil, IsAscii-cons}
 use Rattle.std.proofs.lemmas.Bool.{and_parts}
+use Rattle.bib_text.proofs.DigitFacts.{digit_small}
 use Rattle.bib_keys.specs.Years.{begins_with_year, four_digits}
 
 -- a text that begins with four digits has at least four bytes
@@ -23,9 +24,7 @@ pub digits_ascii : (text : List ℕ) → list_all is_ascii_digit text ≡ true �
 digits_ascii [] all = IsAscii-nil
 digits_ascii (c ∷ text) all =
     let both = and_parts (is_ascii_digit c) (list_all is_ascii_digit text) all in
-    IsAscii-cons c text (small c both.0) (digits_ascii text both.1) where
-      small : (d : ℕ) → is_ascii_digit d ≡ true → d < 128
-      small d h = grind (arith, nat_tests)
+    IsAscii-cons c text (digit_small c both.0) (digits_ascii text both.1)
 
 -- the four digits at the start of a text are ASCII
 pub year_ascii : (text : List ℕ) → begins_with_year text ≡ true → IsAscii (take 4 text)

@@ -9,6 +9,7 @@ use Rattle.std.proofs.lemmas.List.{map-append}
 use Rattle.std.proofs.lemmas.List.Concat.{flat_map-append}
 use Rattle.std.proofs.lemmas.List.Sums.{fold-append}
 use Rattle.std.proofs.lemmas.List.Folds.{list_any-append}
+use Rattle.std.proofs.Math.Bool.{or-false}
 use Rattle.bib_queries.specs.Citations.{add_citation, cites_all, cites_at, cites_from}
 use Rattle.bib_queries.specs.Elements.{set_name}
 use Rattle.bib_queries.specs.Lines.{text_after_prefix}
@@ -44,10 +45,7 @@ new_keys keys c other new = ap₂ (λ a b. cond (a || b) keys (keys ++ c ∷ [])
 
 -- a citation of a key other than `*` doesn't cite all entries
 pub not_all : (all : Bool) (c : Citation) → bytes_eq c.key (codes "*") ≡ false → all ≡ (all || cites_all (c ∷ []))
-not_all all c other = of all ∙ sym (ap (λ b. all || (b || false)) other) where
-  of : (b : Bool) → b ≡ b || false
-  of true = refl
-  of false = refl
+not_all all c other = sym (or-false all) ∙ sym (ap (λ b. all || (b || false)) other)
 
 or_assoc : (a b c : Bool) → (a || b) || c ≡ a || (b || c)
 or_assoc true b c = refl
@@ -66,10 +64,7 @@ collected_then old mid new xs ys first second = record {
 
 -- collecting no citations changes nothing
 pub nothing_collected : (c : Collected) → IsSeen c → IsCollected c [] c
-nothing_collected c seen = record { keys = refl; all = of c.all; seen = seen } where
-  of : (b : Bool) → b ≡ b || false
-  of true = refl
-  of false = refl
+nothing_collected c seen = record { keys = refl; all = sym (or-false c.all); seen = seen }
 
 -- after an insertion, a lookup finds the inserted key and each earlier one
 pub some_of : (b : Bool) {A : Type 0} (v : A) (o : Option A) → is_some (cond b (Some v) o) ≡ cond b true (is_some o)

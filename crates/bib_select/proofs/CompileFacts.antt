@@ -2,6 +2,7 @@
 use Rattle.std.proofs.Common.{◌<◌, ◌+◌, ℕ, List, [], ◌∷◌, ◌++◌, length, take, get_or, map, sym, subst}
 use Rattle.std.specs.List.{Any, AllZip}
 use Rattle.std.proofs.lemmas.List.{map_more, length-map, get_or-map}
+use Rattle.bib_text.proofs.ListFacts.{all_zip_push}
 use Rattle.bib_select.specs.Compiled.{IsCompileError}
 use Rattle.bib_select.specs.declared.errors.SelectionError.{SelectionError}
 use Rattle.bib_select.specs.declared.errors.SelectionError.TheVariants.{Malformed, OutOfMemory}
@@ -27,14 +28,6 @@ error_of_more (Malformed kind.MissingYearOperator at) more is = is
 error_of_more (Malformed kind.MissingText at) more is = is
 error_of_more (Malformed kind.MissingYear at) more is = is
 error_of_more (Malformed kind.MissingJoint at) more is = is
-
--- two lists that are related element by element stay so with one more related pair
-pub all_zip_push : {A B : Type 0} (R : A → B → Type 0) (xs : List A) (ys : List B) (x : A) (y : B) → AllZip R xs ys → R x y
-    → AllZip R (xs ++ x ∷ []) (ys ++ y ∷ [])
-all_zip_push R [] [] x y all one = (one, tt)
-all_zip_push R [] (b ∷ ys) x y all one = absurd all
-all_zip_push R (a ∷ xs) [] x y all one = absurd all
-all_zip_push R (a ∷ xs) (b ∷ ys) x y all one = (all.0, all_zip_push R xs ys x y all.1 one)
 
 -- lists related element by element stay so with one more pair, if the first list is that of the images of the elements before an index
 pub all_zip_more : {A B C : Type 0} (R : B → C → Type 0) (f : A → B) (xs : List A) (ys : List C) (index : ℕ) (d : A) (y : C)

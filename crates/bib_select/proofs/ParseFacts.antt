@@ -4,6 +4,7 @@ use Rattle.std.proofs.Common.{◌≡◌, ℕ, Bool, true, false, List, [], ◌�
 use Rattle.std.specs.Prelude.{Result, Ok, Err, codes, if◌then◌else◌}
 use Rattle.std.specs.Option.{ok_or, option_map_or}
 use Rattle.bib_text.specs.Places.{place}
+use Rattle.bib_text.proofs.OptionFacts.{ok_differs}
 use Rattle.bib_select.specs.Compiled.{HasAnyExpression, IsCompileError}
 use Rattle.bib_select.specs.Conditions.{QuestionReading, SubjectReading, TermReading, alternatives_reading, answer_test, has_test, missing_operator, missing_text, operator_test, subject_test, term_reading, term_with, terms_reading, test_reading, reading_at, question_at, subject_at}
 use Rattle.bib_select.specs.Conditions.TestReading.{has}
@@ -179,20 +180,17 @@ pub one_condition : (text : List ℕ) (condition other : List (List TermReading)
 one_condition text condition other first second =
     ok_same (Ok condition) refl (same_result text first.cut second.cut (read_of_text first) (read_of_text second))
 
-not_both : {A E : Type 0} {a : A} {e : E} → Ok a ≡ Err e → ⊥
-not_both is = cc
-
 -- the tokens of a condition have no error
 no_misfit : (text : List ℕ) {condition : List (List TermReading)} {e : SelectionError} → IsConditionText text condition
     → IsNoCondition text e → ⊥
-no_misfit text is refused = not_both (same_result text is.cut refused.cut (read_of_text is) refused.reads)
+no_misfit text is refused = ok_differs (same_result text is.cut refused.cut (read_of_text is) refused.reads)
 
 -- a condition has no error of its text
 pub no_error : (text : List ℕ) (condition : List (List TermReading)) (e : SelectionError) → IsConditionText text condition
     → IsParseError text e → IsErrorOfText e → ⊥
 no_error text condition OutOfMemory is refused syntax = syntax
 no_error text condition (Malformed (Regex cause) at) is refused syntax = syntax
-no_error text condition (Malformed UnclosedQuote at) is refused syntax = not_both (one_cut is.cut refused)
+no_error text condition (Malformed UnclosedQuote at) is refused syntax = ok_differs (one_cut is.cut refused)
 no_error text condition (Malformed MissingTest at) is refused syntax = no_misfit text is refused
 no_error text condition (Malformed MissingField at) is refused syntax = no_misfit text is refused
 no_error text condition (Malformed MissingOperator at) is refused syntax = no_misfit text is refused

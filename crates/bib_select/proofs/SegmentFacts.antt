@@ -4,6 +4,7 @@ use Rattle.std.specs.Prelude.{Result, Ok, Err}
 use Rattle.std.proofs.lemmas.Bool.{cond-true, cond-false}
 use Rattle.std.proofs.lemmas.List.{map-append, append-nil, take_more, take_all, drop_all}
 use Rattle.std.proofs.Math.Seq.{drop-cons}
+use Rattle.bib_text.proofs.ListFacts.{take_to_end}
 use Rattle.bib_select.specs.Tokens.{Placed}
 use Rattle.bib_select.specs.Segments.{Segment, and_then, is_keyword, segments_between, try_map, with_token}
 use Rattle.bib_select.specs.Scanning.{IsReadError}
@@ -65,10 +66,6 @@ uncut_more joint end tokens index d so within other = record {
       ∙ ap (map placed_of) (sym (take_more tokens index d within)));
 }
 
--- the elements from an index to the end of a list
-to_end : {A : Type 0} (xs : List A) (index : ℕ) → take (length xs - index) (drop index xs) ≡ drop index xs
-to_end xs index = take_all (length xs - index) (drop index xs) (omega (arith, length-drop index xs))
-
 -- the first such word ends the first segment; the others are those of the tokens after the word
 pub cut_here : (joint : List ℕ) (end : ℕ) (tokens : List declared.Placed) (index : ℕ) (d : declared.Placed)
     → UncutSoFar joint end tokens index → index < length tokens
@@ -86,7 +83,7 @@ cut_here joint end tokens index d so within here =
     ∙ ap
     (λ l. record { tokens = map placed_of (take index tokens); end = (get_or tokens index d).at }
     ∷ segments_between joint end (map placed_of l))
-    (sym (to_end tokens (index + 1)))
+    (sym (take_to_end tokens (index + 1)))
 
 -- without such a word, there is one segment
 pub cut_nowhere : (joint : List ℕ) (end : ℕ) (tokens : List declared.Placed) (index : ℕ) → UncutSoFar joint end tokens index

@@ -2,7 +2,7 @@
 use Rattle.std.proofs.Common.{◌≡◌, ◌<◌, ◌-◌, ℕ, Bool, true, false, List, [], ◌∷◌, ◌++◌, length, refl, sym, ap, subst, inl, inr, append_assoc, Option, Some, None, MatchOption}
 use Rattle.std.specs.Prelude.{◌==◌, not, ◌&&◌, Result, Ok, Err}
 use Rattle.std.specs.Char.{is_whitespace}
-use Rattle.std.proofs.lemmas.Bool.{eqb-true}
+use Rattle.std.proofs.lemmas.Bool.{eqb-true, not-false}
 use Rattle.std.proofs.lemmas.List.{append-nil}
 use Rattle.bib_text.specs.Places.{Place, CharAt, Longest, AtEnd, EndsOr, Stops, between}
 use Rattle.bib_text.proofs.PlaceFacts.{same_char, no_char_at_end, ahead_run, ahead_char, ahead_then, run_rest, left_smaller}
@@ -12,12 +12,6 @@ use Rattle.bib_select.specs.Tokens.IsToken.{a_word, a_sign, a_quoted_text}
 use Rattle.bib_select.specs.Tokens.{AreTokens as tokens}
 use Rattle.bib_select.specs.Scanning.{IsNextToken, IsTokenError, IsTokensError}
 use Rattle.bib_select.specs.declared.errors.SelectionError.{SelectionError}
-
--- a scanner that takes the character at its place is after this character
-pub moved_past : {u v w : Place} {q : ℕ} (eaten : Option ℕ) → CharAt u q w
-    → MatchOption eaten (AtEnd u × (v ≡ u)) (λ c. CharAt u c v) → CharAt u q v
-moved_past None here ended = absurd (no_char_at_end ended.0 here)
-moved_past {u} {v} (Some c) here char = subst (λ x. CharAt u x v) (same_char char here).0 char
 
 -- the text between two quotes is a token
 pub quoted_text : {u v w x : Place} {q : ℕ} (text : List ℕ) → CharAt u q v → is_quote q ≡ true → Longest (λ c. not (c == q)) v w
@@ -30,11 +24,7 @@ pub no_closing : {w : Place} (q : ℕ) {Holds : ℕ → Type 0} → EndsOr Holds
     → ((v : Place) → CharAt w q v → ⊥) → AtEnd w
 no_closing q (inl end) stops absent = end
 no_closing {w} q (inr (c, v, char, holds)) stops absent =
-    absurd (absent v (subst (λ x. CharAt w x v) (eqb-true c q (not_false (c == q) (stops c v char))) char))
-  where
-    not_false : (b : Bool) → not b ≡ false → b ≡ true
-    not_false true is = refl
-    not_false false is = absurd (cc)
+    absurd (absent v (subst (λ x. CharAt w x v) (eqb-true c q (not-false (c == q) (stops c v char))) char))
 
 -- a longest run of word characters, if it isn't empty, is a token
 pub word_here : {u v w : Place} {c : ℕ} (text : List ℕ) → CharAt u c w → is_word_character c ≡ true → Longest is_word_character u v

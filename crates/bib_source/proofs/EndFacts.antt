@@ -3,7 +3,7 @@ use Rattle.std.proofs.Common.{◌≡◌, ℕ, ◌+◌, ◌-◌, ◌<◌, Bool, t
 use Rattle.std.specs.Borrow.{Bor}
 use lib.Dec.{eqb}
 use lib.Pointwise.{pointwise}
-use Rattle.std.proofs.lemmas.Bool.{false≢true}
+use Rattle.std.proofs.lemmas.Bool.{false≢true, not-false}
 use Rattle.std.proofs.lemmas.Slice.Eq.{bytes_eq-Decides}
 use Rattle.std.proofs.lemmas.List.{drop_more, map-append, take-append-drop, take_all}
 use Rattle.bib_source.specs.Comparison.{BeginDifferently, EndDifferently, HaveCommonEnds, line_texts}
@@ -83,11 +83,7 @@ ends_of old new old_rest new_rest end start i j old_is new_is end_is same first 
 
 -- two lines are equal if `!=` returns false, and differ if it returns true
 pub lines_same : (old new : List ℕ) (differ : Bool) → differ ≡ not (pointwise eqb old new) → differ ≡ false → old ≡ new
-lines_same old new differ is same = (bytes_eq-Decides old new).0 (by (pointwise eqb old new) (sym is ∙ same))
-  where
-    by : (b : Bool) → not b ≡ false → b ≡ true
-    by true e = refl
-    by false e = cc
+lines_same old new differ is same = (bytes_eq-Decides old new).0 (not-false (pointwise eqb old new) (sym is ∙ same))
 
 pub lines_differ : (old new : List ℕ) (differ : Bool) → differ ≡ not (pointwise eqb old new) → differ ≡ true → old ≡ new → ⊥
 lines_differ old new differ is other same = false≢true (sym (ap not ((bytes_eq-Decides old new).1 same)) ∙ sym is ∙ other)

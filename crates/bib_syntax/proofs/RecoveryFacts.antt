@@ -182,12 +182,6 @@ pub all_ok : {E P Q R S : Type 0} (r : Result (Unit {0}) E) → OnOk r P → OnO
 all_ok (Ok done) p q r f = f p q r
 all_ok (Err e) p q r f = p
 
--- the character that was taken is the one that was there
-pub char_taken : {u v w : Place} {c : ℕ} (taken : Option ℕ) → CharAt u c w
-    → MatchOption taken (AtEnd u × (v ≡ u)) (λ d. CharAt u d v) → CharAt u c v
-char_taken None char ended = absurd (no_char_at_end ended.0 char)
-char_taken {u} {v} (Some d) char taken = subst (λ x. CharAt u x v) (same_char taken char).0 taken
-
 pub unread_from : {u : Place} {e : ParseError} → Refuses u.text e (IsUnreadBlock u e) → e.kind ≢ OutOfMemory → IsUnreadBlock u e
 unread_from (inl no_room) some = absurd (some (ap (λ error. error.kind) no_room))
 unread_from (inr refused) some = refused.1

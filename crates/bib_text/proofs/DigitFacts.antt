@@ -2,7 +2,7 @@
 use Rattle.std.proofs.Common.{◌≡◌, ℕ, zero, suc, ◌+◌, ◌<◌, ◌≤◌, Bool, true, false, cond, List, [], ◌∷◌, get_or, length, take, arith, refl, add-one}
 use Rattle.std.specs.Prelude.{◌==◌}
 use Rattle.std.specs.List.{list_all, prefix_len}
-use Rattle.std.specs.Char.{is_ascii_digit, is_whitespace, digit_value, to_ascii_lowercase}
+use Rattle.std.specs.Char.{is_ascii_alphabetic, is_ascii_digit, is_whitespace, digit_value, to_ascii_lowercase}
 use Rattle.std.specs.Str.{IsCharBoundary, IsUtf8}
 use Rattle.std.specs.Str.Parse.{AllDigits}
 use Rattle.std.proofs.lemmas.Bool.{and_from}
@@ -16,6 +16,10 @@ use Rattle.std.proofs.lemmas.Str.Parse.{digit_from_value}
 -- a digit is an ASCII byte
 pub digit_small : (c : ℕ) → is_ascii_digit c ≡ true → c < 128
 digit_small c digit = grind (arith, nat_tests)
+
+-- an ASCII letter is less than 128
+pub letter_small : (c : ℕ) → is_ascii_alphabetic c ≡ true → c < 128
+letter_small c is = grind (arith, nat_tests)
 
 -- a digit isn't white space
 pub digit_dark : (c : ℕ) → is_ascii_digit c ≡ true → is_whitespace c ≡ false

@@ -1,11 +1,11 @@
 -- Facts on lists and options that several crates need.
-use Rattle.std.proofs.Common.{◌≡◌, ◌≢◌, ℕ, zero, suc, ◌+◌, ◌-◌, ◌<◌, ◌||◌, ◌⊎◌, inl, inr, Bool, true, false, cond, List, [], ◌∷◌, ◌++◌, drop, get_or, length, map, take, Option, Some, refl, sym, ap, ◌∙◌, subst, arith, eqb}
+use Rattle.std.proofs.Common.{◌≡◌, ◌≢◌, ℕ, zero, suc, ◌+◌, ◌-◌, ◌<◌, ◌||◌, ◌⊎◌, inl, inr, Bool, true, false, cond, List, [], ◌∷◌, ◌++◌, drop, get_or, length, map, take, Option, Some, refl, sym, ap, ◌∙◌, subst, arith, eqb, length-drop, reverse}
 use Rattle.std.specs.List.{AllByRecursion, AllZip, Contains, count_by, find, list_all, list_any, prefix_len, remove, starts_with}
 use Rattle.std.specs.List.Sorted.{IsSortedBy}
 use Rattle.std.specs.Prelude.{slice_get, slice_set}
-use Rattle.std.proofs.lemmas.Bool.{and_from, and_parts}
+use Rattle.std.proofs.lemmas.Bool.{and_from, and_parts, or_parts}
 use Rattle.std.proofs.lemmas.Bool.Decides.{Decides-eqb}
-use Rattle.std.proofs.lemmas.List.{drop_more, get_or-map, length-map, map-append, take_more}
+use Rattle.std.proofs.lemmas.List.{drop_more, get_or-map, length-map, map-append, reverse-append, take_all, take_more}
 use Rattle.std.proofs.lemmas.List.Folds.{list_all-append}
 use Rattle.std.proofs.lemmas.List.Sums.{sum_by-append}
 use Rattle.std.proofs.lemmas.Slice.Eq.{starts_is}
@@ -23,6 +23,19 @@ all_append P (x ∷ xs) ys first rest = (first.0, all_append P xs ys first.1 res
 pub all_push : {A : Type 0} (P : A → Type 0) (xs : List A) (x : A) → AllByRecursion P xs → P x → AllByRecursion P (xs ++ x ∷ [])
 all_push P [] x all here = (here, tt)
 all_push P (y ∷ ys) x all here = (all.0, all_push P ys x all.1 here)
+
+-- a property of all elements is one of all elements of the reversed list
+pub all_reverse : {A : Type 0} (P : A → Type 0) (xs : List A) → AllByRecursion P xs → AllByRecursion P (reverse xs)
+all_reverse P [] all = tt
+all_reverse P (x ∷ xs) all =
+    subst (AllByRecursion P) (sym (reverse-append (x ∷ []) xs)) (all_push P (reverse xs) x (all_reverse P xs all.1) all.0)
+
+-- lists that are related element by element have one length
+pub all_zip_length : {A B : Type 0} (R : A → B → Type 0) (xs : List A) (ys : List B) → AllZip R xs ys → length xs ≡ length ys
+all_zip_length R [] [] all = refl
+all_zip_length R [] (y ∷ ys) all = absurd all
+all_zip_length R (x ∷ xs) [] all = absurd all
+all_zip_length R (x ∷ xs) (y ∷ ys) all = ap suc (all_zip_length R xs ys all.1)
 
 -- if two pairs of lists are related element by element, so are their concatenations
 pub all_zip_append : {A B : Type 0} (R : A → B → Type 0) (xs more : List A) (ys others : List B) → AllZip R xs ys
@@ -49,6 +62,18 @@ found_any {A} test (y ∷ xs) x found = go (test y) (find test xs) found (found_
 -- one more element adds 1 to the number of passing elements if it passes the test
 pub count_more : {X : Type 0} (p : X → Bool) (xs : List X) (x : X) → count_by p (xs ++ x ∷ []) ≡ count_by p xs + cond (p x) 1 0
 count_more p xs x = sum_by-append (λ y. cond (p y) 1 0) xs (x ∷ []) ∙ ap (λ n. count_by p xs + n) (omega arith)
+
+-- if no element passes a test, the number of passing elements is 0
+pub count_none : {X : Type 0} (p : X → Bool) (xs : List X) → list_any p xs ≡ false → count_by p xs ≡ 0
+count_none p [] none = refl
+count_none p (x ∷ xs) none =
+    let both = or_parts (p x) (list_any p xs) none in
+    let here : ◌≡◌ {A = ℕ} (cond (p x) 1 0) 0 = ap {B = ℕ} (λ b. cond b 1 0) both.0 in
+    omega (arith, sum_by-append (λ y. cond (p y) 1 0) (x ∷ []) xs, here, count_none p xs both.1)
+
+-- an empty list contains nothing
+pub contains_nothing : {x : ℕ} → Contains [] x → ⊥
+contains_nothing among = omega (arith, among.1)
 
 -- an element of a list that begins with x is x or occurs in the rest
 pub cons_cases : (x p : ℕ) (xs : List ℕ) → Contains (x ∷ xs) p → (x ≡ p) ⊎ Contains xs p
@@ -88,6 +113,10 @@ pub get_set : {A : Type 0} (xs : List A) (k : ℕ) (x y : A) → slice_get xs k 
 get_set [] k x y here = absurd (cc)
 get_set (z ∷ zs) zero x y here = refl
 get_set (z ∷ zs) (suc k) x y here = get_set zs k x y here
+
+-- taking as many elements as there are from an index on takes all of them
+pub take_to_end : {A : Type 0} (xs : List A) (i : ℕ) → take (length xs - i) (drop i xs) ≡ drop i xs
+take_to_end xs i = take_all (length xs - i) (drop i xs) (omega (arith, length-drop i xs))
 
 -- the elements from an index on are the element there and those after it
 pub drop_is : {A : Type 0} (xs : List A) (i : ℕ) (x : A) → i < length xs → x ≡ get_or xs i x → drop i xs ≡ x ∷ drop (i + 1) xs

@@ -1,6 +1,14 @@
--- Facts about options.
-use Rattle.std.proofs.Common.{◌≡◌, Bool, true, false, cond, Option, Some, None, refl, option_map, is_some}
+-- Facts about options and results.
+use Rattle.std.proofs.Common.{◌≡◌, Bool, true, false, cond, Option, Some, None, refl, option_map, is_some, Result, Ok, Err}
 use Rattle.std.specs.Option.{option_or}
+
+-- a value is no error
+pub ok_differs : {A E : Type 0} {a : A} {e : E} → Ok a ≡ Err e → ⊥
+ok_differs same = absurd (cc)
+
+-- `None` is no value
+pub none_is_some : {A : Type 0} {x : A} → None ≡ Some x → ⊥
+none_is_some is = cc
 
 -- a function of a value doesn't change whether there is one
 pub some_mapped : {A B : Type 0} (f : A → B) (o : Option A) → is_some (option_map f o) ≡ is_some o

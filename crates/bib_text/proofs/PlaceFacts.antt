@@ -167,6 +167,12 @@ char_at_prefix B text at within None now following rest none =
     omega arith
 char_at_prefix B text at within (Some c) now following rest some = (_, char_here text following at c (sym rest ∙ some))
 
+-- the character that was taken from a place is the one that was there
+pub char_taken : {u v w : Place} {c : ℕ} (taken : Option ℕ) → CharAt u c w
+    → MatchOption taken (AtEnd u × (v ≡ u)) (λ d. CharAt u d v) → CharAt u c v
+char_taken None char ended = absurd (no_char_at_end ended.0 char)
+char_taken {u} {v} (Some d) char taken = subst (λ x. CharAt u x v) (same_char taken char).0 taken
+
 -- a test doesn't both pass and fail
 pub test_clash : (b : Bool) → b ≡ true → b ≡ false → ⊥
 test_clash b passes fails = cc

@@ -9,7 +9,7 @@ use Rattle.std.proofs.lemmas.List.Folds.{list_any_at}
 use Rattle.std.proofs.lemmas.Map.Keys.{apart_from_distinct, IsDistinct-from_apart}
 use Rattle.std.proofs.Math.Seq.{take-length}
 use Rattle.std.proofs.lemmas.Slice.Eq.{bytes_eq-Decides}
-use Rattle.bib_text.proofs.BytesFacts.{bytes_same}
+use Rattle.bib_text.proofs.BytesFacts.{bytes_same, bytes_turned}
 use Rattle.bib_collections.specs.Sorted.{ByText}
 use Rattle.bib_entry.specs.declared.entry.Entry.{Entry}
 use Rattle.biblatex.specs.Distinct.{stands_elsewhere}
@@ -54,10 +54,6 @@ found_at test (k ∷ keys) any =
           record { at = suc rest.at; within = omega (arith, rest.within); passes = rest.passes }
     ]
 
--- equality of keys is symmetric
-turned : (one two : List ℕ) → bytes_eq one two ≡ true → bytes_eq two one ≡ true
-turned one two is = (bytes_eq-Decides two one).1 (sym (bytes_same one two is))
-
 -- if a key also occurs at another index, the keys are not distinct
 pub not_distinct : (keys : Keys') (i : ℕ) → i < length keys → stands_elsewhere keys i ≡ true → IsDistinct bytes_eq keys → ⊥
 not_distinct keys i within elsewhere distinct =
@@ -69,7 +65,7 @@ not_distinct keys i within elsewhere distinct =
           let same : bytes_eq (get_or keys i []) (get_or keys found.at []) ≡ true =
           ap (bytes_eq (get_or keys i [])) (sym (get_or-take i keys found.at [] low)) ∙ found.passes in
           both_ways _ (apart_from_distinct bytes_eq keys found.at i [] distinct low within)
-          (turned (get_or keys i []) (get_or keys found.at []) same)
+          (bytes_turned (get_or keys found.at []) (get_or keys i []) ∙ same)
       | inr none ↦
           let following : list_any (bytes_eq (get_or keys i [])) (drop (i + 1) keys) ≡ true =
           ap (λ b. b || list_any (bytes_eq (get_or keys i [])) (drop (i + 1) keys)) (sym none) ∙ elsewhere in
@@ -112,7 +108,7 @@ apart names keys alone i j before within =
         let size : length (take j keys) ≡ j = length-take-le j keys (omega (arith, within)) in
         let here : bytes_eq (get_or keys j []) (get_or (take j keys) i []) ≡ true =
         ap (bytes_eq (get_or keys j [])) (get_or-take j keys i [] before)
-        ∙ turned (get_or keys i []) (get_or keys j []) same in
+        ∙ bytes_turned (get_or keys j []) (get_or keys i []) ∙ same in
         let found = list_any_at (bytes_eq (get_or keys j [])) (take j keys) i [] (omega (arith, before, size)) here in
         both_ways _ (or_parts (list_any (bytes_eq (get_or keys j [])) (take j keys)) _ none).0 found
     clash same (inl first) (inl second) =

@@ -5,6 +5,7 @@ use Rattle.bib_collections.specs.Graph.{Graph, IsFirstOnCycle}
 use Rattle.bib_syntax.specs.Reading.{EntryReading, FileReading}
 use Rattle.bib_syntax.specs.declared.raw.ParseError.{ParseError}
 use Rattle.bib_syntax.specs.declared.raw.ParseErrorKind.TheVariants.{ReferenceCycle}
+use Rattle.bib_text.proofs.ListFacts.{some_same}
 use Rattle.biblatex.specs.Resolved.{AreOneErrorOf, IsCycleError, IsFirstErrorOf, graph_of}
 use Rattle.bib_file_entries.proofs.LoadedFacts.{no_entries}
 use Rattle.biblatex.proofs.IndexLaws.{entries_error_same}
@@ -27,16 +28,13 @@ error_at_index e said = e ≡ record { span = record { start = said.start; end =
 -- the error of the cycle of an index is unique
 cycle_same : (says : FileReading) (index : ℕ) (e f : ParseError) → IsCycleError says index e → IsCycleError says index f → e ≡ f
 cycle_same says index e f one other =
-    let same : one.said ≡ other.said = is (sym one.there ∙ other.there) in
+    let same : one.said ≡ other.said = some_same (sym one.there ∙ other.there) in
     one.is
     ∙ ap
     (λ (said : EntryReading).
     (let error : ParseError =
     record { span = record { start = said.start; end = said.end }; kind = ReferenceCycle said.key.text } in
     error)) same ∙ sym other.is
-  where
-    is : {A : Type 0} {x y : A} → Some x ≡ Some y → x ≡ y
-    is e = cc
 
 -- two first errors of a raw bibliography agree
 pub file_error_same : (says : FileReading) {e f : ParseError} → IsFirstErrorOf says e → IsFirstErrorOf says f → AreOneErrorOf e f

@@ -17,6 +17,7 @@ use Rattle.bib_collections.specs.Sorted.{ByText, by_bytes}
 use Rattle.bib_entry.specs.declared.entry.Entry.{Entry}
 use Rattle.bib_file_entries.specs.Bibliography.{Bibliography, claims, empty_bibliography, index_of, with_last_entry}
 use Rattle.bib_file_entries.specs.Loaded.{AreEntries, IsFirstErrorOfEntries, IsFirstErrorOfFields, is_claimed, loaded_after}
+use Rattle.bib_text.proofs.OptionFacts.{none_is_some}
 use Rattle.biblatex.specs.Places.{ClaimsAt, IsLastClaim, PointsToLastClaims, HasFreshKeys}
 use Rattle.bib_file_entries.proofs.LoadedFacts.{claims_same, fields_unread}
 
@@ -133,9 +134,7 @@ points_after bibliography (entry ∷ entries) points =
 
 -- in the empty bibliography no name points to an index, and no entry claims one
 points_nothing : PointsToLastClaims empty_bibliography
-points_nothing name = rw (get-empty by_bytes name) (λ index at. no_entry at.there) where
-  no_entry : {entry : Entry} → None ≡ Some entry → ⊥
-  no_entry none = cc
+points_nothing name = rw (get-empty by_bytes name) (λ index at. none_is_some at.there)
 
 -- in a bibliography of added entries each name points to its last claim
 pub points_loaded : (own : List Entry) → PointsToLastClaims (loaded_after empty_bibliography own)
@@ -147,9 +146,7 @@ points_loaded own = points_after empty_bibliography own points_nothing
 key_fresh : {definitions : Definitions} {earlier : List (List ℕ)} {said : List EntryReading} {entries : List Entry}
     (index : ℕ) (entry : Entry)
     → AreEntries definitions earlier said entries → slice_get entries index ≡ Some entry → is_claimed earlier entry.key ≡ false
-key_fresh index entry AreEntries.none found = absurd (none_found found) where
-  none_found : {entry : Entry} → None ≡ Some entry → ⊥
-  none_found none = cc
+key_fresh index entry AreEntries.none found = absurd (none_is_some found)
 key_fresh {earlier = earlier} zero entry (AreEntries.next {entry = first} fresh read rest) found =
     let same : first ≡ entry = cc found in
     ap (λ e. is_claimed earlier e.key) (sym same) ∙ ap (is_claimed earlier) read.key ∙ fresh
@@ -160,9 +157,7 @@ key_fresh {earlier = earlier} (suc index) entry (AreEntries.next {entry = first}
 -- no key of own entries is a name that an earlier entry claims
 pub keys_fresh : {definitions : Definitions} {claimed : List (List ℕ)} {said : List EntryReading} {entries : List Entry}
     → AreEntries definitions claimed said entries → HasFreshKeys entries
-keys_fresh AreEntries.none earlier later entry before found at = none_found found where
-  none_found : {entry : Entry} → None ≡ Some entry → ⊥
-  none_found none = cc
+keys_fresh AreEntries.none earlier later entry before found at = none_is_some found
 keys_fresh (AreEntries.next fresh read rest) earlier zero entry before found at = omega (arith, before)
 keys_fresh {claimed = claimed} (AreEntries.next {entry = first} fresh read rest) zero (suc later) entry before found at =
     let same : first ≡ at.entry = first_is at.there in

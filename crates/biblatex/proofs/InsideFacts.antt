@@ -7,7 +7,7 @@ use Rattle.bib_syntax.specs.Errors.{out_of_memory}
 use Rattle.bib_syntax.specs.Grammar.{IsRawReading}
 use Rattle.bib_syntax.proofs.SliceFacts.{file_stands}
 use mathlib.Core.List.{reverse_aux}
-use Rattle.bib_text.proofs.ListFacts.{found_has}
+use Rattle.bib_text.proofs.ListFacts.{found_has, some_same}
 use Rattle.bib_abbreviations.specs.Abbreviations.{Definitions, IsFirstError}
 use Rattle.bib_abbreviations.specs.Abbreviations.{IsFirstError as first_error}
 use Rattle.bib_contents.specs.Contents.{LiesBetween}
@@ -15,6 +15,7 @@ use Rattle.bib_syntax.specs.Reading.{Part, Piece, FieldReading, EntryReading, Fi
 use Rattle.bib_syntax.specs.Slices.{StandsIn, PieceStandsIn, FieldStandsIn, EntryStandsIn, ReadingStandsIn}
 use Rattle.bib_syntax.specs.declared.raw.ParseError.{ParseError}
 use Rattle.bib_file_entries.specs.Loaded.{IsFirstErrorOfEntries, IsFirstErrorOfFields, definition_in}
+use Rattle.bib_text.proofs.OptionFacts.{none_is_some}
 use Rattle.biblatex.specs.Resolved.{IsFirstErrorOf, IsOfDate}
 
 -- a property that holds for each element of two lists holds for each of the first reversed before the second
@@ -33,12 +34,8 @@ DefinitionsStandIn text definitions =
 definition_stands : (text : List ℕ) (definition : List Piece) (found : Option FieldReading)
     → ((f : FieldReading) → found ≡ Some f → FieldStandsIn text f)
     → option_map (λ (f : FieldReading). f.value.pieces) found ≡ Some definition → AllByRecursion (PieceStandsIn text) definition
-definition_stands text definition None stands is = absurd (none_found is) where
-  none_found : {A : Type 0} {x : A} → None ≡ Some x → ⊥
-  none_found none = cc
-definition_stands text definition (Some f) stands is = subst (AllByRecursion (PieceStandsIn text)) (same is) (stands f refl).pieces where
-  same : {A : Type 0} {x y : A} → Some x ≡ Some y → x ≡ y
-  same e = cc
+definition_stands text definition None stands is = absurd (none_is_some is)
+definition_stands text definition (Some f) stands is = subst (AllByRecursion (PieceStandsIn text)) (some_same is) (stands f refl).pieces
 
 -- the pieces of all definitions occur in the text if the raw fields do
 definitions_stand : (text : List ℕ) (abbreviations : List FieldReading)
@@ -99,9 +96,7 @@ entries_error_lies text small definitions all (IsFirstErrorOfEntries.following f
 entry_stands : {text : List ℕ} (said : List EntryReading) (index : ℕ) (one : EntryReading)
     → AllByRecursion (EntryStandsIn text) said → slice_get said index ≡ Some one → EntryStandsIn text one
 entry_stands [] index one all there = cc
-entry_stands {text} (first ∷ rest) zero one all there = subst (EntryStandsIn text) (same there) all.0 where
-  same : {A : Type 0} {x y : A} → Some x ≡ Some y → x ≡ y
-  same e = cc
+entry_stands {text} (first ∷ rest) zero one all there = subst (EntryStandsIn text) (some_same there) all.0
 entry_stands (first ∷ rest) (suc index) one all there = entry_stands rest index one all.1 there
 
 -- if the parts of a raw bibliography occur in a text of fewer than 2^64 bytes,

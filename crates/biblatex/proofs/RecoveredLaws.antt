@@ -5,7 +5,7 @@ use Rattle.std.specs.List.{AllZip, list_any}
 use Rattle.std.specs.declared.ops.Range.{Range}
 use Rattle.std.proofs.lemmas.Bool.{cases_lt, false≢true, false_from_ne_true}
 use Rattle.std.proofs.lemmas.List.{length-map}
-use Rattle.bib_text.proofs.ListFacts.{all_zip_append}
+use Rattle.bib_text.proofs.ListFacts.{all_zip_append, some_same}
 use Rattle.bib_abbreviations.specs.Abbreviations.{AreOneError}
 use Rattle.bib_entry.specs.declared.entry.Entry.{Entry}
 use Rattle.bib_file_entries.specs.Bibliography.{Bibliography}
@@ -215,9 +215,6 @@ cycle_once places own others index e f keys one other =
     let spans : one.span ≡ other.span = some_same (sym one.stands ∙ other.stands) in
     one.is ∙ error_of spans (key_at own others index one.entry other.entry keys one.here other.here) ∙ sym other.is
   where
-    some_same : {A : Type 0} {x y : A} → Some x ≡ Some y → x ≡ y
-    some_same e = cc
-
     error_of : {s t : Range ℕ} {k l : List ℕ} → s ≡ t → k ≡ l
         → (let a : ParseError = record { span = s; kind = ReferenceCycle k } in a)
         ≡ (let b : ParseError = record { span = t; kind = ReferenceCycle l } in b)

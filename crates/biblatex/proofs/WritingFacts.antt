@@ -63,5 +63,3 @@ pub appends_nothing : (a : Option (List ℕ)) → Appends a a []
 appends_nothing None = tt
 appends_nothing (Some bytes) = sym (append-nil bytes)
 
-pub ok_differs : {X F : Type 0} {x : X} {f : F} → Ok x ≡ Err f → ⊥
-ok_differs same = absurd (cc)

@@ -71,12 +71,6 @@ zip_filter R p same (x ∷ xs) (y ∷ ys) all = by_test (p x) (p y) (same x y al
     by_test true false is others = absurd (cc)
     by_test false true is others = absurd (cc)
 
-zip_append : {X : Type 0} (R : X → X → Type 0) (as' bs xs ys : List X) → AllZip R as' bs → AllZip R xs ys → AllZip R (as' ++ xs) (bs ++ ys)
-zip_append R [] [] xs ys all others = others
-zip_append R [] (b ∷ bs) xs ys all others = absurd all
-zip_append R (a ∷ as') [] xs ys all others = absurd all
-zip_append R (a ∷ as') (b ∷ bs) xs ys all others = (all.0, zip_append R as' bs xs ys all.1 others)
-
 -- ---- fields in an order
 
 -- the fields that don't have this name
@@ -118,7 +112,7 @@ pub in_order_zip : (R : FieldReading → FieldReading → Type 0)
     → AllZip R (in_order names fs) (in_order names gs)
 in_order_zip R same [] fs gs all = all
 in_order_zip R same (n ∷ ns) fs gs all =
-    zip_append R (filter (has_name n) fs) (filter (has_name n) gs) (in_order ns (others_than n fs)) (in_order ns (others_than n gs))
+    all_zip_append R (filter (has_name n) fs) (in_order ns (others_than n fs)) (filter (has_name n) gs) (in_order ns (others_than n gs))
     (zip_filter R (has_name n) (same n) fs gs all)
     (in_order_zip R same ns (others_than n fs) (others_than n gs)
     (zip_filter R (λ f. not (has_name n f)) (λ f g is. ap not (same n f g is)) fs gs all))

@@ -1,7 +1,7 @@
 use Rattle.bib_text.specs.Places.{CharAt}
+use Rattle.bib_text.proofs.PlaceFacts.{char_taken}
 use Rattle.bib_syntax.proofs.KeptFacts.{unbracketed, unnamed}
 use Rattle.bib_syntax.proofs.ReadingFacts.{taken_if}
-use Rattle.bib_syntax.proofs.RecoveryFacts.{char_taken}
 use Rattle.bib_syntax.proofs.raw.kept.opening.Goals as goal
 use Rattle.bib_syntax.proofs.raw.kept.opening.Goals.{After-eat_if}
 

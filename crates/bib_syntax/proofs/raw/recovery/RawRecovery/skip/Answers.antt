@@ -1,9 +1,9 @@
 use Rattle.std.proofs.Common.{◌≡◌, ◌∙◌, sym, subst}
 use Rattle.std.specs.Str.{IsCharBoundary}
 use Rattle.bib_text.specs.Places.{CharAt, place}
-use Rattle.bib_text.proofs.PlaceFacts.{same_place}
+use Rattle.bib_text.proofs.PlaceFacts.{same_place, char_taken}
 use Rattle.bib_syntax.specs.Recovery.{GoesOnAt, Keeps}
-use Rattle.bib_syntax.proofs.RecoveryFacts.{char_taken, go_on_text}
+use Rattle.bib_syntax.proofs.RecoveryFacts.{go_on_text}
 use Rattle.bib_syntax.proofs.raw.recovery.RawRecovery.skip.Goals as goal
 use Rattle.bib_syntax.proofs.raw.recovery.RawRecovery.skip.Goals.{After-go_on, After-cursor-end}
 
