@@ -55,7 +55,7 @@ module _ (graph : List (List ℕ)) where
   -- ---- reversed references
 
   -- an entry with references is in the graph
-  entry_below : (index entry : ℕ) → Contains (refs_of graph entry) index → entry < length graph
+  pub entry_below : (index entry : ℕ) → Contains (refs_of graph entry) index → entry < length graph
   entry_below index entry c = elim (cases_lt entry (length graph)) [
     | inl t ↦ t
     | inr t ↦ let c' = subst (λ l. Contains l index) (get_or_past graph entry [] t) c in absurd (omega (arith, c'.1))

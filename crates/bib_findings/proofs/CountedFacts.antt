@@ -6,13 +6,14 @@ use Rattle.std.proofs.lemmas.List.{get_or_push, length-append, length-set, map-a
 use Rattle.std.proofs.lemmas.List.Folds.{list_any-append}
 use Rattle.std.proofs.lemmas.List.Sums.{sum_by-append}
 use Rattle.std.proofs.lemmas.Slice.Eq.{bytes_eq-Decides}
-use Rattle.std.proofs.Math.Bool.{or-true}
+use Rattle.std.proofs.Math.Bool.{or-true, or-false}
 use Rattle.bib_text.proofs.BoolFacts.{or_false_left, or_false_right}
 use Rattle.bib_syntax.specs.Reading.{FieldReading}
+use Rattle.bib_text.proofs.ListFacts.{any_mapped, count_more}
+use Rattle.bib_text.proofs.BytesFacts.{bytes_turned}
 use Rattle.bib_findings.specs.After.{each_after}
 use Rattle.bib_findings.specs.Counted.{count_of, counts, lowercase_name, one_field_more}
 use Rattle.bib_findings.specs.Foreign.{have_one_name, if_first, most_counted}
-use Rattle.bib_findings.proofs.ListFacts.{any_of_map}
 
 -- the first field with each name that none of some earlier fields has
 abbrev firsts_after : List FieldReading → List FieldReading → List FieldReading
@@ -28,8 +29,8 @@ name_turned f g = by (have_one_name f g) (have_one_name g f) refl refl where
   by : (a b : Bool) → have_one_name f g ≡ a → have_one_name g f ≡ b → have_one_name f g ≡ have_one_name g f
   by true true one other = one ∙ sym other
   by false false one other = one ∙ sym other
-  by true false one other = one ∙ sym (turned (lowercase_name f) (lowercase_name g) one)
-  by false true one other = turned (lowercase_name g) (lowercase_name f) other ∙ sym other
+  by true false one other = one ∙ sym (bytes_turned (lowercase_name g) (lowercase_name f) ∙ one)
+  by false true one other = bytes_turned (lowercase_name f) (lowercase_name g) ∙ other ∙ sym other
 
 -- fields with one name pass the test for a name alike
 name_alike : (g f e : FieldReading) → have_one_name f e ≡ true → have_one_name g f ≡ have_one_name g e
@@ -125,10 +126,10 @@ counts_more fields g =
 pub any_counted : (fields : List FieldReading) (g : FieldReading)
     → list_any (λ c. have_one_name g c.0) (counts fields) ≡ list_any (have_one_name g) fields
 any_counted fields g =
-    any_of_map (count_of fields) (λ c. have_one_name g c.0) (firsts_after [] fields)
-    ∙ sym (or_false (list_any (have_one_name g) (firsts_after [] fields)))
-    ∙ any_first g [] fields ∙ or_false (list_any (have_one_name g) fields)
-  where
+    any_mapped (count_of fields) (λ c. have_one_name g c.0) (firsts_after [] fields)
+    ∙ sym (or-false (list_any (have_one_name g) (firsts_after [] fields)))
+    ∙ any_first g [] fields ∙ or-false (list_any (have_one_name g) fields)
+
 -- mapping doesn't change a list whose items are their own images
 pub map_same : {A : Type 0} (f : A → A) (items : List A) (d : A)
     → ((k : ℕ) → k < length items → f (get_or items k d) ≡ get_or items k d) → map f items ≡ items

@@ -8,14 +8,14 @@ use Rattle.std.proofs.lemmas.Bool.{cases_eq}
 use Rattle.std.proofs.lemmas.List.{get_or-map, get_or_append_left, get_or_push, length-append, length-map, map-append, map-set}
 use Rattle.std.proofs.lemmas.List.Folds.{list_any_at}
 use Rattle.std.proofs.lemmas.Slice.Eq.{bytes_eq-Decides}
-use Rattle.bib_text.proofs.ListFacts.{some_same}
+use Rattle.bib_text.proofs.ListFacts.{some_same, count_more, count_none}
 use Rattle.bib_tables.specs.Requirements.{Names}
 use Rattle.bib_syntax.specs.Reading.{FieldReading}
 use Rattle.bib_syntax.specs.Views.{field_of}
 use Rattle.bib_findings.specs.Counted.{CountsMore, HasIndices, count_of, counted_names, counted_of, counts, lowercase_name, one_field_more}
 use Rattle.bib_findings.specs.Foreign.{have_one_name, most_counted}
 use Rattle.bib_findings.specs.declared.foreign.Counted.{Counted}
-use Rattle.bib_findings.proofs.CountedFacts.{any_counted, any_none, count_more, count_none, counts_more, map_same, name_turned, raised, set_is_map}
+use Rattle.bib_findings.proofs.CountedFacts.{any_counted, any_none, counts_more, map_same, name_turned, raised, set_is_map}
 
 -- the name of the field of a count in lowercase
 abbrev name_of : FieldReading × ℕ → List ℕ

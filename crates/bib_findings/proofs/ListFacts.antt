@@ -24,12 +24,6 @@ given_more given (first ∷ items) item one is =
     elim (given first) as (λ o. cons_option o (filter_map given (items ++ item ∷ [])) ≡ cons_option o (filter_map given items) ++ one ∷ [])
     [ None ↦ given_more given items item one is | Some here ↦ ap (λ l. here ∷ l) (given_more given items item one is) ]
 
--- some mapped item passes a test exactly if the image of some item does
-pub any_of_map : {A B : Type 0} (f : A → B) (test : B → Bool) (items : List A)
-    → list_any test (map f items) ≡ list_any (λ item. test (f item)) items
-any_of_map f test [] = refl
-any_of_map f test (item ∷ items) = ap (λ b. test (f item) || b) (any_of_map f test items)
-
 -- all mapped items pass a test exactly if the images of all items do
 pub all_of_map : {A B : Type 0} (f : A → B) (test : B → Bool) (items : List A)
     → list_all test (map f items) ≡ list_all (λ item. test (f item)) items

@@ -10,21 +10,16 @@ use Rattle.std.proofs.lemmas.List.Elements.{All-cons, All-head, All-nil, All-tai
 use Rattle.std.proofs.lemmas.List.Sums.{sum_by-append, sum_by-cons}
 use Rattle.bib_tables.specs.Requirements.{Names}
 use Rattle.bib_syntax.specs.Reading.{EntryReading}
+use Rattle.bib_dates.specs.OrderLaws.{nat_is}
 use Rattle.bib_findings.specs.Duplicates.{duplicate_after, duplicate_finding, duplicates, duplicates_after, most_compared, same_by}
 use Rattle.bib_findings.specs.Identities.{are_told_apart, has_identity, identities}
 use Rattle.bib_findings.specs.Marks.{has_repeated, is_repeated, listed, listed_all, marks_of, may_share}
 use Rattle.bib_findings.specs.declared.finding.Finding.{Finding}
 use Rattle.std.proofs.lemmas.Bool.{or_cases, or_right, or_left}
-use Rattle.bib_findings.proofs.SharedFacts.{numbers_alike, HasMark, share_mark}
+use Rattle.bib_findings.proofs.SharedFacts.{HasMark, share_mark}
 
 pub count_next : (test : ℕ → Bool) (one : ℕ) (all : List ℕ) → count_by test (one ∷ all) ≡ cond (test one) 1 0 + count_by test all
 count_next test one all = sum_by-cons (λ n. cond (test n) 1 0) one all
-
-pub count_last : (test : ℕ → Bool) (all : List ℕ) (one : ℕ) → count_by test (all ++ one ∷ []) ≡ count_by test all + cond (test one) 1 0
-count_last test all one =
-    let sum : count_by test (all ++ one ∷ []) ≡ count_by test all + (0 + cond (test one) 1 0) =
-    sum_by-append (λ n. cond (test n) 1 0) all (one ∷ []) in
-    omega (arith, sum)
 
 -- a mark that occurs counts at least once
 pub any_counts : (one : ℕ) (all : List ℕ) → list_any (nat_eq one) all ≡ true → 1 ≤ count_by (nat_eq one) all
@@ -44,7 +39,7 @@ any_counts one (first ∷ all) is =
 any_passes : (test : ℕ → Bool) (one : ℕ) (all : List ℕ) → list_any (nat_eq one) all ≡ true → test one ≡ true → list_any test all ≡ true
 any_passes test one [] is passes = absurd (let clash : false ≡ true = is in cc)
 any_passes test one (first ∷ all) is passes =
-    ⊎_elim (λ here. or_left (test first) (list_any test all) (subst (λ n. test n ≡ true) (numbers_alike one first here) passes))
+    ⊎_elim (λ here. or_left (test first) (list_any test all) (subst (λ n. test n ≡ true) (nat_is one first here) passes))
     (λ later. or_right (test first) (list_any test all) (any_passes test one all later passes))
     (or_cases (nat_eq one first) (list_any (nat_eq one) all) is)
 

@@ -14,12 +14,13 @@ use Rattle.bib_syntax.specs.Reading.{EntryReading}
 use Rattle.bib_syntax.specs.Views.{entry_reading_of}
 use Rattle.bib_syntax.specs.declared.raw.RawEntry.{RawEntry}
 use Rattle.bib_text.specs.declared.spanned.Spanned.{Spanned}
-use Rattle.bib_text.proofs.ListFacts.{element_at}
+use Rattle.bib_text.proofs.ListFacts.{element_at, count_none, count_more}
+use Rattle.bib_dates.specs.OrderLaws.{nat_is}
 use Rattle.bib_findings.specs.Duplicates.{entries_at}
 use Rattle.bib_findings.specs.Marks.{AreMetMarks, chosen, has_repeated, is_repeated, listed, listed_all, marks_of, met_mark}
 use Rattle.bib_findings.specs.declared.marks.Marks.{Marks}
-use Rattle.bib_findings.proofs.SharedFacts.{same_number, numbers_alike}
-use Rattle.bib_findings.proofs.MarkFacts.{count_next, count_last, any_counts}
+use Rattle.bib_findings.proofs.SharedFacts.{same_number}
+use Rattle.bib_findings.proofs.MarkFacts.{any_counts}
 
 -- the marks of each entry, listed, are all marks of the entries
 pub listed_marks : (entries : List EntryReading) → flat_map listed (map marks_of entries) ≡ listed_all entries
@@ -76,20 +77,11 @@ chosen_within all (one ∷ marks) count (index ∷ indices) there =
       | false ↦ later
     ]
 
-count_none : (test : ℕ → Bool) (all : List ℕ) → list_any test all ≡ false → count_by test all ≡ 0
-count_none test [] none = refl
-count_none test (one ∷ all) none = count_next test one all ∙ by (test one) none (count_none test all)
-  where
-    by : (here : Bool) → (here || list_any test all) ≡ false → (list_any test all ≡ false → count_by test all ≡ 0)
-        → cond here 1 0 + count_by test all ≡ 0
-    by true is rest = absurd (let clash : true ≡ false = is in cc)
-    by false is rest = omega (arith, rest is)
-
 -- an appended mark occurs more than once exactly if it occurred before
 repeated_more : (all : List ℕ) (one : ℕ) → is_repeated (all ++ one ∷ []) one ≡ list_any (nat_eq one) all
 repeated_more all one =
     let counts : count_by (nat_eq one) (all ++ one ∷ []) ≡ count_by (nat_eq one) all + cond (nat_eq one one) 1 0 =
-    count_last (nat_eq one) all one in
+    count_more (nat_eq one) all one in
     let here : ◌≡◌ {A = ℕ} (cond (nat_eq one one) 1 0) 1 = ap (λ b. cond b 1 0) (same_number one) in
     by (list_any (nat_eq one) all) refl
     (let one_more : count_by (nat_eq one) (all ++ one ∷ []) ≡ count_by (nat_eq one) all + 1 =
@@ -134,7 +126,7 @@ times_other all one other differs =
     list_any-append (nat_eq other) all (one ∷ []) ∙ ap (λ b. list_any (nat_eq other) all || (b || false)) differs
     ∙ or_none (list_any (nat_eq other) all) in
     let sum : count_by (nat_eq other) (all ++ one ∷ []) ≡ count_by (nat_eq other) all + cond (nat_eq other one) 1 0 =
-    count_last (nat_eq other) all one in
+    count_more (nat_eq other) all one in
     let none : ◌≡◌ {A = ℕ} (cond (nat_eq other one) 1 0) 0 = ap (λ b. cond b 1 0) differs in
     let counts : count_by (nat_eq other) (all ++ one ∷ []) ≡ count_by (nat_eq other) all = omega (arith, sum, none) in
     ap (λ b. cond b (Some (is_repeated (all ++ one ∷ []) other)) None) there
@@ -148,7 +140,7 @@ noted_by met new all one is_there noted is here others other = by (nat_eq other 
   where
     by : (same : Bool) → nat_eq other one ≡ same → get nat_cmp new other ≡ met_mark (all ++ one ∷ []) other
     by true same =
-        subst (λ n. get nat_cmp new n ≡ met_mark (all ++ one ∷ []) n) (sym (numbers_alike other one same))
+        subst (λ n. get nat_cmp new n ≡ met_mark (all ++ one ∷ []) n) (sym (nat_is other one same))
         (here ∙ times_here all one is_there (is ∙ ap is_some (noted one) ∙ is_some_times (list_any (nat_eq one) all) (is_repeated all one)))
     by false differs = others other differs ∙ noted other ∙ sym (times_other all one other differs)
 

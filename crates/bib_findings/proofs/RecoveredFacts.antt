@@ -13,6 +13,7 @@ use Rattle.bib_collections.specs.Sorted.{ByText}
 use Rattle.bib_syntax.specs.Reading.{EntryReading, FieldReading}
 use Rattle.bib_syntax.specs.declared.raw.ParseError.{ParseError}
 use Rattle.bib_syntax.specs.declared.raw.recovery.SkippedBlock.{SkippedBlock}
+use Rattle.bib_text.proofs.ListFacts.{all_zip_length}
 use Rattle.bib_findings.specs.Findings.{AreBetween, AreFindingsIn}
 use Rattle.bib_findings.specs.Lacking.{AreLacking}
 use Rattle.bib_findings.specs.declared.finding.Finding.{Finding}
@@ -23,12 +24,6 @@ kept_count : {d : Definitions} {claimed : List (List ℕ)} {said kept : List Ent
 kept_count EntriesKept.none = refl
 kept_count (EntriesKept.duplicate claimed rest) = kept_count rest
 kept_count (EntriesKept.next fresh fields read rest) = ap suc (kept_count rest)
-
-zip_count : {A B : Type 0} (P : A → B → Type 0) (xs : List A) (ys : List B) → AllZip P xs ys → length xs ≡ length ys
-zip_count P [] [] all = refl
-zip_count P [] (y ∷ ys) all = absurd all
-zip_count P (x ∷ xs) [] all = absurd all
-zip_count P (x ∷ xs) (y ∷ ys) all = ap suc (zip_count P xs ys all.1)
 
 indices_within : (said : List EntryReading) (origins : List ℕ) (kept : List EntryReading)
     → AllZip (IsKeptFrom said) origins kept → All (λ index. index < length said) origins
@@ -47,7 +42,7 @@ places_count is = ap length is.stand ∙ length-map is.kept place_of ∙ kept_co
 pub origins_count : {d : Definitions} {said : List EntryReading} {own : List Entry} {names : ByText ℕ}
     {places : List (Range ℕ)} {origins : List ℕ} {errors : List ParseError}
     → IsKeptSoFar d said own names places origins errors → length origins ≡ length own
-origins_count {said = said} {origins = origins} is = zip_count (IsKeptFrom said) origins is.kept is.origin ∙ kept_count is.read
+origins_count {said = said} {origins = origins} is = all_zip_length (IsKeptFrom said) origins is.kept is.origin ∙ kept_count is.read
 
 pub origins_within : {d : Definitions} {said : List EntryReading} {own : List Entry} {names : ByText ℕ}
     {places : List (Range ℕ)} {origins : List ℕ} {errors : List ParseError}

@@ -5,6 +5,7 @@ use Rattle.std.specs.List.{list_any}
 use Rattle.std.proofs.lemmas.List.Folds.{list_any-append}
 use Rattle.bib_text.proofs.BytesFacts.{bytes_turned}
 use Rattle.bib_syntax.specs.Reading.{FieldReading}
+use Rattle.bib_text.proofs.BoolFacts.{cond_last}
 use Rattle.bib_findings.specs.After.{each_after}
 use Rattle.bib_findings.specs.Counted.{lowercase_name}
 use Rattle.bib_findings.specs.Fields.{repeated_after, repeated_finding}
@@ -16,12 +17,6 @@ use Rattle.bib_findings.proofs.AfterFacts.{after_more}
 abbrev pub AreSeen : (List ℕ → Bool) → List FieldReading → Type 0
 AreSeen seen fields = (name : List ℕ) → seen name ≡ list_any (λ f. bytes_eq name (lowercase_name f)) fields
 
-either : (a b : Bool) → cond a true b ≡ (b || (a || false))
-either true true = refl
-either true false = refl
-either false true = refl
-either false false = refl
-
 -- storing the name of an item extends the seen names by it
 pub seen_more : {A : Type 0} (name_of : A → List ℕ) (old new : List ℕ → Bool) (items : List A) (item : A) (key : List ℕ)
     → key ≡ name_of item → ((name : List ℕ) → old name ≡ list_any (λ i. bytes_eq name (name_of i)) items)
@@ -31,7 +26,7 @@ seen_more name_of old new items item key is are updates name =
     updates name ∙ ap (λ k. cond (bytes_eq k name) true (old name)) is
     ∙ ap (λ b. cond b true (old name)) (bytes_turned (name_of item) name)
     ∙ ap (cond (bytes_eq name (name_of item)) true) (are name)
-    ∙ either (bytes_eq name (name_of item)) (list_any (λ i. bytes_eq name (name_of i)) items)
+    ∙ cond_last (bytes_eq name (name_of item)) (list_any (λ i. bytes_eq name (name_of i)) items)
     ∙ sym (list_any-append (λ i. bytes_eq name (name_of i)) items (item ∷ []))
 
 turned_choice : {A : Type 0} (b : Bool) (item : A) → cond (not b) [] (item ∷ []) ≡ cond b (item ∷ []) []

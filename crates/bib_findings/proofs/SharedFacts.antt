@@ -18,9 +18,6 @@ use Rattle.std.proofs.lemmas.Bool.{or_cases, or_right, or_left}
 pub same_number : (one : ℕ) → nat_eq one one ≡ true
 same_number one = grind (arith, nat_tests)
 
-pub numbers_alike : (one other : ℕ) → nat_eq one other ≡ true → one ≡ other
-numbers_alike one other is = grind (arith, nat_tests, is)
-
 -- a brace and the text after it don't change the text before the first brace
 before_cut : (text rest : List ℕ) → before_brace (text ++ char.open_brace ∷ rest) ≡ before_brace text
 before_cut [] rest = take_while-cons (λ b. not (b == char.open_brace)) char.open_brace rest

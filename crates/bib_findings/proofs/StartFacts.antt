@@ -8,10 +8,10 @@ use Rattle.bib_syntax.specs.Reading.{EntryReading}
 use Rattle.bib_syntax.specs.Views.{entry_reading_of}
 use Rattle.bib_syntax.specs.declared.raw.RawEntry.{RawEntry}
 use Rattle.bib_text.specs.declared.spanned.Spanned.{Spanned}
+use Rattle.bib_dates.specs.OrderLaws.{nat_is}
 use Rattle.bib_findings.specs.Cuts.{entry_from}
 use Rattle.bib_findings.specs.Starts.{AreEntriesByStart}
 use Rattle.bib_findings.proofs.KeyFacts.{find_more, or_none, or_other}
-use Rattle.bib_findings.proofs.SharedFacts.{numbers_alike}
 use Rattle.bib_findings.proofs.NotedFacts.{apart}
 
 -- the reading of a stored entry
@@ -37,7 +37,7 @@ starts_same entries earlier said are known start =
     by : (b : Bool) → nat_eq start said.start ≡ b
         → entry_from earlier start ≡ or_other (entry_from earlier start) (cond (nat_eq start said.start) (Some said) None)
     by true same =
-        let is : start ≡ said.start = numbers_alike start said.start same in
+        let is : start ≡ said.start = nat_is start said.start same in
         or_known (entry_from earlier start) (cond (nat_eq start said.start) (Some said) None)
         (ap is_some (sym (are start)) ∙ ap (λ n. is_some (option_map seen (get nat_cmp entries n))) is
         ∙ seen_some (get nat_cmp entries said.start) known)
@@ -61,7 +61,7 @@ starts_more old new earlier said one are none one_is updates start =
         → option_map seen (get nat_cmp new start)
         ≡ or_other (entry_from earlier start) (cond (nat_eq start said.start) (Some said) None)
     by true same =
-        let is : start ≡ said.start = numbers_alike start said.start same in
+        let is : start ≡ said.start = nat_is start said.start same in
         ap (λ n. option_map seen (get nat_cmp new n)) is ∙ ap (option_map seen) updates.1 ∙ ap Some one_is
         ∙ sym
         (ap (λ b. or_other (entry_from earlier start) (cond b (Some said) None)) same

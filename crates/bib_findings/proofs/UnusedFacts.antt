@@ -8,10 +8,10 @@ use Rattle.std.proofs.lemmas.List.{map-append, map_more}
 use Rattle.std.proofs.lemmas.List.Folds.{list_any-append}
 use Rattle.bib_tables.specs.Requirements.{Names}
 use Rattle.bib_syntax.specs.Reading.{FieldReading}
+use Rattle.bib_text.proofs.ListFacts.{any_mapped}
 use Rattle.bib_findings.specs.Foreign.{have_one_name}
 use Rattle.bib_findings.specs.UnusedDefinitions.{is_used_abbreviation, unused_after, unused_definition_finding}
 use Rattle.bib_findings.specs.UsedNames.{names_of_definitions, borrowed_texts}
-use Rattle.bib_findings.proofs.ListFacts.{any_of_map}
 
 -- the first names up to an index are those before it and the one at it
 pub texts_next : (names : List (Bor (List ℕ))) (index : ℕ) (other : Bor (List ℕ)) → index < length names
@@ -32,7 +32,7 @@ pub named_among : (used : Names) (earlier : List FieldReading) (f : FieldReading
 named_among used earlier f =
     list_any-append (str_eq_ignore_ascii_case f.name.text) used (names_of_definitions earlier)
     ∙ ap (λ b. is_used_abbreviation used f || b)
-    (any_of_map (λ (g : FieldReading). g.name.text) (str_eq_ignore_ascii_case f.name.text) earlier)
+    (any_mapped (λ (g : FieldReading). g.name.text) (str_eq_ignore_ascii_case f.name.text) earlier)
 
 -- a definition has a finding exactly if neither the used names nor those of the earlier definitions contain its name
 pub unused_if_new : (used : Names) (earlier : List FieldReading) (f : FieldReading) (is_new : Bool)

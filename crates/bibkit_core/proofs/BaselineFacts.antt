@@ -5,22 +5,8 @@ use Rattle.std.specs.Prelude.{bytes_eq}
 use Rattle.std.proofs.lemmas.List.Concat.{flat_map-append}
 use Rattle.std.proofs.lemmas.List.Folds.{list_any-append}
 use Rattle.bib_queries.specs.Needed.{is_listed}
+use Rattle.bib_text.proofs.BoolFacts.{or_turned}
 use Rattle.bibkit_core.specs.Baselines.{texts_of_line}
-
--- the step of `one_listed`, in Booleans
-or_of_one : (b c : Bool) → ((b || false) || c) ≡ cond b true c
-or_of_one true c = refl
-or_of_one false c = refl
-
--- a list of one text contains a text, or `c` is true, exactly if the two texts are equal, or `c` is true
-pub one_listed : (t text : List ℕ) (c : Bool) → (is_listed (t ∷ []) text || c) ≡ cond (bytes_eq t text) true c
-one_listed t text c = or_of_one (bytes_eq t text) c
-
-or_turned : (x y : Bool) → (x || y) ≡ (y || x)
-or_turned true true = refl
-or_turned true false = refl
-or_turned false true = refl
-or_turned false false = refl
 
 -- the texts of one more line are among those of all lines
 pub listed_more : (lines : List (List ℕ)) (line text : List ℕ)

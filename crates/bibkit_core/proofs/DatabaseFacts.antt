@@ -37,10 +37,6 @@ missing_more known cs i c within is =
     ∙ map-append missing_finding (filter test (take i cs)) (filter test (c ∷ []))
     ∙ ap (λ l. map missing_finding (filter test (take i cs)) ++ l) (one_missing known c)
 
--- the elements from an index to the end are the elements from it on
-pub left_is : {A : Type 0} (xs : List A) (first : ℕ) → take (length xs - first) (drop first xs) ≡ drop first xs
-left_is xs first = take_all (length xs - first) (drop first xs) (omega (arith, length-drop first xs))
-
 -- if the output so far begins that for all files, it still does with the output for the file at the index
 pub files_more : {lint : Lint} (files : List StoredFile) (ends : List ℕ) (found slice : List Finding) (start first count index : ℕ)
     (file : StoredFile) {old new : Printed} → index < length files → index < length ends → file ≡ get_or files index file

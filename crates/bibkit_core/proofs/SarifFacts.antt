@@ -20,11 +20,3 @@ rules_more (other ∷ rules) rule =
     ∙ sym (append_assoc first (more rules) (element false (rule_object rule)))
     ∙ ap (λ b. rule_elements (other ∷ rules) ++ element b (rule_object rule))
     (sym (not_zero (length (rule_elements (other ∷ rules))) above))
-
--- two lists whose elements are related in pairs stay so with one more pair
-pub zip_more : {A B : Type 0} (P : A → B → Type 0) (xs : List A) (ys : List B) (x : A) (y : B) → AllZip P xs ys → P x y
-    → AllZip P (xs ++ x ∷ []) (ys ++ y ∷ [])
-zip_more P [] [] x y all one = (one, tt)
-zip_more P [] (z ∷ ys) x y all one = absurd all
-zip_more P (w ∷ xs) [] x y all one = absurd all
-zip_more P (w ∷ xs) (z ∷ ys) x y all one = (all.0, zip_more P xs ys x y all.1 one)

@@ -12,11 +12,8 @@ use Rattle.bib_syntax.specs.Reading.{EntryReading, FileReading}
 use Rattle.bib_syntax.specs.Recovery.{IsFullRecovery, IsRecovery, Recovered, skipped_block}
 use Rattle.bib_syntax.specs.Recovery.{Recovered as recovered}
 use Rattle.bib_syntax.specs.declared.raw.recovery.SkippedBlock.{SkippedBlock}
+use Rattle.std.proofs.lemmas.Bool.{eqb-true}
 use Rattle.bibkit_core.specs.Skipped.{AreSkippedLines}
-
--- numbers that compare as equal are equal
-same_number : (m n : ℕ) → eqb m n ≡ true → m ≡ n
-same_number m n is = grind (arith, is)
 
 -- a recovery that skips no block is the same whether parts are kept or not
 recovery_with_parts : {u : Place} {says : FileReading} {skipped : List SkippedBlock} → skipped ≡ [] → Recovered false u says skipped
@@ -33,7 +30,7 @@ recovery_with_parts {u} no_blocks (recovered.unread {w = w} {e = e} {errors = er
 pub no_lines : {text : List ℕ} {says : FileReading} (skipped : List SkippedBlock) {lines : List ℕ} (name : List ℕ)
     → eqb (length skipped) 0 ≡ true → IsRecovery text says skipped → lines ≡ [] → AreSkippedLines name text lines
 no_lines {text} {says} skipped name is_empty recovery empty =
-    let no_blocks : skipped ≡ [] = nil_from_length skipped (same_number (length skipped) 0 is_empty) in
+    let no_blocks : skipped ≡ [] = nil_from_length skipped (eqb-true (length skipped) 0 is_empty) in
     record {
       found = [];
       are = record {

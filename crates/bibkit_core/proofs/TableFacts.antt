@@ -17,23 +17,11 @@ use Rattle.std.proofs.lemmas.Map.Text.{is_eq-slice_cmp}
 use Rattle.std.proofs.lemmas.Slice.Eq.{bytes_eq-Decides}
 use Rattle.bibkit_core.specs.Tables.{AreByName, name_and_count, times_met}
 use Rattle.bibkit_core.specs.declared.tables.Row.{Row}
-use Rattle.bib_text.proofs.ListFacts.{count_more}
+use Rattle.bib_text.proofs.ListFacts.{count_more, count_none}
 
 -- the name and the count of an entry of a map
 abbrev pub entry_pair : {Y : Type 0} → String Y × ℕ → List ℕ × ℕ
 entry_pair e = (string_bytes e.0, e.1)
-
--- if no element passes a test, the number of elements that pass it is 0
-none_counted : {X : Type 0} (p : X → Bool) (xs : List X) → list_any p xs ≡ false → count_by p xs ≡ 0
-none_counted p [] none = refl
-none_counted p (x ∷ xs) none =
-    let parts = sum_by-append (λ y. cond (p y) 1 0) (x ∷ []) xs in
-    let here = none_here (p x) (list_any p xs) (count_by p xs) none (none_counted p xs) in
-    omega (arith, parts, here)
-  where
-    none_here : (b rest : Bool) (n : ℕ) → (b || rest) ≡ false → (rest ≡ false → n ≡ 0) → cond b 1 0 + n ≡ 0
-    none_here true rest n none more = absurd (true≢false none)
-    none_here false rest n none more = let zero : n ≡ 0 = more none in omega arith
 
 -- adding one to a capped count, which is 0 if it is missing, gives the capped count of one more
 one_more : (greatest : ℕ) (any : Bool) (n : ℕ) → (any ≡ false → n ≡ 0)
@@ -69,7 +57,7 @@ met_again : (names : List (List ℕ)) (name : List ℕ)
 met_again names name =
     let p : List ℕ → Bool = bytes_eq name in
     let same : p name ≡ true = (bytes_eq-Decides name name).1 refl in
-    ap Some (one_more 18446744073709551615 (list_any p names) (count_by p names) (none_counted p names))
+    ap Some (one_more 18446744073709551615 (list_any p names) (count_by p names) (count_none p names))
     ∙ shown 18446744073709551615 (list_any p (names ++ name ∷ [])) (count_by p (names ++ name ∷ [])) (count_by p names + 1)
     (list_any-append p names (name ∷ []) ∙ or_at_end (list_any p names) (p name) same)
     (count_more p names name ∙ ap (λ b. count_by p names + cond b 1 0) same)

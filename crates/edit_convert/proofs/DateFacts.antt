@@ -25,6 +25,7 @@ use Rattle.edit_entries.proofs.NewValueFacts.{CanBeRead}
 use Rattle.bib_dates.specs.Dates.{date_of}
 use Rattle.bib_dates.specs.Readings.{readable_value}
 use Rattle.bib_dates.proofs.DatesReread.{is_date_byte, digit_bytes}
+use Rattle.edit_entries.proofs.FitFacts.{whole_bytes}
 use Rattle.edit_convert.specs.Dates.{Side, SideNames, Sides, are_digits, date_sides, day_fields, from_names, month_as_field, month_fields, month_side, more_fields, numbered_months, side_in, side_of, sides_of, one_side, two_sides, to_fields, to_names, side_year}
 use Rattle.edit_entries.specs.Changes.{braced_field}
 use Rattle.edit_entries.proofs.NewFieldFacts.{CanBePut, element_read}
@@ -93,13 +94,8 @@ name_read name is =
     let can = plain_can name is in
     let i : Identifier longest (place name 0) (text_at 0 name) (place name (length name)) =
     subst (λ p. Identifier longest (place name 0) p (place name (length name))) (name_part can.0) can.0.1 in
-    element_read {a = place name 0} name (Element.named can.1 i) (omega arith) (whole_between name)
+    element_read {a = place name 0} name (Element.named can.1 i) (omega arith) (whole_bytes name)
   where
-    whole_between : (text : List ℕ) → between (place text 0) (place text (length text)) ≡ text
-    whole_between text =
-        let size : length text - 0 ≡ length text = omega arith in
-        ap (λ n. take n text) size ∙ take_all (length text) text (omega arith)
-
     name_part : (can : CanBeName name) → can.0 ≡ text_at 0 name
     name_part can =
         let size : length name - 0 ≡ length name = omega arith in

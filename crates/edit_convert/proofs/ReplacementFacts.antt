@@ -51,7 +51,3 @@ pub note_of_sides : (defines b : Bool) (sides : Option Sides) (s : Sides) → si
 note_of_sides defines b sides s is unread =
     ap (λ x. cond x (Some PartsNotRead) None) (sym unread)
     ∙ ap (option_and_then (λ s. replaced_note (Replacement.with_parts defines s))) (sym is)
-
-pub is_some_mapped : {A B : Type 0} (f : A → B) (x : Option A) → is_some x ≡ is_some (option_map f x)
-is_some_mapped f (Some x) = refl
-is_some_mapped f None = refl

@@ -17,6 +17,7 @@ use Rattle.bib_syntax.specs.Grammar.{Fields, Gap, LineComment, longest}
 use Rattle.bib_syntax.specs.Grammar.{Fields as fields}
 use Rattle.bib_syntax.specs.Grammar.{Gap as gap}
 use Rattle.bib_syntax.proofs.LawFacts.{start_plain}
+use Rattle.bib_text.proofs.BoolFacts.{and_true_left}
 use Rattle.edit_entries.specs.Unset.{after_bytes, gap_end, has_byte_at, is_line_space, is_no_line_feed}
 use Rattle.edit_entries.proofs.EditFacts.{ascii_stands, rest_stands}
 use Rattle.edit_entries.proofs.UnsetFacts.{limit_of}
@@ -80,11 +81,7 @@ white_after text at end =
     (drop (end - at) (drop at text)) at (cut_here text at end)
 
 blank_white : (b : ℕ) → is_line_space b ≡ true → (b < 128) × (is_whitespace b ≡ true)
-blank_white b is = white_ascii b (first (is_ascii_whitespace b) (is_no_line_feed b) is)
-  where
-    first : (p q : Bool) → (p && q) ≡ true → p ≡ true
-    first true q is = refl
-    first false q is = absurd (cc)
+blank_white b is = white_ascii b (and_true_left (is_ascii_whitespace b) (is_no_line_feed b) is)
 
 pub blank_after : (text : List ℕ) (at end : ℕ) → Run is_whitespace (place text at) (place text (after_bytes is_line_space text at end))
 blank_after text at end =

@@ -20,7 +20,7 @@ pub mod FieldEditFacts
 pub mod FieldMadeFacts
 pub mod FieldNameFacts
 mod FieldsFromFacts
-mod FitFacts
+pub mod FitFacts
 mod GapEndFacts
 mod IndexFacts
 pub mod GrammarFacts

@@ -8,18 +8,13 @@ use Rattle.bib_syntax.specs.Reading.{EntryReading}
 use Rattle.bib_syntax.specs.Grammar.{is_word}
 use Rattle.bib_queries.specs.Known.{all_names}
 use Rattle.bib_queries.specs.Names.{entry_names}
+use Rattle.bib_text.proofs.BoolFacts.{or_turned}
 use Rattle.edit_entries.specs.NameSets.{AreNamesOf, holds_name}
 use Rattle.edit_entries.specs.NewNames.{has_word, shares_name}
 
 pub or_after : (b x y : Bool) → cond b true (x || y) ≡ (cond b true x || y)
 or_after true x y = refl
 or_after false x y = refl
-
-pub or_turned : (x y : Bool) → (x || y) ≡ (y || x)
-or_turned true true = refl
-or_turned true false = refl
-or_turned false true = refl
-or_turned false false = refl
 
 word_more : (entries : List EntryReading) (e : EntryReading) (name : List ℕ)
     → has_word (all_names (entries ++ e ∷ [])) name ≡ (has_word (entry_names e) name || has_word (all_names entries) name)

@@ -6,8 +6,9 @@ use Rattle.std.proofs.lemmas.List.Folds.{list_any-append}
 use Rattle.bib_syntax.specs.Grammar.{is_word}
 use Rattle.bib_syntax.specs.Reading.{EntryReading}
 use Rattle.bib_text.proofs.ListFacts.{some_same, mapped_more}
+use Rattle.bib_text.proofs.BoolFacts.{or_turned}
+use Rattle.std.proofs.Math.Bool.{or-false}
 use Rattle.edit_entries.specs.NewNames.{IsNewKeyTaken, has_word, kept_names, new_keys, staying_names}
-use Rattle.edit_entries.proofs.NameSetFacts.{or_turned}
 use Rattle.edit_entries.proofs.PositionFacts.{slice_get-map}
 
 below_or_same : (j i : ℕ) → j < i + 1 → (j < i) ⊎ (j ≡ i)
@@ -103,11 +104,7 @@ module _ {A : Type 0} (view : A → EntryReading) (keys : ℕ → Option (List �
       ∙ ap (λ l. has_word l name) (sym (append_assoc staying before (key ∷ [])))
       ∙ list_any-append (λ w. is_word w name) (staying ++ before) (key ∷ [])
       ∙ or_turned (has_word (staying ++ before) name) (is_word key name || false)
-      ∙ ap (λ b. b || has_word (staying ++ before) name) (or_no (is_word key name))
-    where
-      or_no : (b : Bool) → (b || false) ≡ b
-      or_no true = refl
-      or_no false = refl
+      ∙ ap (λ b. b || has_word (staying ++ before) name) (or-false (is_word key name))
 
   pub no_key_more : keys i ≡ None → new_keys keys 0 (map view (take (i + 1) xs)) ≡ new_keys keys 0 (map view (take i xs))
   no_key_more none =

@@ -19,6 +19,7 @@ use Rattle.bib_syntax.proofs.FieldFacts.{ahead_parts, ahead_quoted_parts}
 use Rattle.bib_syntax.proofs.BraceFacts.{closes_suc}
 use Rattle.bib_syntax.proofs.QuoteFacts.{is_quotable}
 use Rattle.bib_syntax.proofs.WordFacts.{quotable_differs}
+use Rattle.edit_entries.proofs.FitFacts.{whole_bytes}
 use Rattle.edit_format.specs.Delimited.{close_braces, hide_quotes}
 use Rattle.edit_entries.proofs.ElementFacts.{char_parted, parted}
 use Rattle.edit_entries.proofs.StandsFacts.{between_stands}
@@ -340,12 +341,6 @@ hides_quoted {u} {v} (quotes.hidden {v = w} {w = x} {c = c} slash char rest) wit
     ∙ ap (hide_quotes true) (char_parted char (ahead_quoted_parts rest) within') ∙ past_hidden c (between x v)
     ∙ hides_quoted rest (omega (arith, within', ap length char.same))
 
-whole_text : (text : List ℕ) → between (place text 0) (place text (length text)) ≡ text
-whole_text text =
-    let end : drop (length text) text ≡ [] = ap (drop (length text)) (sym (append-nil text)) ∙ drop_at text [] (length text) refl in
-    between_stands {u = place text 0} {v = place text (length text)} text
-    (record { same = refl; here = sym (append-nil text) ∙ ap (λ t. text ++ t) (sym end); next = omega arith })
-
 decided : (b : Bool) {P : Type 0} → (b ≡ true → P) → (P → b ≡ true) → MatchBool b P (P → ⊥)
 decided true on back = on refl
 decided false on back = λ p. test_clash false (back p) refl
@@ -353,14 +348,14 @@ decided false on back = λ p. test_clash false (back p) refl
 pub braces_decided : (text : List ℕ) → QuotedParts (place text 0) (place text (length text))
     → MatchBool (close_braces false 0 text) (IsParts text) (IsParts text → ⊥)
 braces_decided text x =
-    decided (close_braces false 0 text) (λ is. parts_of_quoted x (omega arith) (ap (close_braces false 0) (whole_text text) ∙ is))
+    decided (close_braces false 0 text) (λ is. parts_of_quoted x (omega arith) (ap (close_braces false 0) (whole_bytes text) ∙ is))
     (λ p.
-    ap (close_braces false 0) (sym (append-nil text) ∙ ap (λ t. t ++ []) (sym (whole_text text)))
+    ap (close_braces false 0) (sym (append-nil text) ∙ ap (λ t. t ++ []) (sym (whole_bytes text)))
     ∙ closes_parts 0 [] p (omega arith))
 
 pub quotes_decided : (text : List ℕ) → IsParts text
     → MatchBool (hide_quotes false text) (QuotedParts (place text 0) (place text (length text)))
     (QuotedParts (place text 0) (place text (length text)) → ⊥)
 quotes_decided text x =
-    decided (hide_quotes false text) (λ is. quoted_of_parts x (omega arith) (ap (hide_quotes false) (whole_text text) ∙ is))
-    (λ q. ap (hide_quotes false) (sym (whole_text text)) ∙ hides_quoted q (omega arith))
+    decided (hide_quotes false text) (λ is. quoted_of_parts x (omega arith) (ap (hide_quotes false) (whole_bytes text) ∙ is))
+    (λ q. ap (hide_quotes false) (sym (whole_bytes text)) ∙ hides_quoted q (omega arith))

@@ -7,6 +7,9 @@ use Rattle.std.proofs.lemmas.List.{append-nil}
 use Rattle.std.proofs.lemmas.List.Elements.{filter-append}
 use Rattle.std.proofs.lemmas.List.Folds.{list_any-append}
 use Rattle.bib_syntax.specs.Reading.{FieldReading}
+use Rattle.bib_text.proofs.ListFacts.{all_append, all_zip_append}
+use Rattle.std.proofs.Math.Bool.{or-false}
+use Rattle.std.proofs.lemmas.Bool.{not-true}
 use Rattle.edit_format.specs.Formatted.{last_comma, padded_width}
 use Rattle.edit_entries.specs.Documents.{has_name}
 use Rattle.edit_format.specs.Ordered.{in_order}
@@ -14,10 +17,6 @@ use Rattle.edit_format.specs.Unlisted.{has_name_first, has_one_of, unlisted}
 use Rattle.edit_format.specs.declared.style.Style.{Style}
 
 -- ---- items that pass a test
-
-pub all_append : {X : Type 0} (P : X → Type 0) (xs ys : List X) → AllByRecursion P xs → AllByRecursion P ys → AllByRecursion P (xs ++ ys)
-all_append P [] ys all others = others
-all_append P (x ∷ xs) ys all others = (all.0, all_append P xs ys all.1 others)
 
 pub all_filter : {X : Type 0} (P : X → Type 0) (p : X → Bool) (xs : List X) → AllByRecursion P xs → AllByRecursion P (filter p xs)
 all_filter P p [] all = _
@@ -51,11 +50,7 @@ turned p b (x ∷ xs) all = (ap not all.0, turned p b xs all.1)
 
 unturned : {X : Type 0} (p : X → Bool) (xs : List X) → AllByRecursion (λ x. not (p x) ≡ true) xs → AllByRecursion (λ x. p x ≡ false) xs
 unturned p [] all = _
-unturned p (x ∷ xs) all = (by_value (p x) all.0, unturned p xs all.1)
-  where
-    by_value : (b : Bool) → not b ≡ true → b ≡ false
-    by_value true is = sym is
-    by_value false is = refl
+unturned p (x ∷ xs) all = (not-true (p x) all.0, unturned p xs all.1)
 
 zip_filter : {X : Type 0} (R : X → X → Type 0) (p : X → Bool) → ((x y : X) → R x y → p x ≡ p y) → (xs ys : List X)
     → AllZip R xs ys → AllZip R (filter p xs) (filter p ys)
@@ -237,11 +232,7 @@ listed_more : (before : List (List ℕ)) (n : List ℕ) (f : FieldReading)
     → has_one_of (before ++ n ∷ []) f ≡ (has_one_of before f || has_name n f)
 listed_more before n f =
     list_any-append (λ name. has_name name f) before (n ∷ [])
-    ∙ ap (λ b. has_one_of before f || b) (either_right (has_name n f))
-  where
-    either_right : (b : Bool) → (b || false) ≡ b
-    either_right true = refl
-    either_right false = refl
+    ∙ ap (λ b. has_one_of before f || b) (or-false (has_name n f))
 
 -- the fields without the names `before` and without one more name are those without all of these names
 neither_named : (before : List (List ℕ)) (n : List ℕ) (fs : List FieldReading)

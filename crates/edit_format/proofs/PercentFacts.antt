@@ -2,16 +2,12 @@
 use Rattle.std.proofs.Common.{◌≡◌, ℕ, zero, suc, ◌<◌, Bool, true, false, List, [], ◌∷◌, length, get_or, refl, sym, ap, ◌∙◌, arith}
 use Rattle.std.specs.Prelude.{◌==◌, ◌||◌}
 use Rattle.std.specs.List.{list_any}
-use Rattle.std.proofs.lemmas.Bool.{eq-eqb, ne_eqb}
+use Rattle.std.proofs.lemmas.Bool.{eq-eqb, ne_eqb, or_right}
 
 some_passes : (p : ℕ → Bool) (bs : List ℕ) (k : ℕ) → k < length bs → p (get_or bs k 0) ≡ true → list_any p bs ≡ true
 some_passes p [] k within is = absurd (omega arith)
 some_passes p (b ∷ bs) zero within is = ap (λ x. x || list_any p bs) is
-some_passes p (b ∷ bs) (suc k) within is = later (p b) (list_any p bs) (some_passes p bs k (omega arith) is)
-  where
-    later : (x y : Bool) → y ≡ true → (x || y) ≡ true
-    later true y is = refl
-    later false y is = is
+some_passes p (b ∷ bs) (suc k) within is = or_right (p b) (list_any p bs) (some_passes p bs k (omega arith) is)
 
 none_passes : (c : ℕ) (bs : List ℕ) → ((k : ℕ) → k < length bs → get_or bs k 0 ≡ c → ⊥) → list_any (λ b. b == c) bs ≡ false
 none_passes c [] none = refl

@@ -15,6 +15,7 @@ use Rattle.edit_entries.specs.Documents.{in_braces}
 use Rattle.edit_entries.specs.Edits.{moved_part, moved_piece}
 use Rattle.edit_entries.proofs.GrammarFacts.{below_char, quoted_parts_there}
 use Rattle.edit_entries.proofs.ZoneFacts.{char_back, inside_between, parts_there, there}
+use Rattle.bib_text.proofs.BoolFacts.{and_true_right}
 use Rattle.edit_format.specs.Delimited.{braced_in_style, can_stand_in_braces, can_stand_in_quotes, goes_in_braces, goes_in_quotes, has_quote, in_quotes, piece_as_written, quoted_in_style}
 use Rattle.edit_format.specs.declared.style.Delimiters.{Delimiters}
 use Rattle.edit_format.specs.declared.style.Delimiters.TheVariants.{Keep, Braces, Quotes}
@@ -73,11 +74,7 @@ stays_braced Quotes content is = absurd (cc)
 can_be_quoted : (way : Delimiters) (content : List ℕ) → goes_in_quotes way content ≡ true → can_stand_in_quotes content ≡ true
 can_be_quoted Keep content is = absurd (cc)
 can_be_quoted Braces content is = absurd (cc)
-can_be_quoted Quotes content is = second (not (has_quote content)) (can_stand_in_quotes content) is
-  where
-    second : (x y : Bool) → (x && y) ≡ true → y ≡ true
-    second true y is = is
-    second false y is = absurd (cc)
+can_be_quoted Quotes content is = and_true_right (not (has_quote content)) (can_stand_in_quotes content) is
 
 can_be_braced : (way : Delimiters) (content : List ℕ) → goes_in_braces way content ≡ true → can_stand_in_braces content ≡ true
 can_be_braced Keep content is = absurd (cc)

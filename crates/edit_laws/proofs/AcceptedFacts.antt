@@ -23,7 +23,7 @@ use Rattle.bib_text.proofs.ListFacts.{found_any, get_mapped}
 use Rattle.biblatex.proofs.ResolvedFacts.{bad_apart, names_below}
 use Rattle.biblatex.specs.Resolved.{AreOwn, IsAccepted, IsFirstErrorOf, graph_of, names_of}
 use Rattle.edit_laws.proofs.DateFacts.{HaveSameDate, date_same, dates_inherited, looks_alike}
-use Rattle.edit_laws.proofs.DifferFacts.{IsUnlinked, differ_apart, differ_graph, differ_here, other_field, past}
+use Rattle.edit_laws.proofs.DifferFacts.{IsUnlinked, differ_apart, differ_graph, differ_here, other_field, past, map_itself}
 use Rattle.edit_laws.proofs.LiftFacts.{at_texts}
 use Rattle.edit_laws.proofs.ReplacedFacts.{IsReplaced, entries_alike}
 use Rattle.edit_laws.proofs.SolutionFacts.{related}
@@ -85,10 +85,6 @@ any_same : (f g : ℕ → Bool) (xs : List ℕ) → ((x : ℕ) → f x ≡ g x) 
 any_same f g [] same = refl
 any_same f g (x ∷ xs) same = ap (λ b. b || list_any f xs) (same x) ∙ ap (λ b. g x || b) (any_same f g xs same)
 
-all_same : (xs : List ℕ) → map (λ a. a) xs ≡ xs
-all_same [] = refl
-all_same (x ∷ xs) = ap (λ l. x ∷ l) (all_same xs)
-
 -- the own entries of two files have the same dates if the field in which they differ is unlinked
 dates_apart : {own others : List Entry} {k : ℕ} {name : List ℕ} {text : Option (List Atom)} → DifferInField own others k name text
     → IsUnlinked name → (a : ℕ) → HaveSameDate (at_index (texts_of_entries own) a) (at_index (texts_of_entries others) a)
@@ -143,7 +139,7 @@ module _ {said tells : FileReading} {k : ℕ} {e changed : EntryReading} (replac
       by_range (inl below) =
           related (graph_of own) (graph_of own) in_range (λ x. x) no_entry (rule_by (texts_of_entries own))
           (rule_by (texts_of_entries others)) HaveSameDate (λ x. Unit {0}) (λ x within. within)
-          (λ x within q. sym (all_same (refs_of (graph_of own) x))) (λ x y q edge. tt)
+          (λ x within q. sym (map_itself (refs_of (graph_of own) x))) (λ x y q edge. tt)
           (λ x within q xs ys all.
           dates_inherited (at_index (texts_of_entries own) x) (at_index (texts_of_entries others) x)
           (dates_apart (differs others are) apart x) xs ys all) accepted.no_cycle values news a first second below tt

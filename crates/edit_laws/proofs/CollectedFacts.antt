@@ -16,10 +16,11 @@ use Rattle.bib_file_entries.specs.Loaded.{definition_in}
 use Rattle.bib_syntax.specs.Grammar.{is_word}
 use Rattle.bib_syntax.specs.Reading.{EntryReading, FieldReading, FileReading, Part, Piece}
 use Rattle.bib_syntax.specs.Reading.Piece.{abbreviation, literal}
-use Rattle.bib_text.proofs.ListFacts.{some_same}
+use Rattle.bib_text.proofs.ListFacts.{some_same, all_zip_push}
 use Rattle.bib_text.proofs.BoolFacts.{or_false_left, or_false_right, and_true_right}
 use Rattle.bib_text.proofs.OptionFacts.{or_none}
 use Rattle.edit_entries.specs.Documents.{Document, IsDocument, has_name, or_first, text_at}
+use Rattle.edit_laws.proofs.LeadNameFacts.{words_differ}
 use Rattle.edit_laws.proofs.AlikeFacts.{MeanTheSame}
 use Rattle.edit_laws.proofs.DefinedFacts.{IsNew, absent, defined_append, found_in, is_new, line_defined, one_literal, only_last, own_word, readings_push}
 use Rattle.edit_laws.proofs.ExchangedFacts.{EachMeansTheSame, exchanged_pieces, files_exchanged}
@@ -113,13 +114,6 @@ module _ (says : FileReading) where
         → (part : Part) × (definition_in says.abbreviations name ≡ Some (literal part ∷ [])) × (part.text ≡ text)
     fresh : is_one_in_any_case (names_of_file says) name ≡ false → definition_in added name ≡ Some (literal (text_at 0 text) ∷ [])
 
-  zip_push : {A B : Type 0} (R : A → B → Type 0) (xs : List A) (ys : List B) (x : A) (y : B) → AllZip R xs ys → R x y
-      → AllZip R (xs ++ x ∷ []) (ys ++ y ∷ [])
-  zip_push R [] [] x y all last = (last, tt)
-  zip_push R [] (z ∷ zs) x y all last = absurd all
-  zip_push R (z ∷ zs) [] x y all last = absurd all
-  zip_push R (z ∷ zs) (w ∷ ws) x y all last = (all.0, zip_push R zs ws x y all.1 last)
-
   -- each name still means its text after a definition of another name is added
   still_mean : (added : List FieldReading) (n t : List ℕ) (names texts : List (List ℕ)) → is_one_in_any_case names n ≡ false
       → AllZip (NameMeans added) names texts → AllZip (NameMeans (added ++ line_reading n t ∷ [])) names texts
@@ -132,20 +126,11 @@ module _ (says : FileReading) where
       fresh = λ fresh.
           defined_append added (line_reading n t ∷ []) name
           ∙ ap (λ o. option_or o (definition_in added name))
-          (line_defined n t name false (other_way name n (or_false_left (is_word name n) _ none)))
+          (line_defined n t name false (words_differ name n (or_false_left (is_word name n) _ none)))
           ∙ all.0.fresh fresh;
     },
     still_mean added n t names texts (or_false_right (is_word name n) _ none) all.1,
   )
-    where
-      other_way : (name n : List ℕ) → is_word name n ≡ false → bytes_eq name n ≡ false
-      other_way name n differs = by_case (bytes_eq name n) refl
-        where
-          by_case : (b : Bool) → bytes_eq name n ≡ b → b ≡ false
-          by_case false is = refl
-          by_case true is =
-              let same : name ≡ n = (bytes_eq-Decides name n).0 is in
-              absurd (both_ways _ differs (subst (λ m. is_word name m ≡ true) same (own_word name)))
 
   names_mean : {texts names : List (List ℕ)} → AreNames says texts names → AllZip (NameMeans (line_readings says names texts)) names texts
   names_mean AreNames.none = tt
@@ -155,7 +140,7 @@ module _ (says : FileReading) where
       ∙ ap (λ o. line_readings says names texts ++ cond (is_some o) [] (line_reading name text ∷ [])) known
       ∙ append-nil (line_readings says names texts) in
       subst (λ added. AllZip (NameMeans added) (names ++ name ∷ []) (texts ++ text ∷ [])) (sym same)
-      (zip_push (NameMeans (line_readings says names texts)) names texts name text (names_mean others)
+      (all_zip_push (NameMeans (line_readings says names texts)) names texts name text (names_mean others)
       (record {
         inside = λ there. known_means text name known;
         fresh = λ fresh. absurd (both_ways _ fresh (known_in_file says text name name known (own_word name)));
@@ -167,7 +152,7 @@ module _ (says : FileReading) where
       readings_push says names texts name text (length-names says others)
       ∙ ap (λ o. line_readings says names texts ++ cond (is_some o) [] (line_reading name text ∷ [])) known in
       subst (λ fs. AllZip (NameMeans fs) (names ++ name ∷ []) (texts ++ text ∷ [])) (sym same)
-      (zip_push (NameMeans added) names texts name text
+      (all_zip_push (NameMeans added) names texts name text
       (still_mean (line_readings says names texts) name text names texts new.no_earlier (names_mean others))
       (record {
         inside = λ there. absurd (both_ways _ new.no_other there);

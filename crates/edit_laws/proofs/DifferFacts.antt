@@ -105,6 +105,11 @@ reference_names_by f g crossref xdata =
     ap (λ o. option_map_or (λ atoms. plain atoms ∷ []) o [] ++ option_map_or comma_texts (f (codes "xdata")) []) crossref
     ∙ ap (λ o. option_map_or (λ atoms. plain atoms ∷ []) (g (codes "crossref")) [] ++ option_map_or comma_texts o []) xdata
 
+-- mapping each element to itself changes nothing
+pub map_itself : (xs : List ℕ) → map (λ a. a) xs ≡ xs
+map_itself [] = refl
+map_itself (x ∷ xs) = ap (λ l. x ∷ l) (map_itself xs)
+
 -- an entry with another value of an unlinked field has the same other fields after inheriting
 module _ {name : List ℕ} (apart : IsUnlinked name) (old : EntryTexts) (text : Option (List Atom)) where
   pub looks_same : looks_for_date old ≡ looks_for_date (with_field_text name text old)
@@ -187,15 +192,11 @@ module _ {own others : List Entry} {k : ℕ} {name : List ℕ} {text : Option (L
     moved : Inherits (texts_of_entries others) (graph_of own) news
     moved = subst (λ g. Inherits (texts_of_entries others) g news) (sym differ_graph) second
 
-    all_same : (xs : List ℕ) → map (λ a. a) xs ≡ xs
-    all_same [] = refl
-    all_same (x ∷ xs) = ap (λ l. x ∷ l) (all_same xs)
-
     pub apart_same : (a : ℕ) → a < length (graph_of own) → IsApart a → at_index values a ≡ at_index news a
     apart_same a below p =
         related (graph_of own) (graph_of own) (graph_in_range (names_of own) own (names_below own)) (λ x. x) no_entry
         (rule_by (texts_of_entries own)) (rule_by (texts_of_entries others)) (λ x y. x ≡ y) IsApart (λ x within. within)
-        (λ x within q. sym (all_same (refs_of (graph_of own) x)))
+        (λ x within q. sym (map_itself (refs_of (graph_of own) x)))
         (λ x y q edge. (
           λ is. q.1 (one_edge (subst (Contains (refs_of (graph_of own) x)) is edge)),
           λ leads. q.1 (more_edges edge leads),

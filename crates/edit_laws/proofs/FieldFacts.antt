@@ -17,6 +17,8 @@ use Rattle.bib_tables.specs.VerbatimFields.{is_verbatim_field}
 use Rattle.edit_entries.specs.Changes.{FieldChange, field_changed, field_reading, fields_changed}
 use Rattle.edit_entries.specs.Documents.{has_name}
 use Rattle.edit_entries.specs.Setting.{SetValue, field_with_value, has_other_value, is_same_value, new_value, set_change}
+use Rattle.bib_text.proofs.ListFacts.{all_reverse}
+use Rattle.bib_text.proofs.BoolFacts.{or_last}
 use Rattle.edit_laws.proofs.FoundFacts.{find_failing, find_passing, reverse_filter, reverse_more}
 use Rattle.edit_laws.proofs.ReorderedFacts.{field_append, named_alike}
 
@@ -62,17 +64,11 @@ found_passes test (g ∷ fs) f is = by_test (test g) refl is (found_passes test 
     by_test true passes here rest = let same : g ≡ f = cc in ap test (sym same) ∙ passes
     by_test false fails here rest = rest here
 
-any_back : (a b : Bool) → (a || b) ≡ (b || (a || false))
-any_back true true = refl
-any_back true false = refl
-any_back false true = refl
-any_back false false = refl
-
 any_reversed : (test : FieldReading → Bool) (fs : List FieldReading) → list_any test (reverse fs) ≡ list_any test fs
 any_reversed test [] = refl
 any_reversed test (f ∷ fs) =
     ap (list_any test) (reverse_more f fs) ∙ list_any-append test (reverse fs) (f ∷ [])
-    ∙ ap (λ b. b || (test f || false)) (any_reversed test fs) ∙ sym (any_back (test f) (list_any test fs))
+    ∙ ap (λ b. b || (test f || false)) (any_reversed test fs) ∙ sym (or_last (test f) (list_any test fs))
 
 same_tests : (name : List ℕ) (fs : List FieldReading)
     → list_any (λ f. bytes_eq (str_to_ascii_lowercase name) (name_of f)) fs ≡ list_any (has_name name) fs
@@ -126,16 +122,6 @@ field_mapped : (g : FieldReading → FieldReading) → ((f : FieldReading) → n
 field_mapped g same fs name =
     ap (find (λ f. bytes_eq name (name_of f))) (reverse_map g fs)
     ∙ find_mapped (λ f. bytes_eq name (name_of f)) g (λ f. ap (bytes_eq name) (same f)) (reverse fs)
-
-all_append : (P : FieldReading → Type 0) (fs gs : List FieldReading) → AllByRecursion P fs → AllByRecursion P gs
-    → AllByRecursion P (fs ++ gs)
-all_append P [] gs one other = other
-all_append P (f ∷ fs) gs one other = (one.0, all_append P fs gs one.1 other)
-
-all_reversed : (P : FieldReading → Type 0) (fs : List FieldReading) → AllByRecursion P fs → AllByRecursion P (reverse fs)
-all_reversed P [] all = tt
-all_reversed P (f ∷ fs) all =
-    subst (AllByRecursion P) (sym (reverse_more f fs)) (all_append P (reverse fs) (f ∷ []) (all_reversed P fs all.1) (all.0, tt))
 
 all_found : (P : FieldReading → Type 0) (test : FieldReading → Bool) (fs : List FieldReading) (f : FieldReading) → AllByRecursion P fs
     → find test fs ≡ Some f → P f
@@ -218,7 +204,7 @@ module _ (name : List ℕ) (value : SetValue) (text : List ℕ) where
         others = others_kept fs;
         field = set_field found.0;
         here = field_mapped set_field name_kept fs (str_to_ascii_lowercase name) ∙ ap (option_map set_field) found.1;
-        says = set_says found.0 new (all_found HasTextAlready test (reverse fs) found.0 (all_reversed HasTextAlready fs already) found.1)
+        says = set_says found.0 new (all_found HasTextAlready test (reverse fs) found.0 (all_reverse HasTextAlready fs already) found.1)
             (named_alike name (str_to_ascii_lowercase name) found.0 passes ∙ bytes_itself (str_to_ascii_lowercase name));
       }
 

@@ -22,6 +22,7 @@ use Rattle.edit_entries.specs.Edits.{moved_piece}
 use Rattle.edit_entries.specs.NewNames.{CanBeNewKey, is_new_key, is_unsafe_in_key}
 use Rattle.edit_entries.specs.References.{CanGetKeys, KeyRenamed, KeysRenamed, between_white, elements_of, is_renamed, meant_index, new_reference, only, renamed_element, renamed_list, renamed_text, renamed_where_listed}
 use Rattle.edit_entries.proofs.StandsFacts.{Stands, joined, stands_char}
+use Rattle.bib_text.proofs.BoolFacts.{not_or_left}
 use Rattle.edit_laws.proofs.LeadChangeFacts.{HasNewNames, IsNewValue, entries_renamed}
 use Rattle.edit_laws.proofs.LeadListFacts.{first_facts, zip_own, zip_self, zip_weaker, zip_where}
 use Rattle.edit_laws.proofs.LeadNameFacts.{meant_alike, meant_there}
@@ -52,12 +53,8 @@ run_characters (step {c = c} char passes run) =
       c ∷ rest.0,
       joined (encode_utf8 c) (encode_utf8_all rest.0) (stands_char char) rest.1,
       (key_dark c key, rest.2),
-      (no_comma (c == 44) (c == 125) others, rest.3),
+      (not_or_left (c == 44) (c == 125) others, rest.3),
     )
-  where
-    no_comma : (a b : Bool) → not (a || b) ≡ true → a ≡ false
-    no_comma true b is = absurd (cc)
-    no_comma false b is = refl
 
 -- nothing is after a whole text
 drop_whole : (xs : List ℕ) → drop (length xs) xs ≡ []

@@ -100,6 +100,12 @@ at_texts [] k entry here = cc
 at_texts (e ∷ own) zero entry here = let same : e ≡ entry = cc in ap texts_of_entry same
 at_texts (e ∷ own) (suc k) entry here = at_texts own k entry here
 
+-- the key of the entry at an index
+pub key_at : (xs : List Entry) (k : ℕ) (x : Entry) → slice_get xs k ≡ Some x → get_or (map (λ (e : Entry). e.key) xs) k [] ≡ x.key
+key_at [] k x here = cc
+key_at (e ∷ xs) zero x here = let same : e ≡ x = cc in ap (λ (y : Entry). y.key) same
+key_at (e ∷ xs) (suc k) x here = key_at xs k x here
+
 chunks_of : (o : Option (List (Spanned Chunk))) (atoms : List Atom) → option_map styled o ≡ Some atoms
     → (chunks : List (Spanned Chunk)) × (o ≡ Some chunks) × (styled chunks ≡ atoms)
 chunks_of None atoms is = cc
@@ -121,11 +127,6 @@ module _ {says : FileReading} {bibliography : Bibliography} (loaded : IsLoaded s
   pub as_long : length bibliography.entries ≡ length own
   as_long =
       sym (length-map bibliography.entries (λ (e : Entry). e.key)) ∙ ap length loaded.keys ∙ length-map own (λ (e : Entry). e.key)
-
-  key_at : (xs : List Entry) (k : ℕ) (x : Entry) → slice_get xs k ≡ Some x → get_or (map (λ (e : Entry). e.key) xs) k [] ≡ x.key
-  key_at [] k x here = cc
-  key_at (e ∷ xs) zero x here = let same : e ≡ x = cc in ap (λ (y : Entry). y.key) same
-  key_at (e ∷ xs) (suc k) x here = key_at xs k x here
 
   -- the entries at an index before and after inheriting have the same key
   pub same_key : (k : ℕ) (before later : Entry) → slice_get own k ≡ Some before → slice_get bibliography.entries k ≡ Some later

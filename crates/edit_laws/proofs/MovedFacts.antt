@@ -22,8 +22,9 @@ use Rattle.biblatex.proofs.IndexLaws.{points_loaded}
 use Rattle.biblatex.proofs.ResolvedFacts.{all_after, names_below}
 use Rattle.biblatex.specs.Places.{ClaimsAt, IsLastClaim}
 use Rattle.biblatex.specs.Resolved.{graph_of, names_of}
+use Rattle.bib_collections.proofs.Roots.{entry_below}
 use Rattle.edit_laws.proofs.DifferFacts.{past, same_zip}
-use Rattle.edit_laws.proofs.LiftFacts.{at_texts}
+use Rattle.edit_laws.proofs.LiftFacts.{at_texts, key_at}
 use Rattle.edit_laws.proofs.SolutionFacts.{Contains-first, Contains-later, related}
 use Rattle.edit_laws.proofs.TextFacts.{claims_are, claims_by, graph_texts}
 
@@ -43,12 +44,6 @@ points own name =
     subst
     (λ b. MatchOption (index_of b name) ((index : ℕ) → ClaimsAt b.entries index name → ⊥) (IsLastClaim b.entries name))
     (all_after own refl) (points_loaded own name)
-
--- the key of the entry at an index
-pub key_at : (xs : List Entry) (k : ℕ) (x : Entry) → slice_get xs k ≡ Some x → get_or (map (λ (e : Entry). e.key) xs) k [] ≡ x.key
-key_at [] k x here = cc
-key_at (e ∷ xs) zero x here = let same : e ≡ x = cc in ap (λ (y : Entry). y.key) same
-key_at (e ∷ xs) (suc k) x here = key_at xs k x here
 
 module _ {own others : List Entry} {move : ℕ → ℕ} (are : AreMoved own others move) where
   -- corresponding entries claim the same names
@@ -181,20 +176,7 @@ module _ {own others : List Entry} {move : ℕ → ℕ} (are : AreMoved own othe
       ∙ ap (map move) (sym (references_at others i below))
 
   below_edge : (a b : ℕ) → Contains (refs_of (graph_of others) a) b → a < length others
-  below_edge a b edge = by_range (cases_lt a (length others))
-    where
-      nothing : (g : List (List ℕ)) (i : ℕ) → length g ≤ i → refs_of g i ≡ []
-      nothing [] i above = refl
-      nothing (x ∷ g) zero above = absurd (omega (arith, above))
-      nothing (x ∷ g) (suc i) above = nothing g i (omega (arith, above))
-
-      no_edge : {x : ℕ} → Contains [] x → ⊥
-      no_edge at = omega (arith, at.1)
-
-      by_range : (a < length others) ⊎ (length others ≤ a) → a < length others
-      by_range (inl below) = below
-      by_range (inr above) =
-          absurd (no_edge (subst (λ l. Contains l b) (nothing (graph_of others) a (omega (arith, above, rows others))) edge))
+  below_edge a b edge = omega (arith, entry_below (graph_of others) b a edge, rows others)
 
   edge_there : (a b : ℕ) → Contains (refs_of (graph_of others) a) b → Contains (refs_of (graph_of own) (move a)) (move b)
   edge_there a b edge =

@@ -10,6 +10,7 @@ use Rattle.bib_text.proofs.DigitFacts.{digit_small}
 use Rattle.bib_syntax.specs.Grammar.{BlockKind, Body, Element, Elements, Fields, File, IsRawReading, NoDigit, longest}
 use Rattle.bib_syntax.specs.Reading.{EntryReading, FieldReading, FileReading, Part, Piece}
 use Rattle.bib_syntax.specs.Reading.Piece.{abbreviation, literal}
+use Rattle.bib_text.proofs.BoolFacts.{and_true_left}
 use Rattle.edit_entries.specs.Setting.{is_bare_number}
 
 -- a piece isn't an abbreviation whose name is a number
@@ -22,10 +23,6 @@ abbrev pub HasNoNumber : FieldReading → Type 0
 HasNoNumber f = AllByRecursion IsNoNumber f.value.pieces
 
 -- ---- a name
-
-both_true : (a b : Bool) → (a && b) ≡ true → a ≡ true
-both_true true b is = refl
-both_true false b is = cc
 
 take_head : (n : ℕ) (xs : List ℕ) (b : ℕ) (bs : List ℕ) → take n xs ≡ b ∷ bs → (rest : List ℕ) × (xs ≡ b ∷ rest)
 take_head zero xs b bs is = cc
@@ -42,7 +39,7 @@ name_is_no_number u v none = by_text (between u v) refl
         by_number : (c : Bool) → is_bare_number (b ∷ bs) ≡ c → c ≡ false
         by_number false number = refl
         by_number true number =
-            let digit : is_ascii_digit b ≡ true = both_true (is_ascii_digit b) (list_all is_ascii_digit bs) number in
+            let digit : is_ascii_digit b ≡ true = and_true_left (is_ascii_digit b) (list_all is_ascii_digit bs) number in
             let starts = take_head (v.at - u.at) (drop u.at u.text) b bs is in
             absurd
             (none b _ (char_here u.text starts.0 u.at b

@@ -153,6 +153,13 @@ pub record AreAlikeOwn (one other : Entry) : Type 0 where
   pub key : one.key ≡ other.key
   pub claims : claims one ≡ claims other
 
+-- the parts of a field between commas are those of its styled text
+pub by_texts : (o : Option (List (Spanned Chunk)))
+    → option_map_or (λ chunks. comma_texts (styled chunks)) o []
+    ≡ option_map_or comma_texts (option_map styled o) []
+by_texts None = refl
+by_texts (Some chunks) = refl
+
 module _ (one other : Definitions) where
   -- the last fields with a name have the same styled text if they are alike, or are missing in both entries
   found_alike : {f g : Option FieldReading} (c d : Option (List (Spanned Chunk))) → FoundAlike (AreAlikeFields one other) f g
@@ -189,12 +196,6 @@ module _ (one other : Definitions) where
         (by_texts (by_name.get a.fields (codes "ids"))
         ∙ ap (λ o. option_map_or comma_texts o []) (texts_alike (codes "ids"))
         ∙ sym (by_texts (by_name.get b.fields (codes "ids"))))
-      where
-        by_texts : (o : Option (List (Spanned Chunk)))
-            → option_map_or (λ chunks. comma_texts (styled chunks)) o []
-            ≡ option_map_or comma_texts (option_map styled o) []
-        by_texts None = refl
-        by_texts (Some chunks) = refl
 
   -- the loaded entries of two alike lists are alike
   pub all_alike : (earlier : List (List ℕ)) (said tells : List EntryReading) {as' bs : List Entry}

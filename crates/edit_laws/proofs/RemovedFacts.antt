@@ -28,7 +28,7 @@ use Rattle.edit_entries.specs.Documents.{Document, EntryRemoved}
 use Rattle.edit_entries.specs.Edits.{moved_entry, moved_field, moved_place}
 use Rattle.edit_laws.proofs.AcceptedFacts.{texts_faultless}
 use Rattle.edit_laws.proofs.AlikeFacts.{DefineAlike, definitions_alike}
-use Rattle.edit_laws.proofs.LiftFacts.{as_long, inherits_by}
+use Rattle.edit_laws.proofs.LiftFacts.{as_long, inherits_by, key_at}
 use Rattle.edit_laws.proofs.MovedFacts.{AreMoved, claim_there, names_moved, no_bad_date, no_cycle_moved, same_moved}
 use Rattle.edit_laws.proofs.ReadAlikeFacts.{AreAlikeEntries, abbreviations_alike}
 use Rattle.edit_laws.proofs.ReplacedFacts.{bare_entries_alike, bare_keys}
@@ -298,8 +298,8 @@ module _ {says tells : FileReading} {one other : Bibliography} (first : IsLoaded
         entry = entry;
         here = here;
         is =
-            sym (key_of one.entries index entry here) ∙ ap (λ keys. get_or keys index []) one_keys
-            ∙ key_of own index without.entry without.here ∙ without.is;
+            sym (key_at one.entries index entry here) ∙ ap (λ keys. get_or keys index []) one_keys
+            ∙ key_at own index without.entry without.here ∙ without.is;
         keys = second.keys ∙ without.keys ∙ ap (λ keys. remove keys index) (sym one_keys);
         texts = same_texts;
         names = λ name other_name.
@@ -310,11 +310,6 @@ module _ {says tells : FileReading} {one other : Bibliography} (first : IsLoaded
             ∙ ap (option_and_then (index_after_removal index))
             (sym (names_kept without name (λ is. other_name (old ∙ is))) ∙ sym old);
       }
-    where
-      key_of : (xs : List Entry) (i : ℕ) (x : Entry) → slice_get xs i ≡ Some x → get_or (map (λ (e : Entry). e.key) xs) i [] ≡ x.key
-      key_of [] i x here = cc
-      key_of (e ∷ xs) zero x here = let same : e ≡ x = cc in ap (λ (y : Entry). y.key) same
-      key_of (e ∷ xs) (suc i) x here = key_of xs i x here
 
 -- ---- errors
 
@@ -347,7 +342,7 @@ unreferenced_same says {own} {one} {key} first second unreferenced index entry h
       length-map one (λ (e : Entry). e.key),
       ap length (keys_same says first second),
     )))
-    (sym (key_of own index (get_or own index entry)
+    (sym (key_at own index (get_or own index entry)
     (slice_get-get_or own index entry
     (omega (
       arith,
@@ -356,10 +351,5 @@ unreferenced_same says {own} {one} {key} first second unreferenced index entry h
       length-map one (λ (e : Entry). e.key),
       ap length (keys_same says first second),
     ))))
-    ∙ ap (λ keys. get_or keys index []) (keys_same says first second) ∙ key_of one index entry here ∙ is) at
+    ∙ ap (λ keys. get_or keys index []) (keys_same says first second) ∙ key_at one index entry here ∙ is) at
     (subst (λ g. Contains (refs_of g at) index) (graph_same says second first) edge)
-  where
-    key_of : (xs : List Entry) (i : ℕ) (x : Entry) → slice_get xs i ≡ Some x → get_or (map (λ (e : Entry). e.key) xs) i [] ≡ x.key
-    key_of [] i x here = cc
-    key_of (e ∷ xs) zero x here = let same : e ≡ x = cc in ap (λ (y : Entry). y.key) same
-    key_of (e ∷ xs) (suc i) x here = key_of xs i x here

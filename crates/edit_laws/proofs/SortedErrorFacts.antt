@@ -15,7 +15,7 @@ use Rattle.bib_inheritance.specs.EntryTexts.{EntryTexts, no_entry}
 use Rattle.bib_inheritance.specs.Resolving.{is_bad_date, texts_of_entries, texts_of_entry}
 use Rattle.bib_syntax.specs.Reading.{EntryReading, FileReading}
 use Rattle.bib_syntax.specs.declared.raw.ParseError.{ParseError}
-use Rattle.bib_text.proofs.ListFacts.{found_any}
+use Rattle.bib_text.proofs.ListFacts.{found_any, all_zip_length}
 use Rattle.bib_text.proofs.BytesFacts.{bytes_itself}
 use Rattle.biblatex.specs.Places.{ClaimsAt}
 use Rattle.biblatex.specs.Resolved.{AreOwn, IsAccepted, IsFirstErrorOf, graph_of}
@@ -44,12 +44,6 @@ zip_get R d e [] ys i all below = absurd (omega (arith, below))
 zip_get R d e (x ∷ xs) [] i all below = absurd all
 zip_get R d e (x ∷ xs) (y ∷ ys) zero all below = all.0
 zip_get R d e (x ∷ xs) (y ∷ ys) (suc i) all below = zip_get R d e xs ys i all.1 (omega (arith, below))
-
-zip_long : {A B : Type 0} (R : A → B → Type 0) (xs : List A) (ys : List B) → AllZip R xs ys → length xs ≡ length ys
-zip_long R [] [] all = refl
-zip_long R [] (y ∷ ys) all = absurd all
-zip_long R (x ∷ xs) [] all = absurd all
-zip_long R (x ∷ xs) (y ∷ ys) all = ap suc (zip_long R xs ys all.1)
 
 all_by : {A : Type 0} (P : A → Type 0) (d : A) (xs : List A) → ((i : ℕ) → i < length xs → P (get_or xs i d)) → AllByRecursion P xs
 all_by P d [] each = tt
@@ -121,7 +115,7 @@ module _ (said tells : FileReading) (r : IsPermutedRead said tells) (own : List 
   all_texts = texts_of_entries own
 
   raw_long : length raw ≡ length all_texts
-  raw_long = zip_long (AreTextsOf (definition_in said.abbreviations)) raw all_texts (each_texts (texts_are are))
+  raw_long = all_zip_length (AreTextsOf (definition_in said.abbreviations)) raw all_texts (each_texts (texts_are are))
 
   abbrev sorted_texts : List EntryTexts
   sorted_texts = apply_swaps all_texts swaps

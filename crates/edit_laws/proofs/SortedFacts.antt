@@ -24,9 +24,10 @@ use Rattle.biblatex.specs.Places.{ClaimsAt, IsLastClaim}
 use Rattle.biblatex.specs.Resolved.{AreOwn, IsLoaded, graph_of, names_of}
 use Rattle.edit_entries.specs.Documents.{Document}
 use Rattle.edit_entries.specs.Edits.{moved_entry, moved_field}
+use Rattle.bib_collections.proofs.Roots.{entry_below}
 use Rattle.edit_laws.proofs.AlikeFacts.{DefineAlike, definitions_alike}
-use Rattle.edit_laws.proofs.LiftFacts.{as_long, at_texts, inherits_by}
-use Rattle.edit_laws.proofs.MovedFacts.{AreMoved, claim_there, names_moved, same_moved, key_at}
+use Rattle.edit_laws.proofs.LiftFacts.{as_long, at_texts, inherits_by, key_at}
+use Rattle.edit_laws.proofs.MovedFacts.{AreMoved, claim_there, names_moved, same_moved}
 use Rattle.edit_laws.proofs.ReadAlikeFacts.{AreAlikeEntries, abbreviations_alike}
 use Rattle.edit_laws.proofs.ReplacedFacts.{bare_entries_alike}
 use Rattle.edit_laws.proofs.SwapFacts.{after_swaps, after_within, before_after, before_swaps, before_within, get_swaps, length_swaps}
@@ -205,27 +206,13 @@ module _ (said tells : FileReading) (r : IsPermutedRead said tells) (own others 
     names_permuted = names_moved permuted_moved (length own) back last_claim
 
     pub unreferenced : (at : ℕ) → Contains (refs_of (graph_of own) at) (length own) → ⊥
-    unreferenced at edge = by_range (cases_lt at (length (graph_of own)))
-      where
-        rows : length (graph_of own) ≡ length own
-        rows = length-map own (λ (e : Entry). references (names_of own) (fields_of e.fields))
-
-        nothing : (g : List (List ℕ)) (i : ℕ) → length g ≤ i → refs_of g i ≡ []
-        nothing [] i above = refl
-        nothing (x ∷ g) zero above = absurd (omega (arith, above))
-        nothing (x ∷ g) (suc i) above = nothing g i (omega (arith, above))
-
-        no_edge : {x : ℕ} → Contains [] x → ⊥
-        no_edge c = omega (arith, c.1)
-
-        by_range : (at < length (graph_of own)) ⊎ (length (graph_of own) ≤ at) → ⊥
-        by_range (inl below) =
-            omega (
-              arith,
-              rows,
-              below_from_edge (graph_of own) at (length own) (graph_in_range (names_of own) own (names_below own)) below edge,
-            )
-        by_range (inr above) = no_edge (subst (λ l. Contains l (length own)) (nothing (graph_of own) at above) edge)
+    unreferenced at edge =
+        omega (
+          arith,
+          length-map own (λ (e : Entry). references (names_of own) (fields_of e.fields)),
+          below_from_edge (graph_of own) at (length own) (graph_in_range (names_of own) own (names_below own))
+              (entry_below (graph_of own) (length own) at edge) edge,
+        )
 
 -- ---- bibliographies
 

@@ -23,7 +23,7 @@ use Rattle.bib_text.specs.declared.spanned.Spanned.{Spanned}
 use Rattle.biblatex.specs.Resolved.{names_of}
 use Rattle.biblatex.proofs.ResolvedFacts.{entry_texts_same, names_go}
 use Rattle.edit_laws.proofs.AlikeFacts.{AreAlikeFields, FoundAlike, field_alike}
-use Rattle.edit_laws.proofs.ReadAlikeFacts.{AreAlikeEntries}
+use Rattle.edit_laws.proofs.ReadAlikeFacts.{AreAlikeEntries, by_texts}
 
 -- ---- the texts of a raw entry
 
@@ -66,12 +66,6 @@ texts_of_entry_are {definitions} {said} entry is = record {
 
 pub claims_are : (entry : Entry) → claims entry ≡ claims_by entry.key (texts_of_entry entry)
 claims_are entry = ap (λ names. entry.key ∷ names) (by_texts (by_name.get entry.fields (codes "ids")))
-  where
-    by_texts : (o : Option (List (Spanned Chunk)))
-        → option_map_or (λ chunks. comma_texts (styled chunks)) o []
-        ≡ option_map_or comma_texts (option_map styled o) []
-    by_texts None = refl
-    by_texts (Some chunks) = refl
 
 -- the texts of the entries of a file are those of its raw entries
 pub texts_are : {definitions : Definitions} {earlier : List (List ℕ)} {said : List EntryReading} {own : List Entry}

@@ -10,7 +10,7 @@ use Rattle.bib_file_entries.specs.Loaded.{definition_in}
 use Rattle.bib_syntax.specs.Grammar.{is_word}
 use Rattle.bib_syntax.specs.Reading.{EntryReading, FieldReading, FileReading, Piece}
 use Rattle.bib_syntax.specs.Reading.Piece.{abbreviation, literal}
-use Rattle.bib_text.proofs.ListFacts.{all_append, some_same, found_has}
+use Rattle.bib_text.proofs.ListFacts.{all_append, some_same, found_has, all_reverse}
 use Rattle.edit_laws.proofs.DefinedFacts.{own_word}
 use Rattle.edit_strings.specs.Collected.{definition_names, element_names, is_one_in_any_case, names_of_file, used_names}
 use Rattle.edit_strings.specs.Expanded.{elements}
@@ -60,11 +60,6 @@ module _ (says : FileReading) where
     definitions_in fs
         (λ name listed. inside name (right_listed (f.name.text ∷ element_names (elements f)) (definition_names fs) name listed)),
   )
-
-  all_reverse : {A : Type 0} (P : A → Type 0) (xs : List A) → AllByRecursion P xs → AllByRecursion P (reverse xs)
-  all_reverse P [] all = tt
-  all_reverse P (x ∷ xs) all =
-      subst (AllByRecursion P) (sym (reverse-append (x ∷ []) xs)) (all_append P (reverse xs) (x ∷ []) (all_reverse P xs all.1) (all.0, tt))
 
   pub definitions_closed : (name : List ℕ) (definition : List Piece) → definition_in says.abbreviations name ≡ Some definition
       → (next : List ℕ) → HoldsName definition next → InFile next

@@ -11,6 +11,7 @@ use Rattle.std.proofs.lemmas.List.Folds.{list_any-append}
 use Rattle.bib_queries.specs.Needed.{is_listed}
 use Rattle.bib_syntax.specs.declared.raw.Pair.{Pair}
 use Rattle.bib_syntax.specs.Views.{field_of}
+use Rattle.bib_text.proofs.BoolFacts.{cond_last}
 use Rattle.edit_resolve.specs.Inheritance.{read_name, rival_names}
 use Rattle.bib_syntax.specs.Reading.{EntryReading}
 use Rattle.bib_tables.specs.declared.mechanics.EntryType.{EntryType}
@@ -95,14 +96,8 @@ one_new taken n b is = ap (λ t. cond t [] (n ∷ [])) is
 pub listed_more : (taken : List (List ℕ)) (name q : List ℕ) (has : Bool) → has ≡ is_listed taken q
     → cond (bytes_eq name q) true has ≡ is_listed (taken ++ name ∷ []) q
 listed_more taken name q has known =
-    ap (cond (bytes_eq name q) true) known ∙ turned (bytes_eq name q) (is_listed taken q)
+    ap (cond (bytes_eq name q) true) known ∙ cond_last (bytes_eq name q) (is_listed taken q)
     ∙ sym (list_any-append (λ one. bytes_eq one q) taken (name ∷ []))
-  where
-    turned : (a b : Bool) → cond a true b ≡ (b || (a || false))
-    turned true true = refl
-    turned true false = refl
-    turned false true = refl
-    turned false false = refl
 
 -- a field whose name isn't ruled out is added, and its name is taken
 pub pushed : (taken : List (List ℕ)) (fields : List Named) (n : Named) (old new : Gathered) (low : List ℕ) → low ≡ read_name n.name

@@ -3,7 +3,7 @@ use Rattle.std.proofs.Common.{◌≡◌, ℕ, ◌<◌, Bool, true, false, cond, 
 use Rattle.std.specs.List.{All, AllByRecursion, cons_option, filter_map}
 use Rattle.std.proofs.lemmas.List.{length-map, reverse-append}
 use Rattle.std.proofs.lemmas.List.Elements.{All-from_recursion, All-map}
-use Rattle.bib_text.proofs.ListFacts.{all_append}
+use Rattle.bib_text.proofs.ListFacts.{all_append, all_reverse}
 use Rattle.std.specs.Global.{Vec}
 use Rattle.bib_collections.specs.Graph.{IsInRange}
 use Rattle.bib_collections.specs.Rows.{rows}
@@ -15,13 +15,6 @@ use Rattle.edit_resolve.specs.declared.parents.Link.{Link}
 use Rattle.edit_resolve.specs.declared.parents.Link.TheVariants.{Crossref, Xdata}
 use Rattle.edit_resolve.specs.declared.parents.Parent.{Parent}
 use Rattle.edit_resolve.proofs.FileFacts.{parent_within}
-
--- if all elements have a property, so have those of the reversed list
-all_reverse : {A : Type 0} (P : A → Type 0) (xs : List A) → AllByRecursion P xs → AllByRecursion P (reverse xs)
-all_reverse P [] all = tt
-all_reverse P (x ∷ xs) all =
-    subst (AllByRecursion P) (sym (reverse-append (x ∷ []) xs))
-    (all_append P (reverse xs) (x ∷ []) (all_reverse P xs all.1) (all.0, tt))
 
 -- mapping a mapped list is mapping the list by both functions
 map_map : {A B C : Type 0} (g : B → C) (f : A → B) (xs : List A) → map g (map f xs) ≡ map (λ x. g (f x)) xs

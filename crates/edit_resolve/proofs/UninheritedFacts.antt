@@ -9,6 +9,7 @@ use Rattle.std.proofs.lemmas.List.Folds.{list_any-append}
 use Rattle.bib_text.proofs.ListFacts.{mapped_more}
 use Rattle.bib_syntax.specs.Reading.{EntryReading, FieldReading}
 use Rattle.bib_tables.specs.Requirements.{is_one_of}
+use Rattle.bib_text.proofs.BoolFacts.{cond_last}
 use Rattle.edit_resolve.specs.Inheritance.{read_name}
 use Rattle.edit_resolve.specs.Parents.{entry_at, type_of}
 use Rattle.edit_resolve.specs.Resolved.{Named, is_read_as}
@@ -40,16 +41,10 @@ pub read_more : (xs : List NamedField) (i : ℕ) (x : NamedField) (low q : List 
     → low ≡ read_name (named_of x).name → has ≡ list_any (is_read_as q) (map named_of (take i xs))
     → cond (bytes_eq low q) true has ≡ list_any (is_read_as q) (map named_of (take (i + 1) xs))
 read_more xs i x low q has within is read known =
-    ap (cond (bytes_eq low q) true) known ∙ turned (bytes_eq low q) (list_any (is_read_as q) (map named_of (take i xs)))
+    ap (cond (bytes_eq low q) true) known ∙ cond_last (bytes_eq low q) (list_any (is_read_as q) (map named_of (take i xs)))
     ∙ ap (λ l. list_any (is_read_as q) (map named_of (take i xs)) || (bytes_eq l q || false)) read
     ∙ sym (list_any-append (is_read_as q) (map named_of (take i xs)) (named_of x ∷ []))
     ∙ ap (list_any (is_read_as q)) (sym (mapped_more named_of xs i x within is))
-  where
-    turned : (a b : Bool) → cond a true b ≡ (b || (a || false))
-    turned true true = refl
-    turned true false = refl
-    turned false true = refl
-    turned false false = refl
 
 -- after the results for one more parent are added, those for the parents up to the next index are added
 pub parents_more : (each : Parent → List Uninherited) (ps : List Parent) (i : ℕ) (d : Parent) → i < length ps

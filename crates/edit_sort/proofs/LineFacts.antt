@@ -3,7 +3,7 @@ use Rattle.std.proofs.Common.{◌≡◌, ◌⊎◌, inl, inr, ℕ, zero, suc, �
 use Rattle.std.specs.Prelude.{◌&&◌, not}
 use Rattle.std.specs.Char.{is_ascii_whitespace}
 use Rattle.std.specs.List.{after_first, before_first, list_all, position_or_len}
-use Rattle.std.proofs.lemmas.Bool.{and_parts, eqb-true, false≢true}
+use Rattle.std.proofs.lemmas.Bool.{and_parts, eqb-true, false≢true, not-true}
 use Rattle.std.proofs.lemmas.List.{append-nil, drop_at, get_or-append-add, get_or-take, get_or_append_left, reverse-append, reverse-reverse, take-append-drop, take_at, take_more}
 use Rattle.std.proofs.lemmas.List.Folds.{length-prefix_len, list_all-append}
 use Rattle.std.proofs.lemmas.List.Sums.{fails_before_first, passes_at_first, split_at_first}
@@ -53,12 +53,8 @@ clear_from (b ∷ line) all k within =
     let parts = and_parts (not (is_feed b)) (list_all (λ c. not (is_feed c)) line) all in
     by_place k within parts.0 (clear_from line parts.1)
   where
-    by_not : (x : Bool) → not x ≡ true → x ≡ false
-    by_not true is = absurd (false≢true is)
-    by_not false is = refl
-
     by_place : (j : ℕ) → j < length (b ∷ line) → not (is_feed b) ≡ true → HasNoFeed line → is_feed (get_or (b ∷ line) j 0) ≡ false
-    by_place zero within' is later = by_not (is_feed b) is
+    by_place zero within' is later = not-true (is_feed b) is
     by_place (suc j) within' is later = later j (omega arith)
 
 reversed_clear : (line : List ℕ) → HasNoFeed line → HasNoFeed (reverse line)

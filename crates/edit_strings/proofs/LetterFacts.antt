@@ -136,6 +136,12 @@ word_char false false c (word ∷ words) is =
     is) in
     ap (λ l. l ++ flat_map (first_letters 1) words) same
 
+-- before a word, the letters after are the first letters of all words
+letters_at_start : (words : List (List ℕ)) → words_after false words ≡ flat_map (first_letters 1) words
+unfolding words_after
+letters_at_start [] = refl
+letters_at_start (word ∷ words) = refl
+
 letters_words : (met : Bool) (cs : List ℕ) → letters_in met cs ≡ words_after met (slice_split is_whitespace cs)
 unfolding letters_in words_after
 letters_words met [] = by_case met
@@ -155,7 +161,7 @@ letters_words met (c ∷ cs) =
     by_case true white others same =
         let none : letter_at met c ≡ [] =
         ap (λ a. cond (not met && a) (encode_utf8 (to_ascii_lowercase c)) []) (white_no_letter c white) ∙ no_letter met in
-        ap (λ l. l ++ letters_in false cs) none ∙ others ∙ from_start (slice_split is_whitespace cs)
+        ap (λ l. l ++ letters_in false cs) none ∙ others ∙ letters_at_start (slice_split is_whitespace cs)
         ∙ ap (λ l. l ++ flat_map (first_letters 1) (slice_split is_whitespace cs)) (empty met)
       where
         no_letter : (m : Bool) → cond (not m && false) (encode_utf8 (to_ascii_lowercase c)) [] ≡ []
@@ -165,10 +171,6 @@ letters_words met (c ∷ cs) =
         empty : (m : Bool) → [] ≡ cond m [] (first_letters 1 [])
         empty true = refl
         empty false = refl
-
-        from_start : (words : List (List ℕ)) → words_after false words ≡ flat_map (first_letters 1) words
-        from_start [] = refl
-        from_start (word ∷ words) = refl
     by_case false dark others same =
         ap (λ l. cond (not met && is_ascii_alphabetic c) (encode_utf8 (to_ascii_lowercase c)) [] ++ l) same
         ∙ word_char met (is_ascii_alphabetic c) c (slice_split is_whitespace cs) refl
@@ -176,8 +178,4 @@ letters_words met (c ∷ cs) =
 -- the first letters of words, found character by character, are the initials
 pub initials_are : (text : List ℕ) → letters_in false (chars text) ≡ initials text
 unfolding words_after
-initials_are text = letters_words false (chars text) ∙ from_start (slice_split is_whitespace (chars text))
-  where
-    from_start : (words : List (List ℕ)) → words_after false words ≡ flat_map (first_letters 1) words
-    from_start [] = refl
-    from_start (word ∷ words) = refl
+initials_are text = letters_words false (chars text) ∙ letters_at_start (slice_split is_whitespace (chars text))

@@ -25,6 +25,7 @@ use Rattle.bib_syntax.specs.Grammar.{Identifier, NoDigit, is_word, longest}
 use Rattle.bib_syntax.specs.Reading.{part}
 use Rattle.edit_entries.specs.Documents.{CanBeName}
 use Rattle.edit_entries.proofs.EditFacts.{ascii_stands}
+use Rattle.std.proofs.Math.Bool.{or-true}
 use Rattle.edit_strings.specs.Collected.{is_month, number_after}
 use Rattle.edit_strings.specs.Collecting.{is_plain_byte, is_plain_name}
 
@@ -146,11 +147,7 @@ numbered_no_month base n small =
     let numeral = (decimal_is_IsNumeral n small).0 in
     no_month (base ++ decimal n)
     (list_any-append is_ascii_digit base (decimal n)
-    ∙ ap (λ b. list_any is_ascii_digit base || b) (has_digit (decimal n) numeral.0 numeral.1) ∙ or_true (list_any is_ascii_digit base))
-  where
-    or_true : (b : Bool) → (b || true) ≡ true
-    or_true true = refl
-    or_true false = refl
+    ∙ ap (λ b. list_any is_ascii_digit base || b) (has_digit (decimal n) numeral.0 numeral.1) ∙ or-true (list_any is_ascii_digit base))
 
 -- ---- plain names are in lowercase
 

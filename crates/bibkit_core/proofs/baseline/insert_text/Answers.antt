@@ -6,7 +6,7 @@ use Rattle.std.specs.Prelude.{bytes_eq, option_to_list}
 use Rattle.std.specs.String.{string_bytes}
 use Rattle.std.proofs.lemmas.Map.Text.{btree_set_updates_text}
 use Rattle.bib_queries.specs.Needed.{is_listed}
-use Rattle.bibkit_core.proofs.BaselineFacts.{one_listed}
+use Rattle.bib_queries.proofs.CitationFacts.{one_listed}
 use Rattle.bibkit_core.proofs.baseline.insert_text.Goals as goal
 
 pub returns-in_ok-insert : goal.returns-in_ok-insert

@@ -1,8 +1,9 @@
 use Rattle.std.proofs.Common.{◌≡◌, ◌∙◌, ◌+◌, ◌-◌, arith, drop, ap, get_or, length, subst, sym, take}
+use Rattle.bib_text.proofs.ListFacts.{take_to_end}
 use Rattle.bibkit_core.specs.Database.{AreFilesPrinted, count_of_file, no_findings}
 use Rattle.std.specs.String.{string_bytes}
 use Rattle.std.proofs.lemmas.List.{length-drop}
-use Rattle.bibkit_core.proofs.DatabaseFacts.{files_all, files_more, left_is}
+use Rattle.bibkit_core.proofs.DatabaseFacts.{files_all, files_more}
 use Rattle.bibkit_core.proofs.database.print_files.Goals as goal
 
 pub files-preserved : goal.files-preserved
@@ -14,13 +15,13 @@ files-preserved c =
           (c.count_of_file-count.ensures.count
           ∙ ap (λ later. count_of_file later (get_or ends c.files.index 0)
           (take (length c.args.found.now - c.files.first) (drop c.files.first c.args.found.now)))
-          (left_is ends (c.files.index + 1))
-          ∙ ap (count_of_file (drop (c.files.index + 1) ends) (get_or ends c.files.index 0)) (left_is c.args.found.now c.files.first))
-          (ap (take c.count_of_file-count.result) (left_is c.args.found.now c.files.first)) c.in_ok-print_file.ensures c.files.invariant.0,
+          (take_to_end ends (c.files.index + 1))
+          ∙ ap (count_of_file (drop (c.files.index + 1) ends) (get_or ends c.files.index 0)) (take_to_end c.args.found.now c.files.first))
+          (ap (take c.count_of_file-count.result) (take_to_end c.args.found.now c.files.first)) c.in_ok-print_file.ensures c.files.invariant.0,
       omega (
         arith,
         c.count_of_file-count.ensures.within,
-        ap length (left_is c.args.found.now c.files.first),
+        ap length (take_to_end c.args.found.now c.files.first),
         length-drop c.files.first c.args.found.now,
         c.files.invariant.1,
       ),

@@ -1,9 +1,10 @@
 use Rattle.std.proofs.Common.{[], ◌∷◌, ◌++◌, ap, subst, sym, ◌∙◌}
 use Rattle.std.specs.List.{AllZip}
 use Rattle.std.proofs.lemmas.List.{take_all, take_more}
+use Rattle.bib_text.proofs.ListFacts.{all_zip_push}
 use Rattle.bibkit_core.specs.Joining.{with_rule}
 use Rattle.bibkit_core.specs.Sarif.{IsRuleOf}
-use Rattle.bibkit_core.proofs.SarifFacts.{rules_more, zip_more}
+use Rattle.bibkit_core.proofs.SarifFacts.{rules_more}
 use Rattle.bibkit_core.proofs.sarif.rule_elements.Goals as goal
 
 pub codes-preserved : goal.codes-preserved
@@ -13,7 +14,7 @@ codes-preserved c =
     let items = c.all-code-items.result.now in (
       rules ++ rule ∷ [],
       subst (λ codes. AllZip IsRuleOf codes (rules ++ rule ∷ [])) (sym (take_more items c.codes.code-index _ c.codes-test.true))
-          (zip_more IsRuleOf _ rules _ rule of_codes is_of),
+          (all_zip_push IsRuleOf _ rules _ rule of_codes is_of),
       added ∙ ap (λ t. with_rule t rule) are ∙ sym (rules_more rules rule),
     )
 

@@ -1,8 +1,9 @@
 use Rattle.std.proofs.Common.{◌∙◌}
 use Rattle.std.proofs.lemmas.Result.{err_from_is_err_and}
 use Rattle.bib_entry.specs.WrittenEntries.{entry_in}
+use Rattle.bib_text.proofs.OptionFacts.{ok_differs}
 use Rattle.biblatex.proofs.HandingFacts.{next_taken, stopped_at, texts_at}
-use Rattle.biblatex.proofs.WritingFacts.{next_written, not_first, appends_more, ok_differs}
+use Rattle.biblatex.proofs.WritingFacts.{next_written, not_first, appends_more}
 use Rattle.biblatex.proofs.write.hand.Goals as goal
 
 pub entries-preserved : goal.entries-preserved
