@@ -12,12 +12,8 @@ use Rattle.bib_chunks.specs.declared.chunk.Chunk.{Chunk}
 use Rattle.bib_chunks.specs.declared.chunk.Chunk.TheVariants.{Verbatim}
 use Rattle.bib_text.specs.declared.spanned.Spanned.{Spanned}
 use Rattle.bib_text.specs.Places.{Place, CharAt, Run, Longest, AtEnd, between}
-use Rattle.bib_chunks.specs.Formatted.{is_break, ends_in_space, char_on_line, flowing, space_after, formatted_chunk, formatted_chars_after, upper_or_lower, sentence_case, sentence_after}
+use Rattle.bib_chunks.specs.Formatted.{is_break, ends_in_space, char_on_line, flowing, space_after, formatted_chunk, formatted_chars_after, upper_or_lower, sentence_case, sentence_after, is_unbroken}
 use Rattle.bib_text.proofs.TextFacts.{ahead, MovesPast, passed_char, passed_run, passed_between, written_more, written_all, chars_at_end, chars_past, chars_whole}
-
--- whether a character isn't a line break
-abbrev pub goes_on : ℕ → Bool
-goes_on c = not (is_break c)
 
 -- the replacement of a line break
 abbrev pub gap : Bool → List ℕ
@@ -48,11 +44,11 @@ ends_of_none empty [] none = sym (ap (ends_in_space empty) chars-nil)
 ends_of_none empty (b ∷ bs) none = absurd (omega arith)
 
 -- a run without line breaks is unchanged
-pub flowing_run : (space : Bool) (cs rest : List ℕ) → list_all goes_on cs ≡ true
+pub flowing_run : (space : Bool) (cs rest : List ℕ) → list_all is_unbroken cs ≡ true
     → flowing space (cs ++ rest) ≡ cs ++ flowing (ends_in_space space cs) rest
 flowing_run space [] rest all = refl
 flowing_run space (c ∷ cs) rest all =
-    let parts = and_parts (goes_on c) (list_all goes_on cs) all in
+    let parts = and_parts (is_unbroken c) (list_all is_unbroken cs) all in
     let stays : char_on_line space c ≡ c ∷ [] = cond-false (is_break c) _ _ (not-true (is_break c) parts.0) in
     ap (λ xs. xs ++ flowing (ends_in_space space xs) (cs ++ rest)) stays ∙ ap (λ xs. c ∷ xs) (flowing_run (is_whitespace c) cs rest parts.1)
 
@@ -68,7 +64,7 @@ flowing_break space c rest breaks =
     ap (λ xs. xs ++ flowing (ends_in_space space xs) rest) becomes ∙ ap (λ b. gap space ++ flowing b rest) (gap_ends space)
 
 -- a run was written
-run_written : (out one total run : List ℕ) {u w : Place} (space after ends : Bool) → Run goes_on u w → IsUtf8 (ahead u)
+run_written : (out one total run : List ℕ) {u w : Place} (space after ends : Bool) → Run is_unbroken u w → IsUtf8 (ahead u)
     → IsUtf8 run → run ≡ between u w
     → one ≡ out ++ run → after ≡ ends_in_space space (chars run)
     → out ++ encode_utf8_all (flowing space (chars (ahead u))) ≡ total → ends_in_space space (flowing space (chars (ahead u))) ≡ ends
@@ -91,7 +87,7 @@ run_written out one total run {u} {w} space after ends runs utf8 run_utf8 is_run
 
 -- a run was written, and then the replacement of a line break
 pub flowing_step : (out one two total run : List ℕ) {u w x : Place} {c : ℕ} (space after ends : Bool)
-    → Longest goes_on u w → IsUtf8 (ahead u) → IsUtf8 run → run ≡ between u w → CharAt w c x
+    → Longest is_unbroken u w → IsUtf8 (ahead u) → IsUtf8 run → run ≡ between u w → CharAt w c x
     → one ≡ out ++ run → after ≡ ends_in_space space (chars run) → two ≡ one ++ encode_utf8_all (gap after)
     → out ++ encode_utf8_all (flowing space (chars (ahead u))) ≡ total → ends_in_space space (flowing space (chars (ahead u))) ≡ ends
     → (x.text ≡ u.text) × IsUtf8 (ahead x) × (two ++ encode_utf8_all (flowing true (chars (ahead x))) ≡ total)
@@ -113,7 +109,7 @@ flowing_step out one two total run {u} {w} {x} {c} space after ends longest utf8
     )
 
 -- a run was written, and the text ends
-pub flowing_end : (out one total run : List ℕ) {u w : Place} (space after ends : Bool) → Longest goes_on u w
+pub flowing_end : (out one total run : List ℕ) {u w : Place} (space after ends : Bool) → Longest is_unbroken u w
     → IsUtf8 (ahead u) → IsUtf8 run → run ≡ between u w → AtEnd w
     → one ≡ out ++ run → after ≡ ends_in_space space (chars run)
     → out ++ encode_utf8_all (flowing space (chars (ahead u))) ≡ total → ends_in_space space (flowing space (chars (ahead u))) ≡ ends

@@ -7,8 +7,8 @@ use Rattle.std.proofs.lemmas.Str.{encodes-chars, chars-IsAscii, encodes-IsAscii}
 use Rattle.std.proofs.lemmas.Bool.{and_parts}
 use Rattle.std.proofs.lemmas.Bool.Decides.{nat_tests}
 use Rattle.bib_chunks.specs.declared.chunk.Chunk.TheVariants.{Normal, Verbatim}
-use Rattle.bib_chunks.specs.Formatted.{flowing}
-use Rattle.bib_chunks.proofs.FormattedFacts.{goes_on, flowing_run}
+use Rattle.bib_chunks.specs.Formatted.{flowing, is_unbroken}
+use Rattle.bib_chunks.proofs.FormattedFacts.{flowing_run}
 use Rattle.bib_chunks.specs.Values.{text, alone}
 
 -- a verbatim chunk formats to its text
@@ -17,26 +17,26 @@ verbatim_text t utf8 = ap encode_utf8_all (append-nil (chars t)) ∙ encodes-cha
 
 -- whether a byte is ASCII and not a line break
 abbrev pub is_simple : ℕ → Bool
-is_simple b = nat_lt b 128 && goes_on b
+is_simple b = nat_lt b 128 && is_unbroken b
 
 pub simple_ascii : (t : List ℕ) → list_all is_simple t ≡ true → IsAscii t
 simple_ascii [] all k = omega arith
 simple_ascii (b ∷ t) all zero =
     let parts = and_parts (is_simple b) (list_all is_simple t) all in
-    let small : nat_lt b 128 ≡ true = (and_parts (nat_lt b 128) (goes_on b) parts.0).0 in
+    let small : nat_lt b 128 ≡ true = (and_parts (nat_lt b 128) (is_unbroken b) parts.0).0 in
     grind (arith, nat_tests)
 simple_ascii (b ∷ t) all (suc k) = simple_ascii t (and_parts (is_simple b) (list_all is_simple t) all).1 k
 
 -- simple bytes are no line breaks
-simple_goes : (t : List ℕ) → list_all is_simple t ≡ true → list_all goes_on t ≡ true
+simple_goes : (t : List ℕ) → list_all is_simple t ≡ true → list_all is_unbroken t ≡ true
 simple_goes [] all = refl
 simple_goes (b ∷ t) all =
     let parts = and_parts (is_simple b) (list_all is_simple t) all in
-    let both = and_parts (nat_lt b 128) (goes_on b) parts.0 in
+    let both = and_parts (nat_lt b 128) (is_unbroken b) parts.0 in
     rw both.1 (simple_goes t parts.1)
 
 -- a text without line breaks is unchanged on one line
-pub flowing_whole : (space : Bool) (cs : List ℕ) → list_all goes_on cs ≡ true → flowing space cs ≡ cs
+pub flowing_whole : (space : Bool) (cs : List ℕ) → list_all is_unbroken cs ≡ true → flowing space cs ≡ cs
 flowing_whole space cs all = ap (flowing space) (sym (append-nil cs)) ∙ flowing_run space cs [] all ∙ append-nil cs
 
 -- a normal chunk of such bytes formats to its text

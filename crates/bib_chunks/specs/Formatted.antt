@@ -16,6 +16,10 @@ use Rattle.bib_text.specs.Characters as char
 abbrev pub is_break : ℕ → Bool
 is_break c = c == char.line_feed || c == char.carriage_return
 
+-- the characters that don't break a line
+abbrev pub is_unbroken : ℕ → Bool
+is_unbroken c = not (is_break c)
+
 -- whether a text ends in white space; for an empty text it is `empty`
 abbrev pub ends_in_space : Bool → List ℕ → Bool
 ends_in_space empty [] = empty

@@ -10,10 +10,11 @@ use Rattle.std.specs.Char.{len_utf8}
 use Rattle.std.specs.Prelude.{encode_utf8}
 use Rattle.bib_text.specs.Places.{Place, place, between}
 use Rattle.bib_text.proofs.TextFacts.{chars_whole, chars_past, encode_one}
+use Rattle.bib_text.specs.Runs.{leading_run}
 use Rattle.bib_contents.specs.Contents.{ContentUnit, begins, balances, unit_spelling, fits, IsNext}
 use Rattle.bib_contents.specs.Arguments.{Closes, Encloses}
 use Rattle.bib_contents.specs.Progress.{left, Passes}
-use Rattle.bib_contents.proofs.UnitFacts.{prefix, first_unit, unit_first}
+use Rattle.bib_contents.proofs.UnitFacts.{first_unit, unit_first}
 use Rattle.bib_contents.proofs.ProgressFacts.{passes_then, passes_none}
 
 -- the place after passed characters is in the text if the place before them is
@@ -89,9 +90,9 @@ after_first same = ap (drop 1) same
 pub no_formula : (text : List ℕ) → list_all (λ c. not (c == 36)) text ≡ true → (u : ContentUnit) (rest : List ℕ)
     → IsNext false u (36 ∷ text) rest → ⊥
 no_formula text all u rest one =
-    let is : ContentUnit.formula (prefix (λ d. not (d == 36)) text) ≡ u =
+    let is : ContentUnit.formula (leading_run (λ d. not (d == 36)) text) ≡ u =
     ap (first_unit false) one.spells ∙ unit_first false u rest one.fits in
-    let inside = prefix (λ d. not (d == 36)) text in
+    let inside = leading_run (λ d. not (d == 36)) text in
     let spelt : text ≡ (inside ++ 36 ∷ []) ++ rest = after_first (one.spells ∙ ap (λ x. unit_spelling x ++ rest) (sym is)) in
     without_dollar inside rest (rw spelt at all)
 

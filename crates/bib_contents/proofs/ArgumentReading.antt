@@ -4,7 +4,7 @@ use Rattle.std.specs.Prelude.{◌==◌, ◌/◌, ◌%◌, encode_utf8_all}
 use Rattle.std.specs.Char.{is_whitespace}
 use Rattle.std.specs.List.{list_all}
 use Rattle.std.proofs.lemmas.Bool.{cases_Bool, and_parts, and_from, both_ways, not-true, eqb-true, lt-ltb}
-use Rattle.bib_chunks.specs.Formatted.{is_break}
+use Rattle.bib_chunks.specs.Formatted.{is_break, is_unbroken}
 use Rattle.bib_chunks.specs.Styled.{Atom}
 use Rattle.bib_chunks.specs.Written.{is_grouping, is_reserved}
 use Rattle.bib_contents.specs.Arguments.{IsReadTo, flat_if, argument_written, unit_written}
@@ -12,7 +12,6 @@ use Rattle.bib_contents.specs.Commands.{command_text}
 use Rattle.bib_contents.specs.ContentErrors.{ContentFails, UnitFails}
 use Rattle.bib_contents.specs.ContentErrors.ContentFails.{ended, inside, unopened}
 use Rattle.bib_contents.specs.Contents.{Argument, ContentUnit, IsNext, begins, character, dashes, fits, inner_text, is_blank, is_closable, is_empty, is_escapable, is_escaped, is_name, is_name_character, is_ordinary, is_sign, is_space, unit_text}
-use Rattle.bib_contents.specs.Effects.{is_unbroken}
 use Rattle.bib_syntax.specs.declared.raw.Token.TheVariants.{ClosingBrace}
 use Rattle.bib_syntax.specs.declared.raw.ParseErrorKind.{ParseErrorKind}
 use Rattle.bib_syntax.specs.declared.raw.ParseErrorKind.TheVariants.{UnexpectedEof, Unexpected}

@@ -19,8 +19,7 @@ use Rattle.unicode_normalization.proofs.FormsLemmas.{is_final-Nfd, quick_check-a
 use Rattle.unicode_normalization.proofs.HangulLemmas.{decompose_hangul-two, decompose_hangul-three}
 use Rattle.unicode_normalization.proofs.KeptLemmas.{list_all-normalize}
 use Rattle.unicode_normalization.proofs.OrderLemmas.{length-canonical_order}
-use Rattle.bib_chunks.specs.Formatted.{is_break}
-use Rattle.bib_contents.specs.Effects.{is_unbroken}
+use Rattle.bib_chunks.specs.Formatted.{is_break, is_unbroken}
 
 -- a character other than a line feed and a carriage return is no line break
 plain_other : (c : ℕ) → (c ≡ 10 → ⊥) → (c ≡ 13 → ⊥) → is_unbroken c ≡ true

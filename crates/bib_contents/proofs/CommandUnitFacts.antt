@@ -8,10 +8,11 @@ use Rattle.std.proofs.lemmas.List.{append_cancel_left}
 use Rattle.std.proofs.lemmas.Str.{encodes-chars, chars-nil}
 use Rattle.bib_text.specs.Places.{Place}
 use Rattle.bib_chunks.specs.Written.{is_grouping}
+use Rattle.bib_text.specs.Runs.{leading_run, rest_after}
 use Rattle.bib_contents.specs.ContentErrors.{UnitFails}
 use Rattle.bib_contents.specs.Contents.{ContentUnit, balances, is_ordinary, Argument, is_escaped, is_space, is_blank, is_name_character, is_sign, is_mark, is_accent_letter, begins, is_empty, argument_spelling, is_name, is_whole_name, takes_next, is_argument, IsNext}
 use Rattle.bib_contents.specs.Progress.{left, Passes}
-use Rattle.bib_contents.proofs.UnitFacts.{first_unit, first_argument, command_of, unit_first, escape_first, following, prefix_run, after_run, command_parts}
+use Rattle.bib_contents.proofs.UnitFacts.{first_unit, first_argument, command_of, unit_first, escape_first, prefix_run, after_run, command_parts}
 use Rattle.bib_contents.proofs.ArgumentFacts.{after_first}
 
 first_same : {c d : ℕ} {xs ys : List ℕ} → c ∷ xs ≡ d ∷ ys → c ≡ d
@@ -85,7 +86,7 @@ no_command : (c : ℕ) (cs space after rest : List ℕ) (u : ContentUnit) → is
 no_command c cs space after rest u name whole white stops none one =
     let argument = first_argument (takes_next (c ∷ cs) space) (not (is_empty space)) after in
     let found =
-    ap (λ xs. command_of (c ∷ cs) xs (following is_space (space ++ after)))
+    ap (λ xs. command_of (c ∷ cs) xs (rest_after is_space (space ++ after)))
     (prefix_run is_space space after white stops)
     ∙ ap (λ xs. command_of (c ∷ cs) space xs) (after_run is_space space after white stops) in
     let is : ContentUnit.command (c ∷ cs) space argument ≡ u =

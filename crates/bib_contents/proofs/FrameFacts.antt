@@ -8,14 +8,14 @@ use Rattle.std.proofs.lemmas.List.{drop-take, length-take}
 use Rattle.std.proofs.lemmas.Str.{encodes-append, encodes-chars, length-le-encodes}
 use Rattle.bib_text.specs.Places.{Place}
 use Rattle.bib_text.proofs.ListFacts.{some_same}
-use Rattle.bib_chunks.specs.Formatted.{formatted_atoms}
+use Rattle.bib_chunks.specs.Formatted.{formatted_atoms, is_unbroken}
 use Rattle.bib_chunks.specs.Styled.{Atom}
 use Rattle.bib_contents.specs.Arguments.{AreKnown, Closes, IsInside, KeepsFrame, IsReadTo, IsShorterThan, StandsRight, flat_if, argument_written}
 use Rattle.bib_contents.specs.Commands.{command_text}
 use Rattle.bib_contents.specs.Contents.{Argument, ContentUnit, IsNext, Reads, character, unit_spelling, StaysBetween}
 use Rattle.bib_contents.specs.ContentErrors.{ContentFails}
 use Rattle.bib_contents.specs.Contents.Reads.{end}
-use Rattle.bib_contents.specs.Effects.{IsFit, is_unbroken, before_argument, effect_text}
+use Rattle.bib_contents.specs.Effects.{IsFit, before_argument, effect_text}
 use Rattle.bib_syntax.specs.declared.raw.ParseError.{ParseError}
 use Rattle.bib_syntax.specs.declared.raw.ParseErrorKind.{ParseErrorKind}
 use Rattle.bib_contents.specs.Progress.{left}

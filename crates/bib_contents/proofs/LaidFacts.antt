@@ -4,13 +4,12 @@ use Rattle.std.specs.Prelude.{◌==◌, codes, bytes_eq}
 use Rattle.std.specs.Char.{is_whitespace}
 use Rattle.std.specs.List.{list_all}
 use Rattle.std.proofs.lemmas.Bool.{cases_Bool, and_parts, and_from, not-true}
-use Rattle.bib_chunks.specs.Formatted.{is_break, ends_in_space, char_on_line, flowing, formatted_atoms}
+use Rattle.bib_chunks.specs.Formatted.{is_break, ends_in_space, char_on_line, flowing, formatted_atoms, is_unbroken}
 use Rattle.bib_chunks.specs.Styled.{Atom}
 use Rattle.bib_contents.specs.Arguments.{flat_if, argument_written}
 use Rattle.bib_contents.specs.Commands.{accents, symbols, stroke, with_mark, letter, bare, other, command_text}
 use Rattle.bib_text.specs.Enums.{value_named}
 use Rattle.bib_contents.specs.Contents.{begins, character}
-use Rattle.bib_contents.specs.Effects.{is_unbroken}
 use Rattle.bib_contents.proofs.BreakFacts.{plain_nfc, nfc_some}
 use Rattle.bib_contents.proofs.CommandFacts.{with_mark-push, named_passes, given_accent, given_symbol, given_other, unknown_shape}
 use Rattle.unicode_normalization.specs.Forms.{nfc}

@@ -5,17 +5,8 @@ use Rattle.std.specs.List.{list_all, list_any}
 use Rattle.std.proofs.lemmas.Bool.{and_parts, not-true, ne_eqb, eqb-true, both_ways, or_parts, cases_Bool}
 use Rattle.std.proofs.lemmas.List.{length-replicate}
 use Rattle.bib_chunks.specs.Written.{is_grouping, is_reserved}
+use Rattle.bib_text.specs.Runs.{leading_run, rest_after}
 use Rattle.bib_contents.specs.Contents.{is_escapable, ContentUnit, Argument, is_escaped, is_space, is_blank, is_name_character, is_sign, is_ordinary, begins, is_empty, balances, argument_spelling, unit_spelling, is_name, is_whole_name, takes_next, is_argument, fits}
-
--- the characters before the first one that fails the test
-abbrev pub prefix : (ℕ → Bool) → List ℕ → List ℕ
-prefix test [] = []
-prefix test (c ∷ cs) = if test c then c ∷ prefix test cs else []
-
--- the first character that fails the test, and all characters after it
-abbrev pub following : (ℕ → Bool) → List ℕ → List ℕ
-following test [] = []
-following test (c ∷ cs) = if test c then following test cs else c ∷ cs
 
 -- the characters before the brace that closes `depth` open ones and one more
 abbrev pub braces : ℕ → List ℕ → List ℕ
@@ -39,7 +30,7 @@ command_of name space rest = ContentUnit.command name space (first_argument (tak
 
 -- the command with this name, with the white space at the start of the rest of a text
 abbrev pub first_command : List ℕ → List ℕ → ContentUnit
-first_command name rest = command_of name (prefix is_space rest) (following is_space rest)
+first_command name rest = command_of name (leading_run is_space rest) (rest_after is_space rest)
 
 -- the unit that begins with a backslash, given the text after it
 abbrev pub first_escape : Bool → List ℕ → ContentUnit
@@ -49,7 +40,7 @@ first_escape is_verbatim (c ∷ cs) =
     else if is_verbatim then ContentUnit.backslash
     else if is_blank c then ContentUnit.copied c
     else if is_sign c then first_command (c ∷ []) cs
-    else first_command (c ∷ prefix is_name_character cs) (following is_name_character cs)
+    else first_command (c ∷ leading_run is_name_character cs) (rest_after is_name_character cs)
 
 -- the unit with which a text begins
 abbrev pub first_unit : Bool → List ℕ → ContentUnit
@@ -58,13 +49,13 @@ first_unit is_verbatim (c ∷ cs) =
     if c == 92 then first_escape is_verbatim cs
     else if c == 123 then ContentUnit.opening
     else if c == 125 then ContentUnit.closing
-    else if c == 36 && not is_verbatim then ContentUnit.formula (prefix (λ d. not (d == 36)) cs)
-    else if c == 45 then ContentUnit.hyphens (suc (length (prefix (λ d. d == 45) cs)))
-    else if is_space c then ContentUnit.spaces (c ∷ prefix is_space cs)
+    else if c == 36 && not is_verbatim then ContentUnit.formula (leading_run (λ d. not (d == 36)) cs)
+    else if c == 45 then ContentUnit.hyphens (suc (length (leading_run (λ d. d == 45) cs)))
+    else if is_space c then ContentUnit.spaces (c ∷ leading_run is_space cs)
     else ContentUnit.other c
 
--- the longest run of characters that pass a test is the prefix
-pub prefix_run : (test : ℕ → Bool) (cs rest : List ℕ) → list_all test cs ≡ true → begins test rest ≡ false → prefix test (cs ++ rest) ≡ cs
+-- characters that pass a test, before one that fails it, are the leading run
+pub prefix_run : (test : ℕ → Bool) (cs rest : List ℕ) → list_all test cs ≡ true → begins test rest ≡ false → leading_run test (cs ++ rest) ≡ cs
 prefix_run test [] [] all stops = refl
 prefix_run test [] (d ∷ ds) all stops = rw stops refl
 prefix_run test (c ∷ cs) rest all stops =
@@ -73,7 +64,7 @@ prefix_run test (c ∷ cs) rest all stops =
 
 -- the rest after the longest run of characters that pass a test
 pub after_run : (test : ℕ → Bool) (cs rest : List ℕ) → list_all test cs ≡ true → begins test rest ≡ false
-    → following test (cs ++ rest) ≡ rest
+    → rest_after test (cs ++ rest) ≡ rest
 after_run test [] [] all stops = refl
 after_run test [] (d ∷ ds) all stops = rw stops refl
 after_run test (c ∷ cs) rest all stops =
@@ -101,7 +92,7 @@ other_than test c k passes fails = ne_eqb c k (λ same. both_ways (test k) fails
 
 -- hyphens before another character are the longest run of them
 pub hyphens_run : (n : ℕ) (rest : List ℕ) → begins (λ c. c == 45) rest ≡ false
-    → prefix (λ c. c == 45) (replicate n 45 ++ rest) ≡ replicate n 45
+    → leading_run (λ c. c == 45) (replicate n 45 ++ rest) ≡ replicate n 45
 hyphens_run zero rest stops = prefix_run (λ c. c == 45) [] rest refl stops
 hyphens_run (suc n) rest stops = ap (λ xs. 45 ∷ xs) (hyphens_run n rest stops)
 
@@ -130,7 +121,7 @@ pub command_first : (name space rest : List ℕ) (argument : Argument) → list_
     → first_command name (space ++ (argument_spelling argument ++ rest)) ≡ ContentUnit.command name space argument
 command_first name space rest argument white stops right =
     let more = argument_spelling argument ++ rest in
-    ap (λ xs. command_of name xs (following is_space (space ++ more))) (prefix_run is_space space more white stops)
+    ap (λ xs. command_of name xs (rest_after is_space (space ++ more))) (prefix_run is_space space more white stops)
     ∙ ap (λ xs. command_of name space xs) (after_run is_space space more white stops)
     ∙ ap (ContentUnit.command name space) (argument_first (takes_next name space) (not (is_empty space)) argument rest right)
 
@@ -181,9 +172,9 @@ none_any (c ∷ cs) none =
 -- a name that isn't a sign is found as a whole
 name_first : (c : ℕ) (cs tail : List ℕ) (u : ContentUnit) → list_all is_name_character cs ≡ true
     → begins is_name_character tail ≡ false → first_command (c ∷ cs) tail ≡ u
-    → first_command (c ∷ prefix is_name_character (cs ++ tail)) (following is_name_character (cs ++ tail)) ≡ u
+    → first_command (c ∷ leading_run is_name_character (cs ++ tail)) (rest_after is_name_character (cs ++ tail)) ≡ u
 name_first c cs tail u named stops found =
-    ap (λ xs. first_command (c ∷ xs) (following is_name_character (cs ++ tail))) (prefix_run is_name_character cs tail named stops)
+    ap (λ xs. first_command (c ∷ xs) (rest_after is_name_character (cs ++ tail))) (prefix_run is_name_character cs tail named stops)
     ∙ ap (first_command (c ∷ cs)) (after_run is_name_character cs tail named stops)
     ∙ found
 

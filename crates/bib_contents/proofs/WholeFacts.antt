@@ -4,12 +4,13 @@ use Rattle.std.specs.Prelude.{◌==◌}
 use Rattle.std.proofs.lemmas.Bool.{cases_Bool, and_parts, and_from, both_ways, eqb-true}
 use Rattle.bib_chunks.specs.Formatted.{is_break, flowing, formatted_atoms}
 use Rattle.bib_chunks.specs.Styled.{Atom}
+use Rattle.bib_text.specs.Runs.{leading_run}
 use Rattle.bib_contents.specs.Commands.{command_text}
 use Rattle.bib_contents.specs.Contents.{Argument, ContentUnit, Reads, begins, character, dashes, fits, inner_text, is_blank, is_space, meaning, unit_text}
 use Rattle.bib_contents.specs.Contents.Reads.{end, next}
 use Rattle.bib_contents.proofs.ArgumentReading.{name_plain, dashes_plain, escaped_plain, ordinary_plain, single_plain}
 use Rattle.bib_contents.proofs.LaidFacts.{IsCapped, IsLed, ends_in_break, ends_append, flowing_lined, begins_append, capped_plain, capped_given, alone_plain, formatted_append, formatted_normal, formatted_verbatim, led_characters, led_math, space_after}
-use Rattle.bib_contents.proofs.UnitFacts.{command_parts, first_unit, unit_first, prefix}
+use Rattle.bib_contents.proofs.UnitFacts.{command_parts, first_unit, unit_first}
 
 -- the formatted atoms of a whole text neither begin nor end with a line break
 pub record IsWhole (atoms : List Atom) : Type 0 where
@@ -111,7 +112,7 @@ added depth (ContentUnit.command name space argument) inner has = added_characte
 added depth (ContentUnit.other c) inner has = added_characters depth (ContentUnit.other c) inner has
 
 -- a text that begins with a line break begins with a unit of white space
-next_spaces : (c : ℕ) (rest : List ℕ) → is_break c ≡ true → first_unit false (c ∷ rest) ≡ ContentUnit.spaces (c ∷ prefix is_space rest)
+next_spaces : (c : ℕ) (rest : List ℕ) → is_break c ≡ true → first_unit false (c ∷ rest) ≡ ContentUnit.spaces (c ∷ leading_run is_space rest)
 unfolding is_space
 next_spaces c rest breaks = elim (cases_Bool (c == 10)) [
   | inl feed ↦ rw (eqb-true c 10 feed) refl
@@ -135,10 +136,10 @@ some_after c depth [] atoms breaks follows read none = both_ways false refl foll
 some_after c depth (d ∷ ds) atoms breaks follows
     (next {u = u} {rest = rest} {inner = inner} {atoms = more} one closable argument read) none =
     let same : d ≡ c = eqb-true d c follows in
-    let is : u ≡ ContentUnit.spaces (d ∷ prefix is_space ds) =
+    let is : u ≡ ContentUnit.spaces (d ∷ leading_run is_space ds) =
     sym (unit_first false u rest one.fits) ∙ ap (first_unit false) (sym one.spells)
     ∙ next_spaces d ds (rw same breaks) in
-    spaces_shown depth u d (prefix is_space ds) inner more is none
+    spaces_shown depth u d (leading_run is_space ds) inner more is none
 
 -- the text after a unit for which `breaks_last` is true isn't formatted to nothing
 after_break : (u : ContentUnit) (depth : ℕ) (rest : List ℕ) (atoms : List Atom) → breaks_last u ≡ true

@@ -4,8 +4,8 @@ use lib.Utf8.{encode, encodes}
 use Rattle.std.specs.List.{list_all}
 use Rattle.std.specs.Str.{chars, IsUtf8}
 use Rattle.std.proofs.lemmas.Str.{encodes-chars}
-use Rattle.bib_chunks.specs.Formatted.{flowing}
-use Rattle.bib_chunks.proofs.FormattedFacts.{goes_on, flowing_run}
+use Rattle.bib_chunks.specs.Formatted.{flowing, is_unbroken}
+use Rattle.bib_chunks.proofs.FormattedFacts.{flowing_run}
 use Rattle.bib_csl.specs.Unmarked.{is_in_line}
 use Rattle.bib_csl.proofs.ByteFacts.{not_this, both}
 
@@ -17,10 +17,10 @@ no_return : list_all is_in_line (encode 13) ≡ false
 unfolding encode
 no_return = refl
 
-char_in_line : (c : ℕ) → list_all is_in_line (encode c) ≡ true → goes_on c ≡ true
+char_in_line : (c : ℕ) → list_all is_in_line (encode c) ≡ true → is_unbroken c ≡ true
 char_in_line c good = rw (not_this is_in_line 10 c no_line_feed good) (rw (not_this is_in_line 13 c no_return good) refl)
 
-all_in_line : (cs : List ℕ) → list_all is_in_line (encodes cs) ≡ true → list_all goes_on cs ≡ true
+all_in_line : (cs : List ℕ) → list_all is_in_line (encodes cs) ≡ true → list_all is_unbroken cs ≡ true
 all_in_line [] h = refl
 all_in_line (c ∷ cs) h = let p = both is_in_line c cs h in rw (char_in_line c p.0) (all_in_line cs p.1)
 

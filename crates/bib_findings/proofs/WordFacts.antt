@@ -12,17 +12,13 @@ use Rattle.std.proofs.lemmas.Slice.Eq.{bytes_eq-Decides}
 use Rattle.std.proofs.lemmas.Str.{encodes-append, length-encode, len_utf8_bounds}
 use Rattle.bib_text.proofs.TextFacts.{chars_whole}
 use Rattle.bib_text.proofs.ListFacts.{drop_is}
+use Rattle.bib_chunks.specs.Cuts.{prepend}
 use Rattle.bib_findings.specs.Identities.{is_brace, spaced_words}
 use Rattle.bib_findings.specs.Words.{ends_before, spaced_word, words_text}
 
 -- the characters without braces
 abbrev pub kept : List ℕ → List ℕ
 kept = filter (λ c. not (is_brace c))
-
--- the parts, with these characters put before the first part
-abbrev pub after_word : List ℕ → List (List ℕ) → List (List ℕ)
-after_word word [] = word ∷ []
-after_word word (part ∷ parts) = (word ++ part) ∷ parts
 
 -- the parts that aren't empty, which are the words
 abbrev pub words_among : List (List ℕ) → List (List ℕ)
@@ -34,13 +30,13 @@ words_before is_first = take_while (λ word. not (ends_before is_first word))
 
 -- the text of the words in the remaining characters; `word` contains the characters that the first word already has
 abbrev pub left_text : Bool → List ℕ → List ℕ → List ℕ
-left_text is_first word rest = spaced_words (words_before is_first (words_among (after_word word (slice_split is_whitespace rest))))
+left_text is_first word rest = spaced_words (words_before is_first (words_among (prepend word (slice_split is_whitespace rest))))
 
-after_none : (parts : List (List ℕ)) → (first : List ℕ) (rest : List (List ℕ)) → parts ≡ first ∷ rest → after_word [] parts ≡ parts
+after_none : (parts : List (List ℕ)) → (first : List ℕ) (rest : List (List ℕ)) → parts ≡ first ∷ rest → prepend [] parts ≡ parts
 after_none [] first rest is = absurd (let clash : [] ≡ first ∷ rest = is in cc)
 after_none (part ∷ parts) first rest is = refl
 
-after_more : (word : List ℕ) (c : ℕ) (parts : List (List ℕ)) → after_word word (onto_first c parts) ≡ after_word (word ++ c ∷ []) parts
+after_more : (word : List ℕ) (c : ℕ) (parts : List (List ℕ)) → prepend word (onto_first c parts) ≡ prepend (word ++ c ∷ []) parts
 after_more word c [] = refl
 after_more word c (part ∷ parts) = ap (λ first. first ∷ parts) (sym (append_assoc word (c ∷ []) part))
 
@@ -70,7 +66,7 @@ none_begun is_first characters =
 pub goes_on : (is_first : Bool) (word : List ℕ) (c : ℕ) (rest : List ℕ) → is_whitespace c ≡ false
     → left_text is_first word (c ∷ rest) ≡ left_text is_first (word ++ c ∷ []) rest
 goes_on is_first word c rest isnt =
-    ap (λ parts. spaced_words (words_before is_first (words_among (after_word word parts)))) (slice_split-cons_no is_whitespace c rest isnt)
+    ap (λ parts. spaced_words (words_before is_first (words_among (prepend word parts)))) (slice_split-cons_no is_whitespace c rest isnt)
     ∙ ap (λ parts. spaced_words (words_before is_first (words_among parts))) (after_more word c (slice_split is_whitespace rest))
 
 -- the state after `count` characters: the result is `text`, followed by the text of the remaining characters after `word`
@@ -195,7 +191,7 @@ words_space is_first characters count c text word after before within is none sp
       spelt = refl;
       left =
           left_next is_first characters count c text word before within is none
-          ∙ ap (λ l. text ++ spaced_words (words_before is_first (words_among (after_word before.begun l))))
+          ∙ ap (λ l. text ++ spaced_words (words_before is_first (words_among (prepend before.begun l))))
           (slice_split-cons_yes is_whitespace c rest space)
           ∙ ap (λ w. text ++ spaced_words (words_before is_first (words_among (w ∷ parts)))) (append-nil before.begun)
           ∙ ap (λ l. text ++ l)
@@ -214,7 +210,7 @@ pub words_stop : (is_first : Bool) (characters : List ℕ) (count c : ℕ) (text
 words_stop is_first characters count c text word before within is none space utf8 stops =
     let rest : List ℕ = kept (drop (count + 1) characters) in
     sym (left_next is_first characters count c text word before within is none
-    ∙ ap (λ l. text ++ spaced_words (words_before is_first (words_among (after_word before.begun l))))
+    ∙ ap (λ l. text ++ spaced_words (words_before is_first (words_among (prepend before.begun l))))
     (slice_split-cons_yes is_whitespace c rest space)
     ∙ ap (λ w. text ++ spaced_words (words_before is_first (words_among (w ∷ slice_split is_whitespace rest)))) (append-nil before.begun)
     ∙ ap (λ l. text ++ l)

@@ -6,15 +6,11 @@ use Rattle.std.specs.Char.{is_ascii_alphanumeric, is_ascii_whitespace}
 use Rattle.std.specs.List.{flat_map, starts_with}
 use Rattle.bib_text.specs.Characters as char
 use Rattle.bib_syntax.specs.Reading.{EntryReading}
+use Rattle.bib_text.specs.Runs.{rest_after}
 use Rattle.bib_findings.specs.EntryNames.{entry_name}
 use Rattle.bib_findings.specs.Errors.{finding_at}
 use Rattle.bib_findings.specs.declared.codes.Code.TheVariants.{StrayField}
 use Rattle.bib_findings.specs.declared.finding.Finding.{Finding}
-
--- a text without the bytes at its start that pass a test
-abbrev pub after_all : (ℕ → Bool) → List ℕ → List ℕ
-after_all test [] = []
-after_all test (b ∷ rest) = if test b then after_all test rest else b ∷ rest
 
 -- a text without a comma at its start
 abbrev pub after_one_comma : List ℕ → List ℕ
@@ -28,13 +24,13 @@ is_field_name_byte b = is_ascii_alphanumeric b || b == char.hyphen || b == char.
 -- whether a text begins with a name, maybe ASCII white space, and an equals sign
 abbrev pub begins_field : List ℕ → Bool
 begins_field text =
-    let rest : List ℕ = after_all is_field_name_byte text in
-    not (length rest == length text) && starts_with eqb (after_all is_ascii_whitespace rest) (codes "=")
+    let rest : List ℕ = rest_after is_field_name_byte text in
+    not (length rest == length text) && starts_with eqb (rest_after is_ascii_whitespace rest) (codes "=")
 
 -- whether the text after an entry reads as a field, maybe after a comma
 abbrev pub reads_as_field : List ℕ → Bool
 reads_as_field text =
-    begins_field (after_all is_ascii_whitespace (after_one_comma (after_all is_ascii_whitespace text)))
+    begins_field (rest_after is_ascii_whitespace (after_one_comma (rest_after is_ascii_whitespace text)))
 
 -- the finding of an entry at its closing brace
 abbrev pub stray_finding : EntryReading → Finding

@@ -7,11 +7,11 @@ use Rattle.std.specs.List.{list_any}
 use Rattle.std.specs.Str.{trim}
 use Rattle.bib_text.specs.Characters as char
 use Rattle.bib_syntax.specs.Reading.{EntryReading}
+use Rattle.bib_text.specs.Runs.{rest_after}
 use Rattle.bib_findings.specs.Entries.{field_place}
 use Rattle.bib_findings.specs.Errors.{finding_at}
 use Rattle.bib_findings.specs.Fields.{named_message}
 use Rattle.bib_findings.specs.Identities.{own_literal}
-use Rattle.bib_findings.specs.Stray.{after_all}
 use Rattle.bib_findings.specs.declared.codes.Code.TheVariants.{UrlScheme}
 use Rattle.bib_findings.specs.declared.finding.Finding.{Finding}
 
@@ -31,7 +31,7 @@ begins_with_colon (b ∷ rest) = b == char.colon
 
 -- whether a text begins with a scheme and a colon: an ASCII letter, then ASCII letters, digits, `+`, `-` and `.`, and then the colon
 abbrev pub begins_with_scheme : List ℕ → Bool
-begins_with_scheme text = begins_with_letter text && begins_with_colon (after_all is_scheme_byte text)
+begins_with_scheme text = begins_with_letter text && begins_with_colon (rest_after is_scheme_byte text)
 
 -- whether a text with this byte may be more than a single URL: ASCII white space, a backslash or a brace
 abbrev pub is_more_than_url : ℕ → Bool

@@ -3,10 +3,11 @@
 ghost use Rattle.std.specs.Prelude.{◌≡◌, ◌++◌, ◌<◌, All, drop, eqb, codes, length, map, IfOk, OnOk};
 ghost use Rattle.std.specs.Char.{is_ascii_whitespace};
 ghost use Rattle.std.specs.List.{starts_with};
+ghost use Rattle.bib_text.specs.Runs.{rest_after};
 ghost use Rattle.bib_syntax.specs.Views.{entry_reading_of};
 ghost use Rattle.bib_findings.specs.Duplicates.{entries_at};
 ghost use Rattle.bib_findings.specs.Stray as spec;
-ghost use Rattle.bib_findings.specs.Stray.{after_all, stray_findings, stray_of};
+ghost use Rattle.bib_findings.specs.Stray.{stray_findings, stray_of};
 
 use crate::codes::Code;
 use crate::entry_names::entry_name;
@@ -18,7 +19,7 @@ use std::alloc::{AllocError, Global};
 
 // Returns bytes without the ASCII white space at their start.
 fn after_white(bytes: &[u8]) -> &[u8]
-    ensures { result.now ≡ after_all is_ascii_whitespace bytes.now }
+    ensures { result.now ≡ rest_after is_ascii_whitespace bytes.now }
 {
     'bytes: for (index, b) in bytes.iter().enumerate() {
         if !b.is_ascii_whitespace() {
@@ -37,7 +38,7 @@ fn is_field_name_byte(b: u8) -> bool
 
 // Returns bytes without those at their start that names of fields usually contain.
 fn after_name(bytes: &[u8]) -> &[u8]
-    ensures { result.now ≡ after_all spec.is_field_name_byte bytes.now }
+    ensures { result.now ≡ rest_after spec.is_field_name_byte bytes.now }
 {
     'bytes: for (index, b) in bytes.iter().enumerate() {
         if !is_field_name_byte(*b) {

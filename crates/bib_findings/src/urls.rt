@@ -2,8 +2,8 @@
 
 ghost use Rattle.std.specs.Prelude.{◌≡◌, ◌++◌, IfOk, OnOk};
 ghost use Rattle.std.specs.List.{list_any};
+ghost use Rattle.bib_text.specs.Runs.{rest_after};
 ghost use Rattle.bib_syntax.specs.Views.{entry_reading_of};
-ghost use Rattle.bib_findings.specs.Stray.{after_all};
 ghost use Rattle.bib_findings.specs.Urls as spec;
 ghost use Rattle.bib_findings.specs.Urls.{url_findings};
 
@@ -26,7 +26,7 @@ fn is_scheme_byte(b: u8) -> bool
 
 // Returns bytes without those at their start that may occur in a scheme.
 fn after_scheme_bytes(bytes: &[u8]) -> &[u8]
-    ensures { result.now ≡ after_all spec.is_scheme_byte bytes.now }
+    ensures { result.now ≡ rest_after spec.is_scheme_byte bytes.now }
 {
     'bytes: for (index, b) in bytes.iter().enumerate() {
         if !is_scheme_byte(*b) {

@@ -18,10 +18,9 @@ use Rattle.bib_text.proofs.ListFacts.{passed_weaker}
 use Rattle.bib_chunks.specs.declared.chunk.Chunk.{Chunk}
 use Rattle.bib_chunks.specs.declared.chunk.Chunk.TheVariants.{Normal}
 use Rattle.bib_chunks.specs.Cuts.{between_commas, chunk_part, comma_list, further, joined_parts, piece, pieces_between, with_span, trimmed_end}
-use Rattle.bib_chunks.specs.Formatted.{flowing, formatted_chars}
+use Rattle.bib_chunks.specs.Formatted.{flowing, formatted_chars, is_unbroken}
 use Rattle.bib_chunks.specs.Values.{Value, alone, text}
 use Rattle.bib_chunks.proofs.CutFacts.{split_none}
-use Rattle.bib_chunks.proofs.FormattedFacts.{goes_on}
 use Rattle.bib_chunks.proofs.SeparatedFacts.{no_place}
 use Rattle.bib_chunks.proofs.ValueFacts.{flowing_whole, is_simple, simple_ascii}
 use Rattle.bib_values.specs.Ranges.{EndsRange, IsNumber, RangeKept, RangesKept, is_dash, all_of, range_of, ranges_read, with_first}
@@ -44,7 +43,7 @@ of_page_white c is = grind (arith, nat_tests)
 of_page_comma : (c : ℕ) → is_of_page c ≡ true → (c == 44) ≡ false
 of_page_comma c is = grind (arith, nat_tests)
 
-of_page_goes : (c : ℕ) → is_of_page c ≡ true → goes_on c ≡ true
+of_page_goes : (c : ℕ) → is_of_page c ≡ true → is_unbroken c ≡ true
 of_page_goes c is = grind (arith, nat_tests)
 
 of_page_scalar : (c : ℕ) → is_of_page c ≡ true → scalar c ≡ true
@@ -282,7 +281,7 @@ part_says whole span at text = says (length text == length whole)
 page_says : (cs : List ℕ) → list_all is_of_page cs ≡ true → flowing false (chars (encode_utf8_all cs)) ++ [] ≡ cs
 page_says cs all =
     append-nil _ ∙ ap (flowing false) (chars-encodes cs (all_scalar cs all))
-    ∙ flowing_whole false cs (passed_weaker is_of_page goes_on of_page_goes cs all)
+    ∙ flowing_whole false cs (passed_weaker is_of_page is_unbroken of_page_goes cs all)
 
 first_says : (whole : List ℕ) (span : Range ℕ) (at : ℕ) (last : Bool) (cs : List ℕ) → list_all is_of_page cs ≡ true
     → formatted_chars (piece whole span at false last (encode_utf8_all cs) ∷ []) ≡ cs
@@ -434,16 +433,16 @@ all_shown r rs first rest =
 
 -- ---- the text of the field
 
-page_goes : (cs : List ℕ) → list_all is_of_page cs ≡ true → list_all goes_on cs ≡ true
-page_goes cs all = passed_weaker is_of_page goes_on of_page_goes cs all
+page_goes : (cs : List ℕ) → list_all is_of_page cs ≡ true → list_all is_unbroken cs ≡ true
+page_goes cs all = passed_weaker is_of_page is_unbroken of_page_goes cs all
 
-more_goes : (rs : List (Range ℕ)) → AllByRecursion RangeKept rs → list_all goes_on (more_chars rs) ≡ true
+more_goes : (rs : List (Range ℕ)) → AllByRecursion RangeKept rs → list_all is_unbroken (more_chars rs) ≡ true
 more_goes [] kept = refl
 more_goes (r ∷ rs) kept =
-    list_all-append goes_on (page_chars r) (more_chars rs)
+    list_all-append is_unbroken (page_chars r) (more_chars rs)
     ∙ and_from _ _ (page_goes (page_chars r) (page_of r kept.0)) (more_goes rs kept.1)
 
-text_stays : (cs : List ℕ) → scalars cs ≡ true → list_all goes_on cs ≡ true
+text_stays : (cs : List ℕ) → scalars cs ≡ true → list_all is_unbroken cs ≡ true
     → text (alone (Normal (encode_utf8_all cs))) ≡ encode_utf8_all cs
 text_stays cs valid goes =
     ap (λ t. encode_utf8_all (flowing false t ++ [])) (chars-encodes cs valid)
@@ -456,8 +455,8 @@ shown_again r rs first rest =
     let is = all_pages r rs first rest in
     let valid : scalars cs ≡ true =
     scalars_both (page_chars r) (more_chars rs) (all_scalar (page_chars r) (page_of r first)) (more_scalar rs rest) in
-    let goes : list_all goes_on cs ≡ true =
-    list_all-append goes_on (page_chars r) (more_chars rs)
+    let goes : list_all is_unbroken cs ≡ true =
+    list_all-append is_unbroken (page_chars r) (more_chars rs)
     ∙ and_from _ _ (page_goes (page_chars r) (page_of r first)) (more_goes rs rest) in
     ap (λ t. pages_from false (chars (text (alone (Normal t))))) is
     ∙ ap (λ t. pages_from false (chars t)) (text_stays cs valid goes)

@@ -12,8 +12,8 @@ use Rattle.std.proofs.lemmas.List.Splits.{slice_split-cons_no}
 use Rattle.std.proofs.lemmas.Slice.Eq.{bytes_eq-Decides}
 use Rattle.std.proofs.lemmas.Str.{chars-IsAscii, encodes-IsAscii}
 use Rattle.bib_chunks.specs.declared.chunk.Chunk.TheVariants.{Normal}
-use Rattle.bib_chunks.specs.Formatted.{flowing, space_after}
-use Rattle.bib_chunks.proofs.FormattedFacts.{flowing_run, goes_on}
+use Rattle.bib_chunks.specs.Formatted.{flowing, space_after, is_unbroken}
+use Rattle.bib_chunks.proofs.FormattedFacts.{flowing_run}
 use Rattle.bib_chunks.specs.Values.{nowhere, text}
 use Rattle.bib_people.specs.declared.person.Person.{Person}
 use Rattle.bib_people.specs.Names.{person}
@@ -357,8 +357,8 @@ line_shown uses p k before following =
     let all = line_is uses p k in
     let t = spaced words in
     let ascii : IsAscii t = items_ascii words all in
-    let runs : list_all goes_on t ≡ true =
-    all_follow is_line_byte goes_on (λ b line. (and_parts (not (b == 61)) (goes_on b) (line_open b line)).1) t
+    let runs : list_all is_unbroken t ≡ true =
+    all_follow is_line_byte is_unbroken (λ b line. (and_parts (not (b == 61)) (is_unbroken b) (line_open b line)).1) t
     (items_bytes words all) in
     let flows : flowing false t ≡ t = ap (flowing false) (sym (append-nil t)) ∙ flowing_run false t [] runs ∙ append-nil t in
     shown_normal t before following (chars-IsAscii t ascii) flows (encodes-IsAscii t ascii)

@@ -3,6 +3,7 @@
 use Rattle.std.specs.Prelude.{ℕ, Bool, ◌==◌, ◌&&◌, ◌||◌, if◌then◌else◌, List, [], length, codes, bytes_eq}
 use Rattle.bib_tables.specs.declared.mechanics.EntryType.{EntryType}
 use Rattle.bib_tables.specs.declared.mechanics.EntryType.TheVariants as entry_type
+use Rattle.bib_from_csl.specs.LanguageNames.{first_name}
 use Rattle.bib_from_csl.specs.EntryTypes.{numbers_issues, numbers_series, stands_in_book, is_of_institution, is_among_words, may_be_volume}
 
 -- whether a variable is one of these lists of names
@@ -168,15 +169,11 @@ field_of_date name =
     else if bytes_eq name (codes "original-date") then codes "origdate"
     else []
 
--- the first name, or the other one if the first is empty
-abbrev pub either_name : List ℕ → List ℕ → List ℕ
-either_name first other = if length first == 0 then other else first
-
 -- the field for a variable in an entry of this type, or nothing; the flag says whether the item has a title of its volume
 unfoldable pub variable_field : EntryType → Bool → List ℕ → List ℕ
 variable_field kind in_work name =
-    either_name (either_name (either_name
-    (either_name (either_name (title_field kind in_work name) (word_field kind name)) (number_field kind name))
+    first_name (first_name (either_name
+    (first_name (first_name (title_field kind in_work name) (word_field kind name)) (number_field kind name))
     (identifier_field name)) (people_field name)) (field_of_date name)
 
 -- the additional field for the archive or the role that a variable implies, or nothing

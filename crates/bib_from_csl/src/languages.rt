@@ -81,7 +81,7 @@ fn other_name(tag: &str) -> &'static str
 }
 
 // Returns the first name, or the other one if the first is empty.
-fn first_name(first: &'static str, other: &'static str) -> &'static str
+pub(crate) fn first_name(first: &'static str, other: &'static str) -> &'static str
     ensures { result.now ≡ spec.first_name first.now other.now }
 {
     if first.is_empty() { other } else { first }

@@ -3,6 +3,7 @@
 ghost use Rattle.std.specs.Prelude.{◌≡◌};
 ghost use Rattle.bib_from_csl.specs.Variables as spec;
 
+use crate::languages::first_name;
 use crate::types::{counts_issues, counts_series, is_in_book, is_of_institution, is_volume};
 use bib_tables::mechanics::EntryType;
 
@@ -325,13 +326,6 @@ fn date_field(name: &str) -> &'static str
     }
 }
 
-// Returns the first name, or the other one if the first is empty.
-fn either_name(first: &'static str, other: &'static str) -> &'static str
-    ensures { result.now ≡ spec.either_name first.now other.now }
-{
-    if first.is_empty() { other } else { first }
-}
-
 // Returns the field for a variable in an entry of this type, or an empty text. `in_work` says whether the item has a title of its volume.
 // The field for `language` depends on the language, so it isn't returned here.
 #[tactic(auto, unfolding(crate::specs::Variables::variable_field))]
@@ -339,11 +333,11 @@ pub(crate) fn field_of(kind: &EntryType, in_work: bool, name: &str) -> &'static 
     ensures { result.now ≡ spec.variable_field kind.now in_work name.now }
 {
     let title = title_field(kind, in_work, name);
-    let word = either_name(title, word_field(kind, name));
-    let number = either_name(word, number_field(kind, name));
-    let identifier = either_name(number, identifier_field(name));
-    let people = either_name(identifier, people_field(name));
-    either_name(people, date_field(name))
+    let word = first_name(title, word_field(kind, name));
+    let number = first_name(word, number_field(kind, name));
+    let identifier = first_name(number, identifier_field(name));
+    let people = first_name(identifier, people_field(name));
+    first_name(people, date_field(name))
 }
 
 // Returns the additional field for the archive or the role that a variable implies, or an empty text.

@@ -7,14 +7,13 @@ use Rattle.unicode.specs.Binary.{is_uppercase, is_lowercase}
 use Rattle.ucd_derived.specs.UppercaseRanges.{uppercase_ranges}
 use Rattle.ucd_derived.specs.LowercaseRanges.{lowercase_ranges}
 use Rattle.std.specs.Str.{IsAscii, trim_start, trim_end, skip_leading_whitespace, drop_trailing_whitespace}
-use Rattle.bib_chunks.specs.Formatted.{ends_in_space}
+use Rattle.bib_chunks.specs.Formatted.{ends_in_space, is_unbroken}
 use Rattle.std.proofs.lemmas.Bool.{and_parts, and_from, cases_Bool, both_ways, not-true, ne_eqb}
 use Rattle.ucd_table.specs.Rows.{in_ranges}
 use Rattle.std.proofs.lemmas.List.Folds.{list_all_at}
 use Rattle.std.proofs.lemmas.List.FromFn.{get_or-range_with_len, length-range_with_len}
 use Rattle.std.proofs.lemmas.Bool.Decides.{nat_tests}
 use Rattle.std.proofs.lemmas.Str.{chars-IsAscii, encodes-IsAscii}
-use Rattle.bib_chunks.proofs.FormattedFacts.{goes_on}
 use Rattle.bib_people.specs.Kept.{is_capital_letter, is_small_letter, is_name_byte}
 
 -- a test that passes for the list of all ASCII bytes passes for each of them
@@ -48,7 +47,7 @@ letter_small b name = grind (arith, nat_tests)
 
 -- a byte that is neither white space, a comma, an equals sign nor a line break
 abbrev pub is_plain : ℕ → Bool
-is_plain b = not (is_whitespace b) && (not (b == 44) && (not (b == 61) && goes_on b))
+is_plain b = not (is_whitespace b) && (not (b == 44) && (not (b == 61) && is_unbroken b))
 
 plain_table : list_all (λ b. not (is_name_byte b) || is_plain b) (range_with_len 0 128) ≡ true
 plain_table = refl
@@ -92,7 +91,7 @@ line_small b line = grind (arith, nat_tests)
 
 -- a byte that is neither an equals sign nor a line break
 abbrev pub is_open : ℕ → Bool
-is_open b = not (b == 61) && goes_on b
+is_open b = not (b == 61) && is_unbroken b
 
 line_table : list_all (λ b. not (is_line_byte b) || is_open b) (range_with_len 0 128) ≡ true
 line_table = refl

@@ -10,8 +10,7 @@ use Rattle.std.proofs.lemmas.Str.{chars-IsAscii, encodes-IsAscii}
 use Rattle.bib_chunks.specs.declared.chunk.Chunk.{Chunk}
 use Rattle.bib_chunks.specs.declared.chunk.Chunk.TheVariants.{Normal}
 use Rattle.bib_text.specs.declared.spanned.Spanned.{Spanned}
-use Rattle.bib_chunks.specs.Formatted.{formatted_chars}
-use Rattle.bib_chunks.proofs.FormattedFacts.{goes_on}
+use Rattle.bib_chunks.specs.Formatted.{formatted_chars, is_unbroken}
 use Rattle.bib_chunks.specs.Cuts.{cut_at}
 use Rattle.bib_people.specs.declared.person.Person.{Person}
 use Rattle.bib_people.specs.Letters.{Letter, letters, words_of, text_of_words}
@@ -53,7 +52,7 @@ no_equals items all before following =
     let none : list_any (λ b. b == 61) (spaced items) ≡ false =
     none_of (λ b. b == 61) (spaced items)
     (all_follow is_line_byte (λ b. not (b == 61))
-    (λ b line. (and_parts (not (b == 61)) (goes_on b) (line_open b line)).0) (spaced items)
+    (λ b line. (and_parts (not (b == 61)) (is_unbroken b) (line_open b line)).0) (spaced items)
     (items_bytes items all)) in
     padded_no_equals before following (spaced items) none
 

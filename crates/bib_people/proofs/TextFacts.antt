@@ -9,8 +9,8 @@ use Rattle.std.proofs.lemmas.Bool.{and_parts, and_from, not-true, not_from_false
 use Rattle.std.proofs.lemmas.List.{append-nil}
 use Rattle.std.proofs.lemmas.Str.{chars-IsAscii, encodes-IsAscii, chars-nil}
 use Rattle.bib_chunks.specs.declared.chunk.Chunk.TheVariants.{Normal}
-use Rattle.bib_chunks.specs.Formatted.{flowing, formatted_chars, space_after}
-use Rattle.bib_chunks.proofs.FormattedFacts.{goes_on, flowing_run}
+use Rattle.bib_chunks.specs.Formatted.{flowing, formatted_chars, space_after, is_unbroken}
+use Rattle.bib_chunks.proofs.FormattedFacts.{flowing_run}
 use Rattle.bib_people.specs.Letters.{Letter, letters, Word, a_word, text_of_words}
 use Rattle.bib_people.specs.Names.{Cuts, is_low, leading, through_last, before_comma, trimmed_text, formats_to_nothing}
 use Rattle.bib_people.specs.Kept.{is_capital_letter, is_small_letter, is_name_byte, is_kept_word, name_begins, spaced}
@@ -30,12 +30,12 @@ abbrev is_text_byte : ℕ → Bool
 is_text_byte b = is_name_byte b || b == 32
 
 -- such a byte is neither a comma nor a line break
-text_plain : (b : ℕ) → is_text_byte b ≡ true → (not (is_comma b) && goes_on b) ≡ true
+text_plain : (b : ℕ) → is_text_byte b ≡ true → (not (is_comma b) && is_unbroken b) ≡ true
 text_plain b text = elim (or_cases (is_name_byte b) (b == 32) text) [
   | inl name ↦ let plain = name_plain b name in
       let one = and_parts (not (is_whitespace b)) _ plain in
       let two = and_parts (not (is_comma b)) _ one.1 in
-      and_from (not (is_comma b)) (goes_on b) two.0 (and_parts (not (b == 61)) (goes_on b) two.1).1
+      and_from (not (is_comma b)) (is_unbroken b) two.0 (and_parts (not (b == 61)) (is_unbroken b) two.1).1
   | inr space ↦ let is : b ≡ 32 = eqb-true b 32 space in rw is refl
 ]
 
@@ -67,7 +67,7 @@ is_text words all =
     let bytes =
     spaced_all is_text_byte refl words
     (all_follow (is_kept_word is_name_byte) (λ w. list_all is_text_byte w) word_bytes words all) in
-    let free = all_follow is_text_byte (λ b. not (is_comma b) && goes_on b) text_plain (spaced words) bytes in
+    let free = all_follow is_text_byte (λ b. not (is_comma b) && is_unbroken b) text_plain (spaced words) bytes in
     let skips = skip_none (spaced words) (spaced_begins words solid) in
     record {
       ascii = ascii;
@@ -75,13 +75,13 @@ is_text words all =
       spelt = encodes-IsAscii (spaced words) ascii;
       no_comma =
           none_of is_comma (spaced words)
-          (all_follow (λ b. not (is_comma b) && goes_on b) (λ b. not (is_comma b))
-          (λ b both. (and_parts (not (is_comma b)) (goes_on b) both).0) (spaced words) free);
+          (all_follow (λ b. not (is_comma b) && is_unbroken b) (λ b. not (is_comma b))
+          (λ b both. (and_parts (not (is_comma b)) (is_unbroken b) both).0) (spaced words) free);
       flows =
           ap (flowing false) (sym (append-nil (spaced words)))
           ∙ flowing_run false (spaced words) []
-          (all_follow (λ b. not (is_comma b) && goes_on b) goes_on
-          (λ b both. (and_parts (not (is_comma b)) (goes_on b) both).1) (spaced words) free)
+          (all_follow (λ b. not (is_comma b) && is_unbroken b) is_unbroken
+          (λ b both. (and_parts (not (is_comma b)) (is_unbroken b) both).1) (spaced words) free)
           ∙ append-nil (spaced words);
       skips = skips;
       start = start_none (spaced words) ascii skips;

@@ -12,13 +12,13 @@ use Rattle.bib_tables.specs.declared.dialects.Dialect.{Dialect}
 use Rattle.bib_tables.specs.declared.dialects.Dialect.TheVariants.{Biblatex, Bibtex}
 use Rattle.edit_entries.specs.Documents.{Document, has_name}
 use Rattle.edit_format.specs.Formatted.{has_percent}
-use Rattle.edit_strings.specs.Collected.{single_text}
+use Rattle.edit_strings.specs.Collected.{single_text, is_month}
 use Rattle.edit_entries.specs.Changes.{EntryChange, FieldChange, IsChanged, NewField, braced_field, braced_value}
 use Rattle.edit_entries.specs.Layouts.{sign_at}
 use Rattle.edit_entries.specs.Setting.{white_before}
 use Rattle.edit_convert.specs.Types.{PrintedType, type_by_value, type_field, type_value}
 use Rattle.edit_convert.specs.Dates.{Sides, date_sides, from_names, more_fields, part_names, to_fields, side_year}
-use Rattle.edit_convert.specs.Joined.{is_month_name, joined_text, month_value}
+use Rattle.edit_convert.specs.Joined.{joined_text, month_value}
 
 -- whether `EntryType` has no variant for a type; BibLaTeX has types without a variant, for example `artwork`
 abbrev pub is_unnamed_type : EntryType → Bool
@@ -168,7 +168,7 @@ joined_date Bibtex defines text fields = None
 
 -- whether a file defines the abbreviation of a month, in any ASCII case
 abbrev pub defines_month : List FieldReading → Bool
-defines_month abbreviations = list_any (λ f. is_month_name f.name.text) abbreviations
+defines_month abbreviations = list_any (λ f. is_month f.name.text) abbreviations
 
 -- the text of the joined date, if a field is one of its parts
 abbrev pub date_if_part : Option (List ℕ) → FieldReading → Option (List ℕ)

@@ -11,6 +11,7 @@ use Rattle.bib_dates.specs.Dates.{date_of}
 use Rattle.bib_dates.specs.Readings.{readable_value}
 use Rattle.bib_dates.specs.ThreeFields.{three_fields_of}
 use Rattle.bib_dates.specs.Written.{datetime_text, first_side}
+use Rattle.edit_strings.specs.Collected.{is_month}
 use Rattle.edit_convert.specs.Dates.{are_digits}
 
 -- whether a text is a number of one or two ASCII digits
@@ -40,14 +41,10 @@ joined_text year month day =
     if are_digits 4 year && (is_month_alone month && is_day_alone day)
     then month_date_text (readable_value (three_fields_of year (Some month) day)) else None
 
--- whether a name is the abbreviation of a month, in any ASCII case
-abbrev pub is_month_name : List ℕ → Bool
-is_month_name name = is_some (month_of_abbreviation name)
-
 -- the text of a month: one literal, or the abbreviation of a month if the file defines no such abbreviation
 abbrev pub month_value : Bool → List Piece → Option (List ℕ)
 month_value defines [] = None
 month_value defines (literal p ∷ []) = Some p.text
 month_value defines (literal p ∷ other ∷ rest) = None
-month_value defines (abbreviation p ∷ []) = if is_month_name p.text && not defines then Some p.text else None
+month_value defines (abbreviation p ∷ []) = if is_month p.text && not defines then Some p.text else None
 month_value defines (abbreviation p ∷ other ∷ rest) = None

@@ -8,6 +8,7 @@ use Rattle.bib_text.specs.Characters as char
 use Rattle.bib_text.specs.Enums.{value_named}
 use Rattle.bib_tables.specs.declared.mechanics.EntryType.{EntryType}
 use Rattle.bib_tables.specs.declared.mechanics.EntryType.TheVariants.{MastersThesis, PhdThesis, Report, TechReport, Thesis}
+use Rattle.bib_chunks.specs.Formatted.{is_break}
 use Rattle.edit_entries.specs.Changes.{NewField, braced_field}
 
 -- the value of `type` that BibLaTeX uses for a type of BibTeX that it merges with others
@@ -41,14 +42,10 @@ types_by_value Report = reports_by_value
 types_by_value TechReport = reports_by_value
 types_by_value kind = []
 
--- whether a byte ends a line
-abbrev pub is_line_end : ℕ → Bool
-is_line_end b = b == char.line_feed || b == char.carriage_return
-
 -- whether a tab occurs in the first line of a text
 abbrev pub has_tab_in_first_line : List ℕ → Bool
 has_tab_in_first_line [] = false
-has_tab_in_first_line (b ∷ bs) = if is_line_end b then false else b == char.tab || has_tab_in_first_line bs
+has_tab_in_first_line (b ∷ bs) = if is_break b then false else b == char.tab || has_tab_in_first_line bs
 
 -- a text without the ASCII white space before it
 abbrev pub without_white_before : List ℕ → List ℕ

@@ -13,6 +13,7 @@ ghost use Rattle.edit_entries.specs.Documents.{has_name};
 ghost use Rattle.bib_tables.specs.declared.dialects.Dialect.TheVariants.{Biblatex};
 ghost use Rattle.edit_format.specs.Formatted as formatted;
 ghost use Rattle.bib_syntax.specs.Views.{field_of, piece_of};
+ghost use Rattle.edit_strings.specs.Collected.{is_month};
 ghost use Rattle.edit_convert.specs.Conversions as conversions;
 ghost use Rattle.edit_convert.specs.Joined as spec;
 ghost use Rattle.edit_convert.specs.Tables.{lent_text};
@@ -153,7 +154,7 @@ fn joined_text(
 
 // Returns whether a name is the abbreviation of a month, in any ASCII case.
 fn is_month_name(name: &str) -> bool
-    ensures { result ≡ spec.is_month_name name.now }
+    ensures { result ≡ is_month name.now }
 {
     Month::from_abbreviation(name).is_some()
 }

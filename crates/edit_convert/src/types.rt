@@ -1,6 +1,7 @@
 //! Types of BibTeX that BibLaTeX has as other types with a value of the field `type`.
 
 ghost use Rattle.std.specs.Prelude.{◌≡◌, map};
+ghost use Rattle.bib_chunks.specs.Formatted.{is_break};
 ghost use Rattle.bib_tables.specs.declared.mechanics.EntryType.{EntryType};
 ghost use Rattle.bib_syntax.specs.Views.{field_of};
 ghost use Rattle.edit_convert.specs.Conversions as conversions;
@@ -75,7 +76,7 @@ fn type_by_key(kind: &EntryType, key: &str) -> Option<Printed>
 
 // Returns whether a byte ends a line.
 fn is_line_end(byte: u8) -> bool
-    ensures { result ≡ spec.is_line_end byte }
+    ensures { result ≡ is_break byte }
 {
     byte == b'\n' || byte == b'\r'
 }

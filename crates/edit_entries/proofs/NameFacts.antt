@@ -1,7 +1,7 @@
 -- Facts about new names of references.
 use Rattle.std.proofs.Common.{◌≡◌, ℕ, suc, Bool, List, [], ◌∷◌, ◌++◌, Option, Some, None, codes, map, refl, ap, ap₂, ◌∙◌, if◌then◌else◌}
 use Rattle.std.specs.Prelude.{is_some, option_and_then}
-use Rattle.std.specs.Option.{option_map_or}
+use Rattle.std.specs.Option.{option_map_or, option_or}
 use Rattle.std.specs.Str.{trim}
 use Rattle.bib_text.proofs.ListFacts.{any_same}
 use Rattle.bib_tables.specs.ReferenceFields.{is_reference_field}
@@ -10,7 +10,7 @@ use Rattle.bib_syntax.specs.Reading.{EntryReading, FieldReading, Piece}
 use Rattle.bib_syntax.specs.Reading.Piece.{abbreviation, literal}
 use Rattle.edit_entries.specs.Documents.{first_position, is_keyed}
 use Rattle.edit_entries.specs.NewKeys.{index_for, index_for_word, index_in_names, key_for, name_for}
-use Rattle.edit_entries.specs.References.{between_white, elements_of, first_found, has_alias, has_key_word, is_renamed, key_change, key_renaming, new_reference, reference_changes, renamed_element, renamed_list, renamed_text, renamed_value, renamed_where_listed, renaming, unless_other, value_change}
+use Rattle.edit_entries.specs.References.{between_white, elements_of, has_alias, has_key_word, is_renamed, key_change, key_renaming, new_reference, reference_changes, renamed_element, renamed_list, renamed_text, renamed_value, renamed_where_listed, renaming, unless_other, value_change}
 use Rattle.edit_entries.specs.declared.new_keys.Names.{Names}
 use Rattle.edit_entries.specs.declared.new_keys.NewKeys.{NewKeys}
 use Rattle.edit_entries.proofs.ReferenceFacts.{join_read}
@@ -75,6 +75,6 @@ name_known names entries keys field name own exact words aliases texts =
     let crossref : Bool = is_word field (codes "crossref") in
     ap (λ k. option_and_then (key_for k) (index_in_names names field name)) own
     ∙ ap (option_and_then (key_for keys))
-    (ap₂ (λ i o. first_found i (if crossref then o else None)) exact
+    (ap₂ (λ i o. option_or i (if crossref then o else None)) exact
     (ap (λ k. unless_other k (index_for_word names.in_lowercase name) (index_for names.aliases name)) texts
     ∙ ap₂ (unless_other (map (λ e. e.key.text) entries)) words aliases))

@@ -7,7 +7,8 @@ use Rattle.std.specs.Cmp.Lexicographic.{slice_cmp}
 use Rattle.std.specs.Ordering.{nat_cmp}
 use Rattle.std.specs.Str.{str_to_ascii_lowercase}
 use Rattle.bib_syntax.specs.Grammar.{is_word}
-use Rattle.edit_entries.specs.References.{first_found, given_keys, only, unless_other}
+use Rattle.std.specs.Option.{option_or}
+use Rattle.edit_entries.specs.References.{given_keys, only, unless_other}
 use Rattle.edit_entries.specs.declared.new_keys.Names.{Names}
 use Rattle.edit_entries.specs.declared.new_keys.NewKeys.{NewKeys}
 use Rattle.edit_entries.specs.declared.new_keys.NewKeys.TheVariants.{Each, One}
@@ -28,7 +29,7 @@ index_for_word indices name = get_by_text indices (str_to_ascii_lowercase name)
 -- the index of the entry that a name in a field means
 abbrev pub index_in_names : Names → List ℕ → List ℕ → Option ℕ
 index_in_names names field name =
-    first_found (index_for names.exact name)
+    option_or (index_for names.exact name)
     (if is_word field (codes "crossref")
     then unless_other (map (λ k. k.now) names.texts.items) (index_for_word names.in_lowercase name) (index_for names.aliases name)
     else None)

@@ -4,7 +4,7 @@
 use Rattle.std.specs.Prelude.{◌≡◌, ℕ, suc, ◌-◌, ◌<◌, ◌==◌, Bool, true, false, if◌then◌else◌, List, [], ◌∷◌, ◌++◌, codes, length, map, take, drop, Option, Some, None, bytes_eq, is_some, option_and_then, option_map, slice_get, slice_index_or, ⊤}
 use Rattle.std.specs.Borrow.{Bor}
 use Rattle.std.specs.List.{AllByRecursion, find, flat_map, join_by, list_any, slice_split}
-use Rattle.std.specs.Option.{option_map_or}
+use Rattle.std.specs.Option.{option_map_or, option_or}
 use Rattle.std.specs.Str.{trim, trim_end, trim_start}
 use Rattle.bib_text.specs.Characters as char
 use Rattle.bib_syntax.specs.Grammar.{is_word}
@@ -20,11 +20,6 @@ use Rattle.edit_entries.specs.declared.errors.EditError.{EditError}
 use Rattle.edit_entries.specs.declared.errors.EditError.TheVariants.{UnknownKey, KeyIsThere, NotAKey, NotAName, NotInBraces, NotBare, DefinitionIsThere, NoFieldLeft, OutOfMemory}
 
 -- ---- the entry that a name means
-
--- the first of two indices that is found, if there is one
-abbrev pub first_found : Option ℕ → Option ℕ → Option ℕ
-first_found (Some i) other = Some i
-first_found None other = other
 
 -- the first index, unless the second one is that of another key
 abbrev pub unless_other : List (List ℕ) → Option ℕ → Option ℕ → Option ℕ
@@ -50,7 +45,7 @@ index_in_any_case entries name =
 -- field that BibTeX reads, can also mean an entry by a key in another ASCII case.
 abbrev pub meant_index : List EntryReading → List ℕ → List ℕ → Option ℕ
 meant_index entries field name =
-    first_found (first_position (is_keyed name) entries)
+    option_or (first_position (is_keyed name) entries)
     (if is_word field (codes "crossref") then index_in_any_case entries name else None)
 
 -- the new key of the entry that a name in a field means, if the entry gets one

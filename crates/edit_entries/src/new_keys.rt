@@ -1,6 +1,7 @@
 //! New keys of entries, and the entries that names mean.
 
 ghost use Rattle.std.specs.Prelude.{◌≡◌, ℕ, List, IfOk, None, OnOk, Some, bytes_eq, if◌then◌else◌, map, option_map, slice_index_or, []};
+ghost use Rattle.std.specs.Option.{option_or};
 ghost use Rattle.bib_queries.specs.Needed.{is_listed};
 ghost use Rattle.bib_syntax.specs.Grammar.{is_word};
 ghost use Rattle.bib_syntax.specs.Views.{entry_reading_of};
@@ -8,7 +9,7 @@ ghost use Rattle.edit_entries.specs.Documents.{first_position, is_keyed};
 ghost use Rattle.edit_entries.specs.NewKeys.{index_for, index_for_word, key_for, name_for};
 ghost use Rattle.edit_entries.specs.NewKeys as spec;
 ghost use Rattle.edit_entries.specs.References as references;
-ghost use Rattle.edit_entries.specs.References.{first_found, has_alias, has_key_word, new_reference};
+ghost use Rattle.edit_entries.specs.References.{has_alias, has_key_word, new_reference};
 
 use bib_queries::names::entry_names;
 use bib_syntax::raw::{RawEntry, is_word};
@@ -61,7 +62,7 @@ fn give_index<'s>(
     index: usize,
 ) -> Result<(), AllocError>
     ensures { OnOk result ((other : List ℕ) → index_for indices.new other ≡
-        first_found (index_for indices.old other) (if bytes_eq name.now other then Some index else None)) }
+        option_or (index_for indices.old other) (if bytes_eq name.now other then Some index else None)) }
 {
     if indices.contains_key(name) {
         return Ok(());
@@ -78,7 +79,7 @@ fn give_lowercase_index(
     index: usize,
 ) -> Result<(), AllocError>
     ensures { OnOk result ((other : List ℕ) → index_for_word indices.new other ≡
-        first_found (index_for_word indices.old other) (if is_word name.now other then Some index else None)) }
+        option_or (index_for_word indices.old other) (if is_word name.now other then Some index else None)) }
 {
     let lower = name.to_ascii_lowercase(alloc)?;
     if indices.contains_key(lower.as_str()) {
@@ -95,7 +96,7 @@ fn give_indices<'s>(
     index: usize,
 ) -> Result<(), AllocError>
     ensures { OnOk result ((other : List ℕ) → index_for indices.new other ≡
-        first_found (index_for indices.old other) (if is_listed (map (λ n. n.now) names.now) other then Some index else None)) }
+        option_or (index_for indices.old other) (if is_listed (map (λ n. n.now) names.now) other then Some index else None)) }
 {
     'names: for name in names {
         give_index(indices, name, index)?;
@@ -111,14 +112,14 @@ fn give_alias_index<'s>(
     index: usize,
 ) -> Result<(), AllocError>
     ensures { OnOk result ((other : List ℕ) → index_for indices.new other ≡
-        first_found (index_for indices.old other) (if has_alias other (entry_reading_of entry.now) then Some index else None)) }
+        option_or (index_for indices.old other) (if has_alias other (entry_reading_of entry.now) then Some index else None)) }
 {
     let names = entry_names(alloc, entry)?;
     give_indices(indices, &names[1..], index)
 }
 
-// Returns the index of the first entry with each key.
-fn key_indices<'s>(
+/// Returns the index of the first entry with each key. Returns an error only if out of memory.
+pub fn key_indices<'s>(
     alloc: Global,
     entries: &[Spanned<RawEntry<'s>>],
 ) -> Result<BTreeMap<&'s str, usize>, AllocError>
@@ -147,8 +148,8 @@ fn lowercase_indices(
     Ok(indices)
 }
 
-// Returns the index of the first entry with each name in its fields `ids`.
-fn alias_indices<'s>(
+/// Returns the index of the first entry with each name in its fields `ids`. Returns an error only if out of memory.
+pub fn alias_indices<'s>(
     alloc: Global,
     entries: &[Spanned<RawEntry<'s>>],
 ) -> Result<BTreeMap<&'s str, usize>, AllocError>

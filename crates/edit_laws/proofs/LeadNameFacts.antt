@@ -2,7 +2,7 @@
 use Rattle.std.proofs.Common.{◌≡◌, inl, inr, ℕ, zero, suc, ◌+◌, ◌<◌, Bool, true, false, cond, List, [], ◌∷◌, ◌++◌, map, take, codes, Option, Some, None, refl, sym, ap, ap₂, ◌∙◌, subst, arith, ◌||◌}
 use Rattle.std.specs.Prelude.{bytes_eq, is_some, option_to_list, slice_get, slice_index_or}
 use Rattle.std.specs.List.{AllZip, list_any}
-use Rattle.std.specs.Option.{unwrap_or}
+use Rattle.std.specs.Option.{unwrap_or, option_or}
 use Rattle.std.specs.Str.{str_to_ascii_lowercase}
 use Rattle.std.proofs.lemmas.Bool.{both_ways, cases_lt, or_right, or_left}
 use Rattle.std.proofs.lemmas.List.Folds.{list_any-append}
@@ -13,7 +13,7 @@ use Rattle.bib_syntax.specs.Reading.{EntryReading}
 use Rattle.bib_queries.specs.Names.{aliases_of}
 use Rattle.edit_entries.specs.Documents.{first_position, is_keyed}
 use Rattle.edit_entries.specs.NewNames.{IsNewKeyTaken, has_word, new_keys, staying_names, kept_names}
-use Rattle.edit_entries.specs.References.{first_found, has_alias, has_key_word, index_in_any_case, meant_index, unless_other}
+use Rattle.edit_entries.specs.References.{has_alias, has_key_word, index_in_any_case, meant_index, unless_other}
 use Rattle.edit_entries.proofs.DefinitionFacts.{lower_same, word_from}
 use Rattle.edit_laws.proofs.LeadListFacts.{IsFirst, first_facts, first_is, first_same, get_take, index_of_get, none_facts, none_is, zip_back, zip_get, zip_weaker}
 use Rattle.edit_laws.specs.Renamed.{AreEarlierRenamed}
@@ -141,7 +141,7 @@ meant_there es field name i meant =
     by_exact (first_position (is_keyed name) es) (is_word field (codes "crossref")) refl meant
   where
     by_exact : (o : Option ℕ) (b : Bool) → first_position (is_keyed name) es ≡ o
-        → first_found o (cond b (index_in_any_case es name) None) ≡ Some i → (e : EntryReading) × (slice_get es i ≡ Some e)
+        → option_or o (cond b (index_in_any_case es name) None) ≡ Some i → (e : EntryReading) × (slice_get es i ≡ Some e)
     by_exact (Some k) b exact is = let f = first_facts (is_keyed name) es i (exact ∙ is) in (f.element, f.here)
     by_exact None false exact is = absurd (cc)
     by_exact None true exact is =
@@ -244,7 +244,7 @@ module _ (es gs : List EntryReading) (keys : ℕ → Option (List ℕ)) (free : 
   -- a name that means, in any ASCII case, an entry that keeps its key still means it, if no old key is exactly the name
   kept_word : (i : ℕ) (name : List ℕ) → keys i ≡ None → first_position (is_keyed name) es ≡ None
       → index_in_any_case es name ≡ Some i
-      → first_found (first_position (is_keyed name) gs) (index_in_any_case gs name) ≡ Some i
+      → option_or (first_position (is_keyed name) gs) (index_in_any_case gs name) ≡ Some i
   kept_word i name none exact any =
       let found =
       unless_facts (map (λ e. e.key.text) es) (first_position (has_key_word name) es) (first_position (has_alias name) es) i any in
@@ -265,7 +265,7 @@ module _ (es gs : List EntryReading) (keys : ℕ → Option (List ℕ)) (free : 
             let x = old_entry j h there in
             word_before i f.element name f.here none f.passes j x.0 h x.1 there (f.before j x.0 below x.1);
       }) in
-      ap (λ o. first_found o (index_in_any_case gs name)) no_exact
+      ap (λ o. option_or o (index_in_any_case gs name)) no_exact
       ∙ ap₂ (unless_other (map (λ e. e.key.text) gs)) first (alias_same name)
       ∙ unless_is (map (λ e. e.key.text) gs) (first_position (has_alias name) es) i (λ j there. same_key f g.0 g.1 found.1 j there)
     where
@@ -312,10 +312,10 @@ module _ (es gs : List EntryReading) (keys : ℕ → Option (List ℕ)) (free : 
       by_key e.0 e.1 (keys i) refl
     where
       kept : (o : Option ℕ) (b : Bool) → keys i ≡ None → first_position (is_keyed name) es ≡ o
-          → first_found o (cond b (index_in_any_case es name) None) ≡ Some i
-          → first_found (first_position (is_keyed name) gs) (cond b (index_in_any_case gs name) None) ≡ Some i
+          → option_or o (cond b (index_in_any_case es name) None) ≡ Some i
+          → option_or (first_position (is_keyed name) gs) (cond b (index_in_any_case gs name) None) ≡ Some i
       kept (Some k) b none exact is =
-          ap (λ o. first_found o (cond b (index_in_any_case gs name) None)) (kept_first i name none (exact ∙ is))
+          ap (λ o. option_or o (cond b (index_in_any_case gs name) None)) (kept_first i name none (exact ∙ is))
       kept None false none exact is = absurd (cc)
       kept None true none exact is = kept_word i name none exact is
 
@@ -323,7 +323,7 @@ module _ (es gs : List EntryReading) (keys : ℕ → Option (List ℕ)) (free : 
           → meant_index gs field (unwrap_or (keys i) name) ≡ Some i
       by_key e here (Some new) gets =
           ap (λ o. meant_index gs field (unwrap_or o name)) gets
-          ∙ ap (λ o. first_found o (cond (is_word field (codes "crossref")) (index_in_any_case gs new) None))
+          ∙ ap (λ o. option_or o (cond (is_word field (codes "crossref")) (index_in_any_case gs new) None))
           (renamed_first i e new here gets)
       by_key e here None gets =
           ap (λ o. meant_index gs field (unwrap_or o name)) gets

@@ -1,4 +1,4 @@
--- The names of the entries of a file in maps.
+-- The entries that references find, and their types.
 use Rattle.std.proofs.Common.{◌≡◌, ℕ, zero, suc, ◌+◌, ◌<◌, Bool, true, false, cond, List, [], ◌∷◌, ◌++◌, length, map, take, get_or, refl, sym, ap, ◌∙◌, arith, Option, Some, None, is_some, drop}
 use Rattle.std.specs.Prelude.{bytes_eq, ◌||◌}
 use Rattle.std.specs.Borrow.{Bor}
@@ -10,63 +10,10 @@ use Rattle.bib_tables.specs.Requirements.{is_container}
 use Rattle.bib_tables.specs.declared.mechanics.EntryType.{EntryType}
 use Rattle.edit_entries.specs.Documents.{first_position, is_keyed, next_index}
 use Rattle.edit_entries.specs.References.{has_alias}
-use Rattle.edit_resolve.specs.Parents.{container_index, entry_at, entry_index, first_index, no_reading, parent_index, type_of}
+use Rattle.std.specs.Option.{option_or}
+use Rattle.edit_resolve.specs.Parents.{container_index, entry_at, entry_index, no_reading, parent_index, type_of}
 use Rattle.edit_resolve.specs.declared.parents.Link.{Link}
 use Rattle.edit_resolve.specs.declared.parents.Link.TheVariants.{Crossref, Xdata}
-
--- the first index that passes among elements and one more is the first of theirs, or else that of the last one if it passes
-first_push : {A : Type 0} (test : A → Bool) (xs : List A) (x : A)
-    → first_position test (xs ++ x ∷ []) ≡ first_index (first_position test xs) (cond (test x) (Some (length xs)) None)
-first_push test [] x = refl
-first_push test (y ∷ ys) x =
-    ap (λ o. cond (test y) (Some 0) (next_index o)) (first_push test ys x)
-    ∙ here (test y) (first_position test ys) (test x) (length ys)
-  where
-    here : (b : Bool) (o : Option ℕ) (passes : Bool) (n : ℕ)
-        → cond b (Some 0) (next_index (first_index o (cond passes (Some n) None)))
-        ≡ first_index (cond b (Some 0) (next_index o)) (cond passes (Some (suc n)) None)
-    here true o passes n = refl
-    here false (Some i) passes n = refl
-    here false None true n = refl
-    here false None false n = refl
-
-pub first_more : {A B : Type 0} (view : A → B) (test : B → Bool) (xs : List A) (i : ℕ) (x : A) → i < length xs → x ≡ get_or xs i x
-    → first_position test (map view (take (i + 1) xs))
-    ≡ first_index (first_position test (map view (take i xs))) (cond (test (view x)) (Some i) None)
-first_more view test xs i x within is =
-    ap (first_position test) (mapped_more view xs i x within is)
-    ∙ first_push test (map view (take i xs)) (view x)
-    ∙ ap (λ n. first_index (first_position test (map view (take i xs))) (cond (test (view x)) (Some n) None))
-    (length-map (take i xs) view ∙ length-take-le i xs (omega arith))
-
--- if there is an index, another one doesn't replace it
-pub had : (o : Option ℕ) (new : Option ℕ) → is_some o ≡ true → o ≡ first_index o new
-had (Some i) new some = refl
-had None new some = absurd (cc)
-
--- giving an index to a name and then to another one is giving it to both
-pub first_first : (o : Option ℕ) (a b : Bool) (i : ℕ)
-    → first_index (first_index o (cond a (Some i) None)) (cond b (Some i) None) ≡ first_index o (cond (a || b) (Some i) None)
-first_first (Some j) a b i = refl
-first_first None true b i = refl
-first_first None false true i = refl
-first_first None false false i = refl
-
--- an index, or else no index, is the first one
-pub first_none : (o : Option ℕ) → first_index o None ≡ o
-first_none (Some i) = refl
-first_none None = refl
-
--- a name without an index gets one, and other names keep theirs
-pub added : (index : List ℕ → Option ℕ) (name other : List ℕ) (i : ℕ) → index name ≡ None
-    → cond (bytes_eq name other) (Some i) (index other) ≡ first_index (index other) (cond (bytes_eq name other) (Some i) None)
-added index name other i none = by_case (bytes_eq name other) refl
-  where
-    by_case : (b : Bool) → bytes_eq name other ≡ b
-        → cond b (Some i) (index other) ≡ first_index (index other) (cond b (Some i) None)
-    by_case true same =
-        ap (λ o. first_index o (Some i)) (sym none ∙ ap index ((bytes_eq-Decides name other).0 same))
-    by_case false other_name = sym (first_none (index other))
 
 -- the first index that passes is less than the length of the list
 pub first_within : {A : Type 0} (test : A → Bool) (xs : List A) (i : ℕ) → first_position test xs ≡ Some i → i < length xs
@@ -80,11 +27,6 @@ first_within test (x ∷ xs) i found =
     by_case false None later is = absurd (cc)
     by_case false (Some j) later is = let one_more : suc j ≡ i = cc in omega (arith, later j refl)
 
--- an option that isn't `Some` is `None`
-pub none_of : {A : Type 0} (o : Option A) → is_some o ≡ false → o ≡ None
-none_of None none = refl
-none_of (Some x) none = absurd (cc)
-
 -- the index of the entry that Biber finds by a name is less than the number of entries
 pub entry_within : (entries : List EntryReading) (name : List ℕ) (i : ℕ) → entry_index entries name ≡ Some i → i < length entries
 entry_within entries name i found =
@@ -92,7 +34,7 @@ entry_within entries name i found =
     (λ j is. first_within (is_keyed name) entries j is) (λ j is. first_within (has_alias name) entries j is) found
   where
     by_case : (o p : Option ℕ) → ((j : ℕ) → o ≡ Some j → j < length entries) → ((j : ℕ) → p ≡ Some j → j < length entries)
-        → first_index o p ≡ Some i → i < length entries
+        → option_or o p ≡ Some i → i < length entries
     by_case (Some j) p first second is = first i is
     by_case None p first second is = second i is
 
@@ -110,12 +52,6 @@ parent_within entries Xdata key i found =
         tested : (b : Bool) → cond b (Some j) None ≡ Some i → i < length entries
         tested true same = within i same
         tested false same = absurd (cc)
-
--- the names of an entry after the first one, its key, are its aliases
-pub aliases_are : (names : List (Bor (List ℕ))) (key : List ℕ) (aliases : List (List ℕ)) → map (λ n. n.now) names ≡ key ∷ aliases
-    → map (λ n. n.now) (drop 1 names) ≡ aliases
-aliases_are [] key aliases is = absurd (cc)
-aliases_are (n ∷ ns) key aliases is = cc
 
 -- the index, if the entry there has the type `xdata`, is that of the container
 pub container_found : (entries : List EntryReading) (o : Option ℕ) (i : ℕ) (b : Bool) → o ≡ Some i

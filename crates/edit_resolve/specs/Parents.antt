@@ -13,20 +13,16 @@ use Rattle.bib_tables.specs.declared.mechanics.EntryType.{EntryType}
 use Rattle.edit_entries.specs.Documents.{first_position, is_keyed, text_at}
 use Rattle.edit_entries.specs.References.{has_alias}
 use Rattle.edit_strings.specs.Collected.{single_text}
+use Rattle.std.specs.Option.{option_or}
 use Rattle.edit_resolve.specs.declared.parents.Link.{Link}
 use Rattle.edit_resolve.specs.declared.parents.Link.TheVariants.{Crossref, Xdata}
 use Rattle.edit_resolve.specs.declared.parents.Parent.{Parent}
 
 -- ---- entries
 
--- the first index, or the second one if the first is missing
-abbrev pub first_index : Option ℕ → Option ℕ → Option ℕ
-first_index (Some index) other = Some index
-first_index None other = other
-
 -- the index of the entry that Biber finds by a name: the first one with this key, or else the first one with the name in its fields `ids`
 abbrev pub entry_index : List EntryReading → List ℕ → Option ℕ
-entry_index entries name = first_index (first_position (is_keyed name) entries) (first_position (has_alias name) entries)
+entry_index entries name = option_or (first_position (is_keyed name) entries) (first_position (has_alias name) entries)
 
 -- an entry without a type, a key and fields
 abbrev pub no_reading : EntryReading

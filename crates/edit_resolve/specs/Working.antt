@@ -2,13 +2,11 @@
 -- The file, the parents, the gathered fields and the fields that entries lack, in the types of the code.
 use Rattle.std.specs.Prelude.{◌≡◌, ℕ, String, ◌<◌, ◌≤◌, Bool, if◌then◌else◌, List, [], ◌∷◌, ◌++◌, length, map, slice_index_or, Option, Some, unwrap_or}
 use Rattle.std.specs.Borrow.{Bor}
-use Rattle.std.specs.BTreeMap.{BTreeMap, get_by, get_by_text}
+use Rattle.std.specs.BTreeMap.{BTreeMap, get_by_text}
 use Rattle.std.specs.BTreeSet.{contains_text}
-use Rattle.std.specs.Cmp.Lexicographic.{slice_cmp}
 use Rattle.std.specs.Global.{Vec}
 use Rattle.std.specs.List.{AllByRecursion, find, flat_map, list_any}
 use Rattle.std.specs.Option.{option_map, option_or}
-use Rattle.std.specs.Ordering.{nat_cmp}
 use Rattle.std.specs.Str.{IsCharBoundary}
 use Rattle.bib_text.specs.Enums.{value_named}
 use Rattle.bib_queries.specs.Needed.{is_listed}
@@ -20,6 +18,7 @@ use Rattle.bib_tables.specs.declared.mechanics.EntryType.{EntryType}
 use Rattle.edit_entries.specs.Changes.{FieldChange}
 use Rattle.edit_entries.specs.Cuts.{ArePiecesCut}
 use Rattle.edit_entries.specs.Documents.{first_position, is_keyed}
+use Rattle.edit_entries.specs.NewKeys.{index_for}
 use Rattle.edit_entries.specs.Placed.{IsPlaced}
 use Rattle.edit_entries.specs.References.{has_alias}
 use Rattle.edit_resolve.specs.Inheritance.{read_name, rival_names}
@@ -35,18 +34,14 @@ use Rattle.edit_resolve.specs.declared.uninherited.UninheritedFields.{Uninherite
 
 -- ---- the file
 
--- the index that a map has for a name
-abbrev pub name_index : BTreeMap (Bor (List ℕ)) ℕ → List ℕ → Option ℕ
-name_index indices name = get_by (λ k. slice_cmp nat_cmp name k.now) indices
-
 -- the readings of the entries of a file
 abbrev pub readings : File → List EntryReading
 readings file = map entry_reading_of file.entries.now
 
 -- the names and the types of a file are those of its entries
 pub record HasNames (file : File) : Type 0 where
-  pub keys : (name : List ℕ) → name_index file.keys name ≡ first_position (is_keyed name) (readings file)
-  pub aliases : (name : List ℕ) → name_index file.aliases name ≡ first_position (has_alias name) (readings file)
+  pub keys : (name : List ℕ) → index_for file.keys name ≡ first_position (is_keyed name) (readings file)
+  pub aliases : (name : List ℕ) → index_for file.aliases name ≡ first_position (has_alias name) (readings file)
   pub types : file.types.items ≡ map type_of (readings file)
 
 -- the parents in the vectors of the code

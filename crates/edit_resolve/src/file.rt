@@ -1,20 +1,17 @@
 //! The entries of a file, which Biber finds by their names.
 
-ghost use Rattle.std.specs.Prelude.{◌≡◌, ℕ, List, None, Some, if◌then◌else◌, bytes_eq, drop, map, IfOk, OnOk};
-ghost use Rattle.bib_queries.specs.Needed.{is_listed};
+ghost use Rattle.std.specs.Prelude.{◌≡◌, map, IfOk};
 ghost use Rattle.bib_syntax.specs.Views.{entry_reading_of};
 ghost use Rattle.bib_tables.specs.Requirements as requirements;
-ghost use Rattle.edit_entries.specs.Documents.{first_position, is_keyed};
-ghost use Rattle.edit_entries.specs.References.{has_alias};
 ghost use Rattle.edit_resolve.specs.Parents as spec;
-ghost use Rattle.edit_resolve.specs.Parents.{first_index, type_of};
-ghost use Rattle.edit_resolve.specs.Working.{HasNames, name_index, readings};
+ghost use Rattle.edit_resolve.specs.Parents.{type_of};
+ghost use Rattle.edit_resolve.specs.Working.{HasNames, readings};
 
 use crate::parents::Link;
-use bib_queries::names::entry_names;
 use bib_syntax::raw::RawEntry;
 use bib_tables::mechanics::EntryType;
 use bib_text::spanned::Spanned;
+use edit_entries::new_keys::{alias_indices, key_indices};
 use std::alloc::{AllocError, Global};
 use std::collections::BTreeMap;
 
@@ -29,75 +26,6 @@ pub(crate) struct File<'a, 's> {
     aliases: BTreeMap<&'s str, usize>,
     // The types of the entries.
     pub(crate) types: Vec<EntryType>,
-}
-
-// Adds the index of a name, if the name has none yet.
-fn add_new<'s>(
-    indices: &mut BTreeMap<&'s str, usize>,
-    name: &'s str,
-    index: usize,
-) -> Result<(), AllocError>
-    ensures { OnOk result ((other : List ℕ) → name_index indices.new other ≡
-        first_index (name_index indices.old other) (if bytes_eq name.now other then Some index else None)) }
-{
-    if indices.contains_key(name) {
-        return Ok(());
-    }
-    indices.insert(name, index)?;
-    Ok(())
-}
-
-// Adds the index of each of these names that has none yet.
-fn add_all_new<'s>(
-    indices: &mut BTreeMap<&'s str, usize>,
-    names: &[&'s str],
-    index: usize,
-) -> Result<(), AllocError>
-    ensures { OnOk result ((other : List ℕ) → name_index indices.new other ≡
-        first_index (name_index indices.old other) (if is_listed (map (λ n. n.now) names.now) other then Some index else None)) }
-{
-    'names: for name in names {
-        add_new(indices, *name, index)?;
-    }
-    Ok(())
-}
-
-// Returns the index of the first entry with each key.
-fn key_indices<'s>(
-    alloc: Global,
-    entries: &[Spanned<RawEntry<'s>>],
-) -> Result<BTreeMap<&'s str, usize>, AllocError>
-    ensures { IfOk result (λ indices. (name : List ℕ) → name_index indices name ≡
-        first_position (is_keyed name) (map entry_reading_of entries.now)) }
-{
-    let mut indices = BTreeMap::new(alloc);
-    'entries: for (index, entry) in entries.iter().enumerate() {
-        add_new(&mut indices, entry.v.key.v, index)?;
-    }
-    Ok(indices)
-}
-
-// Returns names without the first one.
-fn without_first<'n, 's>(names: &'n [&'s str]) -> &'n [&'s str]
-    ensures { result.now ≡ drop 1 names.now }
-{
-    if names.is_empty() { names } else { &names[1..] }
-}
-
-// Returns the index of the first entry with each name in its fields `ids`.
-fn alias_indices<'s>(
-    alloc: Global,
-    entries: &[Spanned<RawEntry<'s>>],
-) -> Result<BTreeMap<&'s str, usize>, AllocError>
-    ensures { IfOk result (λ indices. (name : List ℕ) → name_index indices name ≡
-        first_position (has_alias name) (map entry_reading_of entries.now)) }
-{
-    let mut indices = BTreeMap::new(alloc);
-    'entries: for (index, entry) in entries.iter().enumerate() {
-        let names = entry_names(alloc, entry)?;
-        add_all_new(&mut indices, without_first(&names), index)?;
-    }
-    Ok(indices)
 }
 
 // Returns the types of entries.
