@@ -55,7 +55,8 @@ first_unit is_verbatim (c ∷ cs) =
     else ContentUnit.other c
 
 -- characters that pass a test, before one that fails it, are the leading run
-pub prefix_run : (test : ℕ → Bool) (cs rest : List ℕ) → list_all test cs ≡ true → begins test rest ≡ false → leading_run test (cs ++ rest) ≡ cs
+pub prefix_run : (test : ℕ → Bool) (cs rest : List ℕ) → list_all test cs ≡ true → begins test rest ≡ false
+    → leading_run test (cs ++ rest) ≡ cs
 prefix_run test [] [] all stops = refl
 prefix_run test [] (d ∷ ds) all stops = rw stops refl
 prefix_run test (c ∷ cs) rest all stops =
