@@ -26,7 +26,7 @@ count_last test all one =
     sum_by-append (λ n. cond (test n) 1 0) all (one ∷ []) in
     omega (arith, sum)
 
--- a mark that occurs counts at least once
+-- a mark that occurs in a list is counted at least once
 pub any_counts : (one : ℕ) (all : List ℕ) → list_any (nat_eq one) all ≡ true → 1 ≤ count_by (nat_eq one) all
 any_counts one [] is = absurd (let clash : false ≡ true = is in cc)
 any_counts one (first ∷ all) is =

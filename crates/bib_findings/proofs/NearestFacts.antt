@@ -147,7 +147,7 @@ extension_some name known rest n here is =
     (ap (λ b. cond b (not (bytes_eq (drop (length known) name) (codes "s"))) (ends_with nat_eq name known))
     (begins known name (drop n name) here.1))
 
--- a name that doesn't begin with a known one is an extension of it if it ends with it
+-- a name that doesn't begin with a known one is an extension of it exactly if it ends with it
 pub extension_none : (name known : List ℕ) → FindsTextPrefix known name None → ends_with nat_eq name known ≡ is_extension name known
 extension_none name known lacks =
     sym

@@ -1,5 +1,6 @@
 -- Meaning: words of public contracts.
--- The findings of abbreviations that `@string` defines and that nothing uses. Names of abbreviations are the same in any ASCII case.
+-- The findings of abbreviations that `@string` defines, and that no field of an entry and no definition of another abbreviation uses. The
+-- ASCII case of their names doesn't count.
 use Rattle.std.specs.Prelude.{ℕ, Bool, not, ◌==◌, ◌||◌, List, [], ◌∷◌, ◌++◌, codes, if◌then◌else◌, length}
 use Rattle.std.specs.List.{flat_map, list_any}
 use Rattle.std.specs.Str.{str_eq_ignore_ascii_case}

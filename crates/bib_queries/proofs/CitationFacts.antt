@@ -71,7 +71,7 @@ nothing_collected c seen = record { keys = refl; all = of c.all; seen = seen } w
   of true = refl
   of false = refl
 
--- after an insertion, a lookup finds the inserted key and each earlier one
+-- the choice of a value or an optional value has a value exactly if the value is chosen, or if the optional value is there
 pub some_of : (b : Bool) {A : Type 0} (v : A) (o : Option A) → is_some (cond b (Some v) o) ≡ cond b true (is_some o)
 some_of true v o = refl
 some_of false v o = refl

@@ -124,7 +124,7 @@ set_name piece = if is_set piece then option_map_or (λ text. trim (unescaped_te
 abbrev pub set_names : List ℕ → List (List ℕ)
 set_names text = flat_map set_name (slice_split (λ b. b == char.less) text)
 
--- the file name in an element `bcf:datasource`, without the white space around it; none for another element
+-- the file name in an element `bcf:datasource`, without the white space around it; none for another element or a tag without an end
 abbrev pub source_name : List ℕ → List (List ℕ)
 source_name piece =
     option_map_or (λ text. trim (unescaped_text text) ∷ []) (text_with_name (codes "bcf:datasource") piece) []

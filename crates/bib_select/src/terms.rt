@@ -125,7 +125,7 @@ fn comparison_at(placed: &Placed<'_>) -> Option<Comparison>
     }
 }
 
-// Returns the operator on texts of a token: a sign, or the word `contains`. Returns `None` for any other token.
+// Returns the operator on texts that a token is: the sign `=`, `!=` or `~`, or the word `contains`. Returns `None` for any other token.
 fn operator_at(placed: &Placed<'_>) -> Option<Operator>
     ensures { result ≡ conditions.operator_at (placed_of placed.now) }
 {
