@@ -72,7 +72,7 @@ impl KeyPattern {
     }
 
     /// Returns one key for each entry, in the order of `entries`. A key depends on the fields of entries, not on their old keys. It is
-    /// the text that the pattern gives, or `nokey` if that text has no letter and no digit. If an earlier entry has this key, in any
+    /// the text that the pattern gives, or `nokey` if that text has no letter and no digit. If an earlier entry gets this key, in any
     /// ASCII case, a suffix is appended: the first of `a`, `b`, .., `z`, `aa`, .. that gives a new key. The only error is out of memory.
     pub fn keys(&self, alloc: Global, entries: &[Entry]) -> Result<Vec<Text>, AllocError>
         ensures keys { IfOk result (λ keys. AreKeys self.now entries.now keys.items) }
