@@ -43,7 +43,7 @@ zone_after DisplayClosing c = if c == char.backslash then InDisplayEscaped else 
 zone_after InFormula c = if c == char.backslash then InFormulaEscaped else InFormula
 zone_after InFormulaEscaped c = if closes_formula c then InText else InFormula
 
--- whether a zone is text, not directly after a backslash
+-- whether a zone is text in which no backslash escapes the next character
 abbrev pub is_in_text : Zone → Bool
 is_in_text InText = true
 is_in_text _ = false

@@ -23,23 +23,23 @@ use std::alloc::{AllocError, Global};
 pub(crate) enum Zone {
     // In the text itself.
     InText,
-    // After a backslash in the text.
+    // After a backslash in the text that isn't escaped itself.
     InTextEscaped,
     // After the first dollar sign of math.
     MathOpened,
     // Between dollar signs.
     InMath,
-    // After a backslash between dollar signs.
+    // After a backslash between dollar signs that isn't escaped itself.
     InMathEscaped,
     // Between pairs of dollar signs.
     InDisplay,
-    // After a backslash between pairs of dollar signs.
+    // After a backslash between pairs of dollar signs that isn't escaped itself.
     InDisplayEscaped,
     // After a dollar sign between pairs of dollar signs.
     DisplayClosing,
     // Between `\(` or `\[`, and `\)` or `\]`.
     InFormula,
-    // After a backslash in such a formula.
+    // After a backslash in such a formula that isn't escaped itself.
     InFormulaEscaped,
 }
 
