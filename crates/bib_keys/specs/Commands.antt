@@ -40,8 +40,8 @@ name_len command = prefix_len is_ascii_alphabetic command
 abbrev pub without_name : Bool → List ℕ → List ℕ
 without_name is_math command = shown_command is_math (take (name_len command) command) (drop (name_len command) command)
 
--- the parts of a text between its backslashes, joined. The first part follows no backslash, so it is unchanged. The others are without
--- their names, unless these count as text
+-- the parts of a text between its backslashes, joined. The first part follows no backslash, so it is unchanged. The others are changed
+-- by `without_name`
 abbrev pub joined_commands : Bool → List (List ℕ) → List ℕ
 joined_commands is_math [] = []
 joined_commands is_math (first ∷ commands) = first ++ flat_map (without_name is_math) commands

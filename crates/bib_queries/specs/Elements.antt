@@ -99,7 +99,7 @@ defines_set tag = option_map_or (λ value. bytes_eq value (codes "set")) (attrib
 abbrev pub is_set : List ℕ → Bool
 is_set piece = option_map_or defines_set (citekey_tag piece) false
 
--- the value of the attribute `members` of an element `bcf:citekey`: the comma-separated members, if the element defines a set
+-- the value of the attribute `members` of an element `bcf:citekey`, or `None` if there is none: the comma-separated members of a set
 abbrev pub member_list : List ℕ → Option (List ℕ)
 member_list piece = option_and_then (attribute (codes " members=\"")) (citekey_tag piece)
 

@@ -83,7 +83,7 @@ abbrev pub operator_at : Placed → Option Operator
 operator_at placed =
     if is_keyword (codes "contains") placed.token then Some Contains else signed_value operator_signs placed.token
 
--- the question that an operator asks about the type
+-- the question that an operator asks about the type, or `None` for `contains` and `~`
 abbrev pub type_question : Operator → Option QuestionReading
 type_question Is = Some is_type
 type_question IsNot = Some is_other_type

@@ -143,7 +143,7 @@ fn operator_at(placed: &Placed<'_>) -> Option<Operator>
     }
 }
 
-// Returns the question that an operator asks about the type.
+// Returns the question that an operator asks about the type, or `None` for `contains` and `~`.
 fn type_question(operator: Operator) -> Option<Question<'static>>
     ensures { option_map question_of result ≡ conditions.type_question operator }
 {
