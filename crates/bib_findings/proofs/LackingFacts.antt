@@ -92,7 +92,7 @@ module _ (graph children : Graph) (is_cut : ℕ → Bool) (cut : List ℕ) (turn
         (λ marked. lacks_of index (so.0 marked), λ lacks. so.1 (reached_of index lacks));
   }
 
--- the references of an entry are in range
+-- if the indices of all names are in range, so are the references of an entry
 pub parents_below : (names : ByText ℕ) (own : List Entry) (index : ℕ) (entry : Entry) → AreIndicesBelow (length own) names
     → index < length own → entry ≡ get_or own index entry → All (λ parent. parent < length own) (references names (fields_of entry.fields))
 parents_below names own index entry below within is =

@@ -117,7 +117,7 @@ nearer_next seen name known nearest least edits most first is of bound nearer = 
       let far : edits ≡ most = of ∙ ap (λ b. unwrap_or (cond b (Some (distance name known)) None) most) not_plausible in
       absurd (omega (arith, far, bound, nearer))
 
--- the nearest name so far stays the nearest one if the next name isn't nearer
+-- the nearest name so far stays the nearest one if the next name isn't nearer; `most` is greater than each plausible distance
 pub nearest_stays : (seen : Names) (name known : List ℕ) (nearest : Option (List ℕ)) (least edits most : ℕ)
     → IsNearest seen name nearest → least ≡ least_edits most name nearest → edits ≡ unwrap_or (plausible_distance name known) most
     → 2 < most → least ≤ edits → IsNearest (seen ++ known ∷ []) name nearest

@@ -83,7 +83,7 @@ character_reference_names =
 abbrev pub is_x : ℕ → Bool
 is_x b = b == char.letter_x || b == char.upper_x
 
--- whether a text is the number of a character: ASCII digits, or `x` and hexadecimal digits
+-- whether a text is the number of a character: one or more ASCII digits, or `x` or `X` and one or more hexadecimal digits
 abbrev pub is_character_number : List ℕ → Bool
 is_character_number [] = false
 is_character_number (b ∷ digits) =

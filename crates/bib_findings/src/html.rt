@@ -151,7 +151,7 @@ fn are_hexadecimal(bytes: &[u8]) -> bool
     bytes.iter().all(|b| b.is_ascii_hexdigit())
 }
 
-// Returns whether bytes are the number of a character: ASCII digits, or `x` and hexadecimal digits.
+// Returns whether bytes are the number of a character: one or more ASCII digits, or `x` or `X` and one or more hexadecimal digits.
 fn is_character_number(bytes: &[u8]) -> bool
     ensures { result ≡ spec.is_character_number bytes.now }
 {

@@ -22,7 +22,7 @@ or_turned true false = refl
 or_turned false true = refl
 or_turned false false = refl
 
--- the texts of one more line are among those of all lines
+-- a text is among those of lines and one more exactly if it is among those of that line, or among those of the others
 pub listed_more : (lines : List (List ℕ)) (line text : List ℕ)
     → is_listed (flat_map texts_of_line (lines ++ line ∷ [])) text
     ≡ (is_listed (texts_of_line line) text || is_listed (flat_map texts_of_line lines) text)
