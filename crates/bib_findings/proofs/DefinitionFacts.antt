@@ -42,7 +42,8 @@ pieces_next : (one other : List (Spanned RawChunk)) (index : ℕ) (d e : Spanned
 pieces_next one other index d e within within' =
     ap₂ (λ l m. are_equal_pieces (map piece_of l) (map piece_of m)) (from_index one index d within) (from_index other index e within')
 
--- values don't have the same pieces if the pieces at an index differ
+-- if the pieces from an index on decide whether values have the same pieces, and those at the index differ, the values don't have the same
+-- pieces
 pub pieces_differ : (one other : List (Spanned RawChunk)) (index : ℕ) (d e : Spanned RawChunk) → index < length one
     → index < length other
     → are_equal_pieces (map piece_of (drop index one)) (map piece_of (drop index other))

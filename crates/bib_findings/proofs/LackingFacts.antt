@@ -28,7 +28,8 @@ cut_within skipped said [] index is = absurd (false≢true is)
 cut_within skipped said (origin ∷ origins) zero is = omega arith
 cut_within skipped said (origin ∷ origins) (suc index) is = omega (arith, cut_within skipped said origins index is)
 
--- a list of the indices below a number that pass a test is one of those below the next number if the next index is appended and passes
+-- if a list contains exactly the indices below `next` that pass a test, and `next` passes, the list with `next` appended contains exactly
+-- the indices below `next + 1` that pass
 pub passed_next : (test : ℕ → Bool) (indices indices' : List ℕ) (next : ℕ) → test next ≡ true → indices' ≡ indices ++ next ∷ []
     → ((i : ℕ) → Contains indices i ↔ ((i < next) × (test i ≡ true)))
     → (i : ℕ) → Contains indices' i ↔ ((i < next + 1) × (test i ≡ true))
@@ -41,7 +42,8 @@ passed_next test indices indices' next passes more so i = (
   ]),
 )
 
--- such a list is also one of those below the next number if the next index doesn't pass
+-- if a list contains exactly the indices below `next` that pass a test, and `next` doesn't pass, it contains exactly the indices below
+-- `next + 1` that pass
 pub failed_next : (test : ℕ → Bool) (indices indices' : List ℕ) (next : ℕ) → test next ≡ false → indices' ≡ indices
     → ((i : ℕ) → Contains indices i ↔ ((i < next) × (test i ≡ true)))
     → (i : ℕ) → Contains indices' i ↔ ((i < next + 1) × (test i ≡ true))
@@ -90,7 +92,7 @@ module _ (graph children : Graph) (is_cut : ℕ → Bool) (cut : List ℕ) (turn
         (λ marked. lacks_of index (so.0 marked), λ lacks. so.1 (reached_of index lacks));
   }
 
--- the references of an entry are in range
+-- if the indices of all names are in range, so are the references of an entry
 pub parents_below : (names : ByText ℕ) (own : List Entry) (index : ℕ) (entry : Entry) → AreIndicesBelow (length own) names
     → index < length own → entry ≡ get_or own index entry → All (λ parent. parent < length own) (references names (fields_of entry.fields))
 parents_below names own index entry below within is =

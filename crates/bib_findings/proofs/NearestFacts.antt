@@ -117,7 +117,7 @@ nearer_next seen name known nearest least edits most first is of bound nearer = 
       let far : edits ≡ most = of ∙ ap (λ b. unwrap_or (cond b (Some (distance name known)) None) most) not_plausible in
       absurd (omega (arith, far, bound, nearer))
 
--- the nearest name so far stays the nearest one if the next name isn't nearer
+-- the nearest name so far stays the nearest one if the next name isn't nearer; `most` is greater than each plausible distance
 pub nearest_stays : (seen : Names) (name known : List ℕ) (nearest : Option (List ℕ)) (least edits most : ℕ)
     → IsNearest seen name nearest → least ≡ least_edits most name nearest → edits ≡ unwrap_or (plausible_distance name known) most
     → 2 < most → least ≤ edits → IsNearest (seen ++ known ∷ []) name nearest
@@ -147,7 +147,7 @@ extension_some name known rest n here is =
     (ap (λ b. cond b (not (bytes_eq (drop (length known) name) (codes "s"))) (ends_with nat_eq name known))
     (begins known name (drop n name) here.1))
 
--- a name that doesn't begin with a known one is an extension of it if it ends with it
+-- a name that doesn't begin with a known one is an extension of it exactly if it ends with it
 pub extension_none : (name known : List ℕ) → FindsTextPrefix known name None → ends_with nat_eq name known ≡ is_extension name known
 extension_none name known lacks =
     sym

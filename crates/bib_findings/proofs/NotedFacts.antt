@@ -43,7 +43,7 @@ chosen_more all (first ∷ marks) (other ∷ indices) one index same =
     ++ cond (has_repeated all one) (index ∷ []) [])
     [ true ↦ refl | false ↦ refl ]
 
--- the entries at the selected indices are those of the entries that have a mark that occurs more than once
+-- if indices are in range, the entries at the selected ones are those that have a mark that occurs more than once
 pub chosen_entries : (all : List ℕ) (said : List EntryReading) (indices : List ℕ) → All (λ index. index < length said) indices
     → entries_at said (chosen all (map marks_of (entries_at said indices)) indices)
     ≡ filter (λ one. has_repeated all (marks_of one)) (entries_at said indices)

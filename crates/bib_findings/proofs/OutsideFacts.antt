@@ -40,7 +40,7 @@ outside_next characters count c depth next text more before within is more_is ne
       ∙ ap (λ d. more ++ encode_utf8_all (outside d (drop (count + 1) characters))) (sym next_is);
 }
 
--- after the last character, the text is that of all characters
+-- after the last character, the text is the text outside braces of all characters
 pub outside_end : (characters : List ℕ) (count depth : ℕ) (text : List ℕ) → IsOutside characters count depth text
     → count ≡ length characters → text ≡ encode_utf8_all (outside 0 characters)
 outside_end characters count depth text before all =

@@ -46,7 +46,7 @@ module _ (graph : Graph) (starts : List ℕ) where
     pub closed : (from index : ℕ) → IsMarked marks from → Contains (refs_of graph from) index
         → IsMarked marks index ⊎ Contains pending index
 
-  -- at first no index has a mark, and the starts are pending
+  -- if all starts are indices of the graph, a search begins without marks and with the starts pending
   pub search_first : All (λ index. index < length graph) starts → IsSearch (replicate (length graph) false) starts
   search_first below = record {
     same_length = length-replicate (length graph) false;

@@ -25,7 +25,8 @@ definitions_next used earlier f =
     append_assoc used (names_of_definitions earlier) (f.name.text ∷ [])
     ∙ ap (λ l. used ++ l) (sym (map-append (λ (g : FieldReading). g.name.text) earlier (f ∷ [])))
 
--- the used names and those of earlier definitions contain that of a definition if it is used, or if one of the earlier ones has its name
+-- the used names and those of earlier definitions contain the name of a definition exactly if its abbreviation is used, or if an earlier
+-- definition has its name
 pub named_among : (used : Names) (earlier : List FieldReading) (f : FieldReading)
     → list_any (str_eq_ignore_ascii_case f.name.text) (used ++ names_of_definitions earlier)
     ≡ (is_used_abbreviation used f || list_any (have_one_name f) earlier)

@@ -27,7 +27,8 @@ with_single_spaces is_after (b ∷ rest) =
 abbrev pub are_equal_texts : List ℕ → List ℕ → Bool
 are_equal_texts text other = bytes_eq (with_single_spaces false text) (with_single_spaces false other)
 
--- whether two pieces are two literals with equal texts (see `are_equal_texts`), or two abbreviations with the same name
+-- whether two pieces are two literals with equal texts (see `are_equal_texts`), or two abbreviations whose names are equal, also in ASCII
+-- case
 abbrev pub is_equal_piece : Piece → Piece → Bool
 is_equal_piece (literal p) (literal q) = are_equal_texts p.text q.text
 is_equal_piece (literal p) (abbreviation q) = false

@@ -83,7 +83,7 @@ character_reference_names =
 abbrev pub is_x : ℕ → Bool
 is_x b = b == char.letter_x || b == char.upper_x
 
--- whether a text is the number of a character: ASCII digits, or `x` and hexadecimal digits
+-- whether a text is the number of a character: one or more ASCII digits, or `x` or `X` and one or more hexadecimal digits
 abbrev pub is_character_number : List ℕ → Bool
 is_character_number [] = false
 is_character_number (b ∷ digits) =
@@ -114,11 +114,13 @@ html_at [] = None
 html_at (b ∷ rest) =
     if b == char.less then tag_after_less rest else if b == char.ampersand then reference_after_ampersand rest else None
 
--- the tag or the character reference with which a text in this zone begins, if there is one: none in math or after a backslash
+-- the tag or the character reference with which a text in this zone begins, if there is one: none in math, and none if a backslash escapes
+-- the first byte
 abbrev pub html_in : Zone → List ℕ → Option Markup
 html_in zone text = if is_in_text zone then html_at text else None
 
--- the first tag or character reference of a text outside math and without a backslash before it; the first byte is in this zone
+-- the first tag or character reference of a text that is outside math and whose first byte no backslash escapes; the first byte of the text
+-- is in this zone
 abbrev pub first_html : Zone → List ℕ → Option Markup
 first_html zone [] = None
 first_html zone (b ∷ rest) = option_or (html_in zone (b ∷ rest)) (first_html (zone_after zone b) rest)

@@ -145,7 +145,8 @@ telling_fields = fields "volume number pages chapter part edition subtitle"
 abbrev pub are_different : List ℕ → List ℕ → Bool
 are_different text other = not (length text == 0) && not (length other == 0) && not (bytes_eq text other)
 
--- whether the texts of two entries in the field of this name are different, in lowercase and without hyphens, braces and white space
+-- whether two entries have texts in the field of this name, and the texts differ. They are compared in lowercase and without hyphens,
+-- braces and white space
 abbrev pub differs_in : EntryReading → EntryReading → List ℕ → Bool
 differs_in said other name = are_different (unhyphened (own_literal said name)) (unhyphened (own_literal other name))
 

@@ -15,7 +15,7 @@ use Rattle.bib_findings.specs.declared.marks.Marks.{Marks}
 abbrev pub before_brace : List ℕ → List ℕ
 before_brace text = before_first (λ b. b == char.open_brace) text
 
--- the mark of a text of this kind: a hash of the kind and of the text before its first brace; an empty text has no mark
+-- the mark of a text of this kind: a hash of the kind and of the text before its first opening brace; an empty text has no mark
 abbrev pub mark : List ℕ → List ℕ → Option ℕ
 mark kind text = if length text == 0 then None else Some (finish (write (write initial kind) (before_brace text)))
 

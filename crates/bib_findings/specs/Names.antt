@@ -13,8 +13,8 @@ use Rattle.bib_findings.specs.Nearest.{IsNearest, is_known_name, unknown_message
 use Rattle.bib_findings.specs.declared.codes.Code.TheVariants.{UnknownField}
 use Rattle.bib_findings.specs.declared.finding.Finding.{Finding}
 
--- the fields of BibLaTeX's default data model (manual, 2.2), except the custom ones, the names that it accepts from BibTeX (2.2.5), and the
--- parts of dates
+-- the fields of BibLaTeX's default data model (manual, 2.2), without the custom ones; also the names that BibLaTeX accepts from BibTeX
+-- (2.2.5), and the parts of dates
 abbrev pub known_fields : Names
 known_fields = fields "abstract addendum address afterword annotation annotator annote archiveprefix author authortype bookauthor"
     ++ (fields "bookpagination booksubtitle booktitle booktitleaddon chapter commentator crossref date day doi edition editor editora"
@@ -40,7 +40,7 @@ abbrev pub custom_fields : Names
 custom_fields = fields "lista listb listc listd liste listf namea nameatype nameb namebtype namec namectype"
     ++ fields "usera userb userc userd usere userf verba verbb verbc"
 
--- whether the data model has a field of this name, in any ASCII case
+-- whether a name is one of the known or of the custom fields, in any ASCII case
 abbrev pub is_in_model : List ℕ → Bool
 is_in_model name = is_known_name known_fields name || is_known_name custom_fields name
 

@@ -27,12 +27,12 @@ early_finding said parent =
     finding_at EarlyParent (field_place said (codes "crossref"))
     (named_message said.key.text (codes "the parent ") parent (codes " comes first; BibTeX finds it only if it is cited too"))
 
--- the finding of an entry if its `crossref` names one of the earlier entries
+-- the finding of an entry if its `crossref` is one literal, and is the key of one of the earlier entries in any ASCII case
 abbrev pub early_after : List EntryReading → EntryReading → List Finding
 early_after earlier said =
     let parent : List ℕ = parent_key said in
     if not (length parent == 0) && list_any (is_key_of parent) earlier then early_finding said parent ∷ [] else []
 
--- the findings of the entries whose `crossref` names an earlier one
+-- the findings of the entries whose `crossref` is one literal, and is the key of an earlier one in any ASCII case
 abbrev pub early_findings : List EntryReading → List Finding
 early_findings entries = each_after early_after [] entries

@@ -1,6 +1,6 @@
 -- Meaning: words of public contracts.
--- The findings of printed fields with a special character: one that is special to LaTeX, and occurs outside braces and math without a
--- backslash before it.
+-- The findings of printed fields with a special character: one that is special to LaTeX, and occurs outside braces and math where no
+-- backslash escapes it. In `\\&`, the second backslash is escaped, and the `&` isn't.
 use Rattle.std.specs.Prelude.{ℕ, Bool, true, false, ◌==◌, ◌&&◌, ◌||◌, List, [], ◌∷◌, ◌++◌, chars, codes, encode_utf8, Option, Some, None, if◌then◌else◌}
 use Rattle.std.specs.Option.{option_map_or}
 use Rattle.bib_text.specs.Characters as char
@@ -29,8 +29,8 @@ opens_formula c = c == char.open_parenthesis || c == char.open_bracket
 abbrev pub closes_formula : ℕ → Bool
 closes_formula c = c == char.close_parenthesis || c == char.close_bracket
 
--- the zone after a character. A dollar sign begins and ends math, and two of them displayed math. `\(` and `\[` begin a formula, and `\)`
--- and `\]` end it. Each other backslash escapes the next character
+-- the zone after a character. A dollar sign begins and ends math, and two of them displayed math. In text, `\(` and `\[` begin a formula,
+-- and `\)` and `\]` end it. Each other backslash that isn't escaped itself escapes the next character
 abbrev pub zone_after : Zone → ℕ → Zone
 zone_after InText c = if c == char.backslash then InTextEscaped else if c == char.dollar then MathOpened else InText
 zone_after InTextEscaped c = if opens_formula c then InFormula else InText
@@ -43,7 +43,7 @@ zone_after DisplayClosing c = if c == char.backslash then InDisplayEscaped else 
 zone_after InFormula c = if c == char.backslash then InFormulaEscaped else InFormula
 zone_after InFormulaEscaped c = if closes_formula c then InText else InFormula
 
--- whether a zone is text, not directly after a backslash
+-- whether a zone is text in which no backslash escapes the next character
 abbrev pub is_in_text : Zone → Bool
 is_in_text InText = true
 is_in_text _ = false
@@ -52,7 +52,7 @@ is_in_text _ = false
 abbrev pub is_unescaped_special : Zone → ℕ → Bool
 is_unescaped_special zone c = is_in_text zone && is_latex_special c
 
--- the first of these characters that is special, outside math and without a backslash before it; the first character is in this zone
+-- the first of these characters that is special, outside math, and not escaped by a backslash; the first character is in this zone
 abbrev pub first_special : Zone → List ℕ → Option ℕ
 first_special zone [] = None
 first_special zone (c ∷ rest) = if is_unescaped_special zone c then Some c else first_special (zone_after zone c) rest

@@ -45,7 +45,8 @@ number_words part = slice_split is_word_separator part
 abbrev pub digit_value : ℕ → ℕ
 digit_value b = if is_ascii_digit b then b - char.zero else 10
 
--- the sum of the digits, each multiplied by the number of digits from it to the end: by 10 to 1 in an ISBN, by 8 to 1 in an ISSN
+-- the sum of the digits, each multiplied by the number of digits from it to the end: by 10 to 1 in an ISBN of ten
+-- digits, by 8 to 1 in an ISSN
 abbrev pub descending_sum : List ℕ → ℕ
 descending_sum [] = 0
 descending_sum (b ∷ rest) = digit_value b * (length rest + 1) + descending_sum rest

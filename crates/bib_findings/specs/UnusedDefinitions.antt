@@ -1,5 +1,6 @@
 -- Meaning: words of public contracts.
--- The findings of abbreviations that `@string` defines and that nothing uses. Names of abbreviations are the same in any ASCII case.
+-- The findings of abbreviations that `@string` defines, and that no field of an entry and no definition of another abbreviation uses. The
+-- ASCII case of their names doesn't count.
 use Rattle.std.specs.Prelude.{ℕ, Bool, not, ◌==◌, ◌||◌, List, [], ◌∷◌, ◌++◌, codes, if◌then◌else◌, length}
 use Rattle.std.specs.List.{flat_map, list_any}
 use Rattle.std.specs.Str.{str_eq_ignore_ascii_case}
@@ -36,7 +37,7 @@ other_abbreviation_in own (abbreviation p) = if str_eq_ignore_ascii_case p.text 
 abbrev pub used_by_definition : FieldReading → Names
 used_by_definition f = flat_map (other_abbreviation_in f.name.text) f.value.pieces
 
--- the names of the abbreviations that the entries and the definitions of a file use
+-- the names of the abbreviations that the entries of a file use, or its definitions of other abbreviations
 abbrev pub used_abbreviations : FileReading → Names
 used_abbreviations says = flat_map used_by_entry says.entries ++ flat_map used_by_definition says.abbreviations
 

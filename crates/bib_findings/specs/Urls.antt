@@ -41,7 +41,7 @@ is_more_than_url b = is_ascii_whitespace b || list_any (λ one. b == one) (codes
 abbrev pub has_no_scheme : List ℕ → Bool
 has_no_scheme text = not (length text == 0) && not (list_any is_more_than_url text) && not (begins_with_scheme text)
 
--- whether the field `url` of an entry is one literal without a scheme; white space around the text doesn't count
+-- whether the field `url` of an entry is one literal, and its text without the white space around it satisfies `has_no_scheme`
 abbrev pub has_url_without_scheme : EntryReading → Bool
 has_url_without_scheme said = has_no_scheme (trim (own_literal said (codes "url")))
 

@@ -29,7 +29,7 @@ abbrev pub may_follow_year : List ℕ → Bool
 may_follow_year [] = true
 may_follow_year (b ∷ rest) = b == char.hyphen || b == char.slash || is_uncertain b || is_approximate b
 
--- whether a `date` begins with a year of four digits that differs from this `year`
+-- whether `year` is four digits, and `date` begins with a year of four digits that differs from them
 abbrev pub has_other_year : List ℕ → List ℕ → Bool
 has_other_year year date = are_two_years year (take 4 date) && may_follow_year (drop 4 date)
 

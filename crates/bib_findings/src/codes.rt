@@ -66,7 +66,7 @@ pub enum Code {
     ForeignField,
     /// A field whose name an earlier field of the entry has, in any ASCII case.
     RepeatedField,
-    /// A field whose value is empty or only white space.
+    /// A field whose value is empty or only white space, and that isn't reported as missing.
     EmptyField,
     /// A field with a wrong ISBN.
     WrongIsbn,
@@ -78,7 +78,7 @@ pub enum Code {
     UrlScheme,
     /// A field with a name of a person that Biber or BibTeX can't read as it is meant.
     MalformedName,
-    /// A printed field with a character that is special to LaTeX, outside braces and math, without a backslash before it.
+    /// A printed field with a character that is special to LaTeX, outside braces and math, that no backslash escapes.
     SpecialCharacter,
     /// A printed field with a known HTML or XML tag or character reference outside math, such as `<i>` or `&amp;`.
     Html,

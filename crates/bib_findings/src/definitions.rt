@@ -45,7 +45,8 @@ fn are_equal_texts(alloc: Global, text: &str, other: &str) -> Result<bool, Alloc
     Ok(first.as_slice() == second.as_slice())
 }
 
-// Returns whether two pieces are two literals with equal texts (see `are_equal_texts`), or two abbreviations with the same name.
+// Returns whether two pieces are two literals with equal texts (see `are_equal_texts`), or two abbreviations whose names are equal, also in
+// ASCII case.
 fn is_equal_piece(
     alloc: Global,
     one: &Spanned<RawChunk<'_>>,

@@ -140,10 +140,10 @@ fn add_entries(
 /// Returns the findings between entries, with only the fields that each entry has itself. They are, in this order: keys that an
 /// entry refers to and no kept entry has; entries that are likely the same work as an earlier one; text after an entry that reads
 /// as a field; keys that differ only in ASCII case; parents that come before their children; fields that other programs write;
-/// abbreviations that are defined again with another value. `text` is the
-/// text of the file, `skipped` contains its skipped blocks, and `definitions` contains its definitions of abbreviations. `origins` contains
-/// the index of each entry in `said`, the raw entries of the file. An entry that begins where a skipped block begins is no likely
-/// duplicate, and the text after it isn't tested. Fails only if out of memory.
+/// abbreviations that are defined again with another value. `text` is the text of the file, `skipped` contains its skipped blocks, and
+/// `definitions` contains its definitions of abbreviations. `origins` contains the index of each entry in `said`, the raw entries of the
+/// file. An entry that begins where a skipped block begins is no likely duplicate, and the text after it isn't tested. Fails only if out
+/// of memory.
 pub fn between(
     alloc: Global,
     text: &str,

@@ -145,7 +145,7 @@ fn are_hexadecimal(bytes: &[u8]) -> bool
     bytes.iter().all(|b| b.is_ascii_hexdigit())
 }
 
-// Returns whether bytes are the number of a character: ASCII digits, or `x` and hexadecimal digits.
+// Returns whether bytes are the number of a character: one or more ASCII digits, or `x` or `X` and one or more hexadecimal digits.
 fn is_character_number(bytes: &[u8]) -> bool
     ensures { result ≡ spec.is_character_number bytes.now }
 {
@@ -200,7 +200,8 @@ fn html_at(bytes: &[u8]) -> Option<HtmlPart<'_>>
     }
 }
 
-// Returns the tag or the character reference with which bytes in this zone begin, or `None` in math, after a backslash, or without one.
+// Returns the tag or the character reference with which bytes in this zone begin, if there is one. Returns `None` in math, and if a
+// backslash escapes the first byte.
 fn html_in(zone: Zone, bytes: &[u8]) -> Option<HtmlPart<'_>>
     ensures { option_map markup_of result ≡ spec.html_in zone bytes.now }
 {
@@ -210,7 +211,7 @@ fn html_in(zone: Zone, bytes: &[u8]) -> Option<HtmlPart<'_>>
     }
 }
 
-// Returns the first tag or character reference of bytes that is outside math and has no backslash before it.
+// Returns the first tag or character reference of bytes that is outside math and whose first byte no backslash escapes.
 fn first_html(bytes: &[u8]) -> Option<HtmlPart<'_>>
     ensures { option_map markup_of result ≡ spec.first_html InText bytes.now }
 {

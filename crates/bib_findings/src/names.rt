@@ -20,8 +20,8 @@ use bib_text::text::Text;
 use std::alloc::{AllocError, Global};
 use std::collections::BTreeMap;
 
-// The fields of BibLaTeX's default data model (manual, 2.2), except the custom ones, the names that it accepts from BibTeX, and the parts
-// of dates.
+// The fields of BibLaTeX's default data model (manual, 2.2), without the custom ones. Also the names that BibLaTeX accepts from BibTeX, and
+// the parts of dates.
 static KNOWN_FIELDS: [&str; 190] = [
     "abstract",
     "addendum",
@@ -257,7 +257,7 @@ fn annotated_name(name: &str) -> &str
     }
 }
 
-// Returns whether BibLaTeX's data model has a field of this name, in any ASCII case.
+// Returns whether a name is one of `KNOWN_FIELDS` or `CUSTOM_FIELDS`, in any ASCII case.
 fn is_in_model(name: &str) -> bool
     ensures { result ≡ spec.is_in_model name.now }
 {

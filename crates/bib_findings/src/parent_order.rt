@@ -83,7 +83,8 @@ fn add_if(
     Ok(())
 }
 
-// Appends the finding of an entry if its `crossref` names one of the earlier entries. `seen` has their keys in ASCII lowercase.
+// Appends the finding of an entry if its `crossref` is one literal, and is the key of one of the earlier entries in any ASCII case. `seen`
+// has their keys in ASCII lowercase.
 fn add_if_early(
     alloc: Global,
     found: &mut Vec<Finding>,
@@ -112,8 +113,8 @@ fn add_key(
     Ok(())
 }
 
-/// Appends a finding for each of these entries whose `crossref` names an earlier one, in any ASCII case. `origins` contains the index
-/// of each in `said`.
+/// Appends a finding for each of these entries whose `crossref` is one literal, and is the key of an earlier one in any ASCII case.
+/// `origins` contains the index of each in `said`.
 pub(crate) fn add_early(
     alloc: Global,
     found: &mut Vec<Finding>,

@@ -1,4 +1,4 @@
-//! Findings of special characters: those that are special to LaTeX, and occur outside braces and math without a backslash before them.
+//! Findings of special characters: those that are special to LaTeX, and occur outside braces and math where no backslash escapes them.
 
 ghost use Rattle.std.specs.Prelude.{◌≡◌, ◌++◌, IfOk, OnOk};
 ghost use Rattle.std.specs.String.{string_bytes};
@@ -23,23 +23,23 @@ use std::alloc::{AllocError, Global};
 pub(crate) enum Zone {
     // In the text itself.
     InText,
-    // After a backslash in the text.
+    // After a backslash in the text that isn't escaped itself.
     InTextEscaped,
     // After the first dollar sign of math.
     MathOpened,
     // Between dollar signs.
     InMath,
-    // After a backslash between dollar signs.
+    // After a backslash between dollar signs that isn't escaped itself.
     InMathEscaped,
     // Between pairs of dollar signs.
     InDisplay,
-    // After a backslash between pairs of dollar signs.
+    // After a backslash between pairs of dollar signs that isn't escaped itself.
     InDisplayEscaped,
     // After a dollar sign between pairs of dollar signs.
     DisplayClosing,
     // Between `\(` or `\[`, and `\)` or `\]`.
     InFormula,
-    // After a backslash in such a formula.
+    // After a backslash in such a formula that isn't escaped itself.
     InFormulaEscaped,
 }
 
@@ -128,7 +128,7 @@ fn is_unescaped_special(zone: Zone, c: char) -> bool
     matches!(zone, Zone::InText) && is_latex_special(c)
 }
 
-// Returns the first special character of a text that is outside math and has no backslash before it.
+// Returns the first special character of a text that is outside math and that no backslash escapes.
 fn first_special(text: &str) -> Option<char>
     ensures { result ≡ spec.first_special InText (chars text.now) }
 {

@@ -39,7 +39,7 @@ fn is_digit_or_x(b: u8) -> bool
     b.is_ascii_digit() || b == b'X' || b == b'x'
 }
 
-// Returns whether all bytes occur in numbers.
+// Returns whether each byte is an ASCII digit, or `X` in either case.
 fn are_digits_or_x(digits: &[u8]) -> bool
     ensures { result ≡ list_all spec.is_digit_or_x digits.now }
 {
@@ -179,7 +179,7 @@ fn number_words(alloc: Global, part: &[u8]) -> Result<Vec<&[u8]>, AllocError>
     part.split(|b| is_word_separator(*b)).collect(alloc)
 }
 
-// Returns whether one of these words is wrong: without its hyphens, it is neither empty nor a standard number.
+// Returns whether one of these words is wrong: without its hyphens and spaces, it is neither empty nor a standard number.
 fn has_wrong_word(alloc: Global, is_serial: bool, words: &[&[u8]]) -> Result<bool, AllocError>
     ensures { IfOk result (λ wrong. wrong ≡ list_any (spec.is_wrong_number is_serial) (map (λ word. word.now) words.now)) }
 {

@@ -129,7 +129,7 @@ fn push_of_definitions<'s>(
     Ok(())
 }
 
-// Returns the names of the abbreviations that the entries and the definitions of a file use.
+// Returns the names of the abbreviations that the entries of a file use, or its definitions of other abbreviations.
 fn used_names<'s>(alloc: Global, raw: &RawBibliography<'s>) -> Result<Vec<&'s str>, AllocError>
     ensures { IfOk result (λ names. borrowed_texts names.items ≡ used_abbreviations (file_of raw.now)) }
 {

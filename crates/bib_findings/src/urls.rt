@@ -84,7 +84,7 @@ fn has_no_scheme(bytes: &[u8]) -> bool
     !bytes.is_empty() && !are_more_than_url(bytes) && !begins_with_scheme(bytes)
 }
 
-// Returns whether the field `url` of an entry is one literal without a scheme.
+// Returns whether the field `url` of an entry is one literal, and `has_no_scheme` is true for its text without the white space around it.
 fn has_url_without_scheme(said: &Spanned<RawEntry<'_>>) -> bool
     ensures { result ≡ spec.has_url_without_scheme (entry_reading_of said.now) }
 {
@@ -104,8 +104,8 @@ fn url_finding(alloc: Global, said: &Spanned<RawEntry<'_>>) -> Result<Finding, A
     })
 }
 
-/// Appends a finding if the field `url` of an entry is one literal without a scheme. A text with ASCII white space in it, a backslash or a
-/// brace isn't tested.
+/// Appends a finding if the field `url` of an entry is one literal without a scheme. An empty text isn't tested, nor is a text with ASCII
+/// white space in it, a backslash or a brace.
 pub(crate) fn add_url(
     alloc: Global,
     found: &mut Vec<Finding>,

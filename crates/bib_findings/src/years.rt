@@ -42,7 +42,7 @@ fn are_two_years(year: &[u8], other: &[u8]) -> bool
     has_four_digits(year) && has_four_digits(other) && year != other
 }
 
-// Returns whether a date begins with a year of four digits that differs from this one.
+// Returns whether `year` is four digits, and `date` begins with a year of four digits that differs from them.
 fn has_other_year(year: &[u8], date: &[u8]) -> bool
     ensures { result ≡ spec.has_other_year year.now date.now }
 {
@@ -72,7 +72,8 @@ fn year_finding(alloc: Global, said: &Spanned<RawEntry<'_>>) -> Result<Finding, 
     })
 }
 
-/// Appends a finding if the `date` of an entry begins with another year than its `year`, and isn't malformed.
+/// Appends a finding if the `date` of an entry begins with a year of four digits that differs from the four digits of its `year`, and isn't
+/// malformed.
 pub(crate) fn add_years(
     alloc: Global,
     found: &mut Vec<Finding>,

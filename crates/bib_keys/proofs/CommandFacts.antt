@@ -57,11 +57,12 @@ one_part test (c ∷ l) whole = of (test c) whole (one_part test l) where
   of true none rest = absurd (omega (arith, none))
   of false more rest = ap (onto_first c) (rest (omega (arith, more)))
 
--- a text without backslashes is unchanged
+-- `without_names` leaves a text without backslashes unchanged
 pub no_commands : (is_math : Bool) (text : List ℕ) → position_or_len (λ b. b == 92) text ≡ length text → text ≡ without_names is_math text
 no_commands is_math text whole = sym (ap (joined_commands is_math) (one_part (λ b. b == 92) text whole) ∙ append-nil text)
 
--- a text with a backslash is the text before the first backslash, and then the parts after backslashes without the names of commands
+-- for a text with a backslash, `without_names` gives the text before the first backslash, and then each part after a backslash, changed by
+-- `without_name`
 pub after_backslashes : (is_math : Bool) (text : List ℕ) → position_or_len (λ b. b == 92) text < length text
     → before_first (λ b. b == 92) text ++ flat_map (without_name is_math) (slice_split (λ b. b == 92) (after_first (λ b. b == 92) text))
     ≡ without_names is_math text

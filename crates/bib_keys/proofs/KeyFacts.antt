@@ -215,7 +215,7 @@ none_taken taken none = record {
   clash : (o : Option ℕ) (n : ℕ) → o ≡ None → o ≡ Some n → ⊥
   clash o n x y = cc
 
--- a text gets its first new key
+-- if the taken keys are `keys`, the key that a text takes is its first new key
 pub is_first : (old new : Numbers) (keys : List (List ℕ)) (text key : List ℕ) → AreTaken old keys → TakesKey old new text key
     → IsFirstNew keys text key
 is_first old new keys text key are is = record {

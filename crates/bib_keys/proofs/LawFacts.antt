@@ -1,4 +1,4 @@
--- Each text is at most one pattern, and entries have one list of keys.
+-- Each text is at most one pattern, and entries have at most one list of keys.
 use Rattle.std.proofs.Common.{◌≡◌, ℕ, ◌<◌, ◌≤◌, ◌⊎◌, Bool, true, false, List, [], ◌∷◌, ◌++◌, Some, length, map, refl, sym, ◌∙◌, ap, ap₂, subst, inl, inr, arith, append_assoc, length-append}
 use Rattle.std.proofs.lemmas.List.{length-map, map-append}
 use Rattle.std.proofs.lemmas.Bool.{cases_lt}
@@ -68,7 +68,7 @@ no_parts _ _ IsPattern.end empty = refl
 no_parts _ _ (IsPattern.next {part = p} {parts = ps} {text = t} {rest = r} first others) empty =
     absurd (omega (arith, length-append t r, some_part p t first, empty))
 
--- a text is one pattern
+-- a text is at most one pattern
 pub one_pattern : (ps qs : List Part) (text : List ℕ) → IsPattern ps text → IsPattern qs text → ps ≡ qs
 one_pattern _ qs _ IsPattern.end other = no_parts qs [] other refl
 one_pattern _ qs _ (IsPattern.next {part = p} {parts = ps} {text = t} {rest = r} first others) other =
@@ -79,7 +79,7 @@ one_pattern _ qs _ (IsPattern.next {part = p} {parts = ps} {text = t} {rest = r}
     (one_pattern ps begun.parts r others (subst (IsPattern begun.parts) rest begun.others))
     ∙ sym begun.all_is
 
--- a text has one first new key
+-- a text has at most one first new key
 one_first : (keys : List (List ℕ)) (text a b : List ℕ) → IsFirstNew keys text a → IsFirstNew keys text b → a ≡ b
 one_first keys text a b one other = of (cases_lt one.number other.number) (cases_lt other.number one.number) where
   of : (one.number < other.number) ⊎ (other.number ≤ one.number) → (other.number < one.number) ⊎ (one.number ≤ other.number) → a ≡ b

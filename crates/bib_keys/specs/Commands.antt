@@ -28,7 +28,7 @@ without_space (c ∷ rest) = if c == char.space then rest else c ∷ rest
 abbrev pub after_name : List ℕ → List ℕ → List ℕ
 after_name name rest = if length name == 0 then rest else without_space rest
 
--- the text that follows a name, with the name before it if the name counts as text
+-- the text that follows a name, without the space that ends the name, and with the name before it if the name counts as text
 abbrev pub shown_command : Bool → List ℕ → List ℕ → List ℕ
 shown_command is_math name rest = (if is_name_shown is_math name rest then name else []) ++ after_name name rest
 
@@ -36,18 +36,18 @@ shown_command is_math name rest = (if is_name_shown is_math name rest then name 
 abbrev pub name_len : List ℕ → ℕ
 name_len command = prefix_len is_ascii_alphabetic command
 
--- a text that follows a backslash, without the name with which it begins, unless the name counts as text
+-- a text that follows a backslash, without the space that ends the name at its start, and without the name unless it counts as text
 abbrev pub without_name : Bool → List ℕ → List ℕ
 without_name is_math command = shown_command is_math (take (name_len command) command) (drop (name_len command) command)
 
--- the parts of a text between its backslashes, joined. The first part follows no backslash, so it is unchanged. The others are without
--- their names, unless these count as text
+-- the parts of a text between its backslashes, joined. The first part follows no backslash, so it is unchanged. The others are changed
+-- by `without_name`
 abbrev pub joined_commands : Bool → List (List ℕ) → List ℕ
 joined_commands is_math [] = []
 joined_commands is_math (first ∷ commands) = first ++ flat_map (without_name is_math) commands
 
--- A text without its backslashes and without the names of commands that don't count as text. For example, `\textsc{Foo} bar` becomes
--- `{Foo} bar`, and `The \BibTeX{} book` becomes `The BibTeX{} book`.
+-- A text without its backslashes, without the names of commands that don't count as text, and without the spaces that end names. For
+-- example, `\textsc{Foo} bar` becomes `{Foo} bar`, and `The \BibTeX{} book` becomes `The BibTeX{} book`.
 abbrev pub without_names : Bool → List ℕ → List ℕ
 without_names is_math text = joined_commands is_math (slice_split (λ b. b == char.backslash) text)
 

@@ -11,8 +11,8 @@ use Rattle.bib_keys.specs.Letters.{key_letters}
 abbrev pub others : List ℕ
 others = codes "EtAl"
 
--- the family name of a person as plain text, without the names of commands; `others` in a list of authors means the authors that aren't
--- named
+-- the family name of a person as plain text, without the names of commands that don't count as text; `others` in a list of authors means
+-- the authors that aren't named
 abbrev pub shown_family_name : Person → List ℕ
 shown_family_name p = if bytes_eq p.name (codes "others") then others else key_letters (without_names false p.name)
 

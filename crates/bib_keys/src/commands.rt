@@ -59,7 +59,7 @@ fn name_len(bytes: &[u8]) -> usize
         .unwrap_or(bytes.len())
 }
 
-// Appends a name if it counts as text, and the text that follows it.
+// Appends a name if it counts as text, and the text that follows it, without the space that ends the name.
 fn push_command(out: &mut String, is_math: bool, name: &str, rest: &str) -> Result<(), AllocError>
     ensures { OnOk result (string_bytes out.new ≡ string_bytes out.old ++ spec.shown_command is_math name.now rest.now) }
 {
@@ -69,7 +69,8 @@ fn push_command(out: &mut String, is_math: bool, name: &str, rest: &str) -> Resu
     out.push_str(after_name(name, rest))
 }
 
-// Appends a text that follows a backslash, without the name with which it begins, unless the name counts as text.
+// Appends a text that follows a backslash, without the space that ends the name at its start, and without the name unless it counts as
+// text.
 fn push_without_name(out: &mut String, is_math: bool, command: &str) -> Result<(), AllocError>
     ensures { OnOk result (string_bytes out.new ≡ string_bytes out.old ++ spec.without_name is_math command.now) }
 {
@@ -77,7 +78,7 @@ fn push_without_name(out: &mut String, is_math: bool, command: &str) -> Result<(
     push_command(out, is_math, name, rest)
 }
 
-// Returns a text without its backslashes and without the names of commands that don't count as text.
+// Returns a text without its backslashes, without the names of commands that don't count as text, and without the spaces that end names.
 pub(crate) fn without_names(alloc: Global, is_math: bool, text: &str) -> Result<String, AllocError>
     ensures { IfOk result (λ out. string_bytes out ≡ spec.without_names is_math text.now) }
 {

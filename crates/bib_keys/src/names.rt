@@ -14,7 +14,8 @@ use std::alloc::{AllocError, Global};
 // The words for the authors that aren't named.
 const OTHERS: &str = "EtAl";
 
-// Returns the family name of a person as plain text, without the names of commands, or `EtAl` for the family name `others`.
+// Returns the family name of a person as plain text, without the names of commands that don't count as text. Returns `EtAl` for the
+// family name `others`.
 fn shown_family_name(alloc: Global, person: &Person) -> Result<Text, AllocError>
     ensures { IfOk result (λ name. name ≡ spec.shown_family_name person.now) }
 {

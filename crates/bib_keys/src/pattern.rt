@@ -30,7 +30,7 @@ pub enum Case {
 /// A part of a pattern.
 #[derive(Debug, Clone, Copy, PartialEq, Eq)]
 pub enum Part {
-    /// A character, which is copied to the key, except for a hyphen after a hyphen.
+    /// A character. It is copied to the text of the pattern, except for a hyphen after a hyphen.
     Literal(char),
     /// The family name of the first author. With a number, the family names of up to this many authors, and `EtAl` in the same case
     /// if there are more. The field is `editor` if there is no `author`.
@@ -61,8 +61,8 @@ impl Model for KeyPattern {
 impl KeyPattern {
     /// Parses a pattern. A placeholder is `{author}`, `{title}` or `{year}`. The first two also have the forms `{Author}` and
     /// `{AUTHOR}`, and may have a number from 1 to 9, such as `{author:3}`. The year may have the number 2: `{year:2}`. All other
-    /// characters are copied to the key, except for a hyphen after a hyphen. The error is the first character that isn't allowed in a
-    /// key, or the first opening brace that doesn't begin a placeholder, or out of memory.
+    /// characters are copied to the text of the pattern, except for a hyphen after a hyphen. The error is the first character that isn't
+    /// allowed in a key, or the first opening brace that doesn't begin a placeholder, or out of memory.
     pub fn parse(alloc: Global, text: &str) -> Result<KeyPattern, PatternError>
         ensures found { IfOk result (λ pattern. IsPattern pattern text.now) }
         ensures refused { IfErr result (IsPatternError text.now) }
@@ -72,7 +72,7 @@ impl KeyPattern {
     }
 
     /// Returns one key for each entry, in the order of `entries`. A key depends on the fields of entries, not on their old keys. It is
-    /// the text that the pattern gives, or `nokey` if that text has no letter and no digit. If an earlier entry has this key, in any
+    /// the text that the pattern gives, or `nokey` if that text has no letter and no digit. If an earlier entry gets this key, in any
     /// ASCII case, a suffix is appended: the first of `a`, `b`, .., `z`, `aa`, .. that gives a new key. The only error is out of memory.
     pub fn keys(&self, alloc: Global, entries: &[Entry]) -> Result<Vec<Text>, AllocError>
         ensures keys { IfOk result (λ keys. AreKeys self.now entries.now keys.items) }

@@ -66,7 +66,7 @@ collected_then old mid new xs ys first second = record {
 pub nothing_collected : (c : Collected) → IsSeen c → IsCollected c [] c
 nothing_collected c seen = record { keys = refl; all = sym (or-false c.all); seen = seen }
 
--- after an insertion, a lookup finds the inserted key and each earlier one
+-- the choice of a value or an optional value has a value exactly if the value is chosen, or if the optional value is there
 pub some_of : (b : Bool) {A : Type 0} (v : A) (o : Option A) → is_some (cond b (Some v) o) ≡ cond b true (is_some o)
 some_of true v o = refl
 some_of false v o = refl

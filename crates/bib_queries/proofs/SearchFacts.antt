@@ -315,7 +315,8 @@ abbrev pub IsTaken : List Node → List Bool → List ℕ → Type 0
 IsTaken nodes marks name = (index : ℕ) → HasName nodes index name → IsMarked marks index
 
 module _ (names : List (List ℕ)) (nodes : List Node) where
-  -- the state of the map and the marks: each mark is on a needed node, and each node with a name is in the map or has a mark
+  -- the state of the map and the marks: each mark is on a needed node; each node with a name is in the map under it, or has a mark; and the
+  -- map contains under a name only nodes that have it
   pub record IsBegun (m : Map) (marks : List Bool) : Type 0 where
     pub same_length : length marks ≡ length nodes
     pub sound : (i : ℕ) → IsMarked marks i → IsNeeded names nodes i

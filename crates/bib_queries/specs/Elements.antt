@@ -99,7 +99,7 @@ defines_set tag = option_map_or (λ value. bytes_eq value (codes "set")) (attrib
 abbrev pub is_set : List ℕ → Bool
 is_set piece = option_map_or defines_set (citekey_tag piece) false
 
--- the value of the attribute `members` of an element `bcf:citekey`: the comma-separated members, if the element defines a set
+-- the value of the attribute `members` of an element `bcf:citekey`, or `None` if there is none: the comma-separated members of a set
 abbrev pub member_list : List ℕ → Option (List ℕ)
 member_list piece = option_and_then (attribute (codes " members=\"")) (citekey_tag piece)
 
@@ -124,7 +124,7 @@ set_name piece = if is_set piece then option_map_or (λ text. trim (unescaped_te
 abbrev pub set_names : List ℕ → List (List ℕ)
 set_names text = flat_map set_name (slice_split (λ b. b == char.less) text)
 
--- the file name in an element `bcf:datasource`, without the white space around it; none for another element
+-- the file name in an element `bcf:datasource`, without the white space around it; none for another element or a tag without an end
 abbrev pub source_name : List ℕ → List (List ℕ)
 source_name piece =
     option_map_or (λ text. trim (unescaped_text text) ∷ []) (text_with_name (codes "bcf:datasource") piece) []

@@ -30,8 +30,8 @@ IsMarked marks index = slice_index_or marks index false ≡ true
 abbrev pub unmarked_count : List Bool → ℕ
 unmarked_count marks = count_by not marks
 
--- whether marks and pending indices are extended: none is lost, only indices with `is_new` get a mark, and each of these is then
--- pending
+-- whether marks and pending indices are extended: none is lost, only indices with `is_new` get a mark, and each of these is then pending.
+-- Each index that becomes pending has a mark, and there are as many new pending indices as new marks
 pub record Marks (is_new : ℕ → Type 0) (old : List Bool) (before : List ℕ) (new : List Bool) (after : List ℕ) : Type 0 where
   pub kept : (index : ℕ) → IsMarked old index → IsMarked new index
   pub only : (index : ℕ) → IsMarked new index → IsMarked old index ⊎ (is_new index × Contains after index)

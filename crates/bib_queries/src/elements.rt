@@ -161,7 +161,7 @@ pub(crate) fn citekey_text(piece: &str) -> Option<&str>
     text_with_name(piece, "bcf:citekey")
 }
 
-// Returns the comma-separated members of the set that an element defines.
+// Returns the value of the attribute `members` of an element `bcf:citekey`: the comma-separated members of a set.
 fn member_list(piece: &str) -> Option<&str>
     ensures { option_map (λ list. list.now) result ≡ spec.member_list piece.now }
 {

@@ -2,7 +2,7 @@
 //!
 //! A file is parsed with `RawBibliography::recover`, so a file with errors has excerpts too. `known` uses `recover_parts`, so an
 //! entry with a syntax error has names too. Excerpts are slices of the text: an entry is a block of the file grammar at its
-//! offset, and a definition is a field at its offset (`DefinitionFacts`).
+//! offset, and a definition is a field at its offset.
 //!
 //! Entries and abbreviations are nodes: they have names and refer to names. `needed` marks the needed nodes. Its map
 //! contains the indices of the nodes with each name. Its stack contains the marked nodes whose references are not

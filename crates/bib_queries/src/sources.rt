@@ -58,7 +58,7 @@ fn file_names(alloc: Global, names: &[&str]) -> Result<Vec<String>, AllocError>
 }
 
 // Appends the file name in an element `bcf:datasource`, without the white space around it. `piece` begins after the `<` of an
-// element. For another element, appends nothing.
+// element. For another element or a tag without an end, appends nothing.
 fn push_source(alloc: Global, files: &mut Vec<String>, piece: &str) -> Result<(), AllocError>
     ensures { OnOk result (map string_bytes files.new.items ≡ map string_bytes files.old.items ++ source_name piece.now) }
 {

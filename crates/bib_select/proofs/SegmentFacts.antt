@@ -169,7 +169,7 @@ abbrev pub tokens_left : Option segments.Segment → ℕ
 tokens_left None = 0
 tokens_left (Some rest) = length rest.tokens.now + 1
 
--- the same segments are left
+-- if segments are left, an equal list of segments is left
 pub left_is : {A B : Type 0} {f : A → Result B SelectionError} {whole : List A} {values : List B} {left same : List A} → left ≡ same
     → ReadSoFar f whole values left → ReadSoFar f whole values same
 left_is {f = f} {whole = whole} {values = values} is so = subst (λ l. ReadSoFar f whole values l) is so

@@ -78,12 +78,12 @@ signed_value rows (sign text) = value_named rows text
 abbrev pub comparison_at : Placed → Option Comparison
 comparison_at placed = signed_value comparison_signs placed.token
 
--- the operator on texts of a token: a sign, or the word `contains`; `None` for any other token
+-- the operator on texts that a token is: the sign `=`, `!=` or `~`, or the word `contains`; `None` for any other token
 abbrev pub operator_at : Placed → Option Operator
 operator_at placed =
     if is_keyword (codes "contains") placed.token then Some Contains else signed_value operator_signs placed.token
 
--- the question that an operator asks about the type
+-- the question that an operator asks about the type, or `None` for `contains` and `~`
 abbrev pub type_question : Operator → Option QuestionReading
 type_question Is = Some is_type
 type_question IsNot = Some is_other_type

@@ -95,7 +95,7 @@ fn terms(alloc: Global, raw: &[RawTerm<'_>]) -> Result<Items<Term>, SelectionErr
     Ok(terms)
 }
 
-/// Returns the alternatives of a condition. The error is a malformed regular expression, or out of memory.
+/// Returns the alternatives of a condition. The error is a regular expression that can't be compiled, or out of memory.
 pub(crate) fn alternatives(
     alloc: Global,
     raw: &[Vec<RawTerm<'_>>],

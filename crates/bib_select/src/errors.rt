@@ -18,9 +18,9 @@ pub enum SelectionErrorKind {
     MissingField,
     /// No operator comes after `key` or the name of a field.
     MissingOperator,
-    /// No operator comes after `type`.
+    /// Neither `=` nor `!=` comes after `type`.
     MissingTypeOperator,
-    /// No operator comes after `year`.
+    /// No sign of a comparison of numbers comes after `year`.
     MissingYearOperator,
     /// A text is missing after an operator.
     MissingText,
@@ -57,13 +57,13 @@ impl fmt::Display for SelectionErrorKind {
 /// The reason why a condition can't be parsed.
 #[derive(Debug, Clone, Copy, PartialEq, Eq, Error)]
 pub enum SelectionError {
-    /// The text is no condition, or a regular expression in it is malformed.
+    /// The text is no condition, or a regular expression in it can't be compiled.
     #[error("{kind} at byte {at}")]
     Malformed {
         /// The kind of the error.
         kind: SelectionErrorKind,
-        /// The byte offset of the token that doesn't fit, of the quote that isn't closed, or of the token with the malformed
-        /// regular expression. If the text ends too early, its length.
+        /// The byte offset of the token that doesn't fit, of the quote that isn't closed, or of the token with the regular
+        /// expression that can't be compiled. If the text ends too early, its length.
         at: usize,
     },
     /// Out of memory.

@@ -12,7 +12,8 @@ use std::alloc::Global;
 
 impl Selection {
     /// Parses a condition. Each error except out of memory has a byte offset. It is that of the first token that doesn't fit, of a
-    /// quote that isn't closed, or of the token with a malformed regular expression. If the text ends too early, it is its length.
+    /// quote that isn't closed, or of the token with a regular expression that can't be compiled. If the text ends too early, the offset
+    /// is its length.
     pub fn parse(alloc: Global, text: &str) -> Result<Selection, SelectionError>
         ensures found { IfOk result (IsParsed text.now) }
         ensures refused { IfErr result (IsParseError text.now) }

@@ -125,7 +125,7 @@ fn comparison_at(placed: &Placed<'_>) -> Option<Comparison>
     }
 }
 
-// Returns the operator on texts of a token: a sign, or the word `contains`. Returns `None` for any other token.
+// Returns the operator on texts that a token is: the sign `=`, `!=` or `~`, or the word `contains`. Returns `None` for any other token.
 fn operator_at(placed: &Placed<'_>) -> Option<Operator>
     ensures { result ≡ conditions.operator_at (placed_of placed.now) }
 {
@@ -143,7 +143,7 @@ fn operator_at(placed: &Placed<'_>) -> Option<Operator>
     }
 }
 
-// Returns the question that an operator asks about the type.
+// Returns the question that an operator asks about the type, or `None` for `contains` and `~`.
 fn type_question(operator: Operator) -> Option<Question<'static>>
     ensures { option_map question_of result ≡ conditions.type_question operator }
 {

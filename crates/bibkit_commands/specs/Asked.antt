@@ -173,7 +173,7 @@ pub record IsNoOrder (error : OrderError) (text : List ℕ) : Type 0 where
 abbrev pub IsSortRefused : Option (List ℕ) → OrderError → Type 0
 IsSortRefused value error = IsSomeAnd value (IsNoOrder error)
 
--- the number of blank lines for a value of `--blank-lines`, or none of a word that is no number
+-- the setting for a value of `--blank-lines`: the number of blank lines, or `None` for a word that is no number; not set without a value
 abbrev pub blank_lines_asked : Arguments → Option (Option ℕ)
 blank_lines_asked arguments = option_map number_in (argument_value arguments (codes "blank-lines"))
 

@@ -119,8 +119,8 @@ IsRenameOf arguments _ = ⊥
 
 -- ---- strings, rekey and recode
 
--- the edits of `strings`: abbreviations are replaced by their texts with `--expand`, and otherwise defined for texts that occur in several
--- fields, which is twice without `--at-least`
+-- the edits of `strings`. With `--expand`, abbreviations are replaced by their texts. Otherwise, an abbreviation is defined for each text
+-- that occurs in enough fields: as many as `--at-least` says, or two without it
 abbrev pub AreStringsOf : Arguments → Edits → Type 0
 AreStringsOf arguments (edits.These made) = (has_flag arguments (codes "expand") ≡ true) × (made.items ≡ edit.Expand ∷ [])
 AreStringsOf arguments (edits.Collect fields least) =
@@ -211,7 +211,7 @@ changes_of arguments options = flat_map (λ option. map (change_for option) (arg
 abbrev pub pair_name : List ℕ → List ℕ
 pair_name option = if bytes_eq option (codes "rename") then codes "OLD=NEW" else codes "FIELD=VALUE"
 
--- the result is the first word of these options without an equals sign, with the names of the two texts that it lacks
+-- the result is the first word of these options without an equals sign, with the form that a word of its option must have
 abbrev pub IsUnpairedIn : Arguments → List (List ℕ) → Option (Bor (List ℕ) × Bor (List ℕ)) → Type 0
 IsUnpairedIn arguments options None = first_unpaired arguments options ≡ None
 IsUnpairedIn arguments options (Some found) =

@@ -42,7 +42,7 @@ pub enum Asked<'a> {
         is_each: bool,
         /// The conditions on the entries that findings are about. An entry must meet all of them.
         conditions: Vec<&'a str>,
-        /// The name of standard input in findings, if it isn't `-`.
+        /// The name of standard input in findings, if one is given. Without one, the name is `-`.
         input_name: Option<&'a str>,
         /// The use of the new text of each file in which findings are mended, or `None` if they are only printed.
         fix: Option<Mode>,

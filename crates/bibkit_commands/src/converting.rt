@@ -126,7 +126,8 @@ fn wanted_keys(
     Ok(Some(keys))
 }
 
-// Returns the wanted keys of a text. Fails if it can't be parsed.
+// Returns the wanted keys of the bibliography of a text, or `None` without conditions. Fails if the text is parsed as a whole and has an
+// error, or if out of memory.
 fn wanted_keys_in(
     alloc: Global,
     printing: &Printing<'_>,

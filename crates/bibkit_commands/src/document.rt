@@ -114,8 +114,8 @@ fn too_many_stop(alloc: Global, name: &str) -> Result<Stop, AllocError>
     Ok(Stop::Said(said, 2))
 }
 
-// Adds the lines of an input file to a stack of lines, unless the file was input before. Returns the status: 0, or 2 after reporting
-// that the file can't be read or that there are too many files.
+// Adds the lines of an input file to a stack of lines, unless `seen` contains the file: the document itself, or a file that was input
+// before. Returns the status: 0, or 2 after reporting that the file can't be read or that there are too many files.
 fn enter(
     rt: &HostRuntime,
     seen: &mut BTreeMap<String, ()>,

@@ -231,7 +231,7 @@ fn push_option<'a>(
     push_field_edits(edits, option, &words)
 }
 
-// Returns the names of the two texts of a word of an option in help.
+// Returns the form that a word of an option must have, as help writes it.
 fn pair_name(option: &str) -> &'static str
     ensures { result.now ≡ spec.pair_name option.now }
 {
@@ -242,8 +242,8 @@ fn pair_name(option: &str) -> &'static str
     }
 }
 
-// Adds the edits of options of `edit` in turn. Returns the first word without `=`, with the names of the two texts that it lacks in help,
-// if there is one, and then adds no edits of the words after it.
+// Adds the edits of options of `edit` in turn. Returns the first word without `=`, if there is one, with the form that a word of its option
+// must have, and then adds no edits of the words after it.
 fn push_options<'a>(
     alloc: Global,
     edits: &mut Vec<SelectedEdit<'a>>,

@@ -298,7 +298,7 @@ fn findings_in<'f>(found: &'f [Finding], entry: &Spanned<RawEntry<'_>>) -> &'f [
 }
 
 /// Returns the fixes of the entries of a text, in the order of the entries. `found` are the findings to mend, in order of their starts. An
-/// entry is left alone if its key isn't the name of this entry only.
+/// entry is left alone unless its key occurs once among the names of all entries: their keys and the names in their fields `ids`.
 pub fn fixes(
     alloc: Global,
     entries: &[Spanned<RawEntry<'_>>],

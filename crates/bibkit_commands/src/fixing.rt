@@ -24,7 +24,7 @@ use std::collections::{BTreeMap, BTreeSet};
 use std::io;
 use std::str::from_utf8;
 
-// The number of texts that are tested for new findings. If the last of them has one, no field is renamed.
+// The maximum number of texts that are tested for new findings. If the last of them has one, no field is renamed.
 const ROUNDS: usize = 4;
 
 // Appends a finding if `lint` selects it. Rules in `off` are switched off.

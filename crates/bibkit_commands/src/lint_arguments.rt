@@ -173,7 +173,8 @@ fn findings_asked<'a>(alloc: Global, matches: &ArgMatches<'a>) -> Result<Asked<'
     })
 }
 
-/// Returns the request of `lint`: the explanation of a code for `--explain`, otherwise the findings of files.
+/// Returns the request of `lint`. With `--explain`, it explains a code. Otherwise, it reports wrong options if there are any, and prints
+/// the findings of files if there are none.
 pub fn lint_asked<'a>(alloc: Global, matches: &ArgMatches<'a>) -> Result<Asked<'a>, AllocError>
     ensures { IfOk result (IsLintOf (arguments_of matches.now)) }
 {

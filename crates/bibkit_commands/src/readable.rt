@@ -21,7 +21,8 @@ fn push_blank(blanked: &mut String, text: &str) -> Result<(), AllocError> {
     Ok(())
 }
 
-// Returns a text without its skipped blocks. Each of their bytes except line ends is replaced by a space, so all positions stay the same.
+// Returns a text without its skipped blocks. A space replaces each of their bytes except line ends, so each byte offset stays the same, and
+// each line keeps its number.
 fn without_blocks(
     alloc: Global,
     text: &str,
@@ -39,7 +40,8 @@ fn without_blocks(
     Ok(blanked)
 }
 
-/// Returns a text without its blocks that can't be parsed. Spaces replace their bytes, except line ends, so all positions stay the same.
+/// Returns a text without its blocks that can't be parsed. A space replaces each of their bytes except line ends, so each byte offset stays
+/// the same, and each line keeps its number.
 pub fn readable_text(alloc: Global, text: &str) -> Result<String, AllocError> {
     let recovery = RawBibliography::recover(alloc, text)?;
     without_blocks(alloc, text, &recovery.skipped)

@@ -33,7 +33,8 @@ pub struct Selecting<'a> {
 /// The output for the selected entries.
 #[derive(Clone, Copy)]
 pub struct Printed {
-    /// Whether the definitions and entries that the selected entries use, and all preambles of the file, are printed too.
+    /// Whether the definitions and entries that the selected entries use are printed too, with the parsed preambles of the file and the
+    /// skipped ones in braces.
     pub is_complete: bool,
     /// Whether only the keys of entries are printed.
     pub has_keys: bool,

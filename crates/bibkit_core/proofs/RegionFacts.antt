@@ -105,7 +105,8 @@ unbounded p q line column = go (q.line == 1) column where
   go true column = ap₂ (λ l c. record { line = l; column = c }) (omega (arith, line)) (omega (arith, column))
   go false column = ap (λ l. record { line = l; column = q.column }) (omega (arith, line))
 
--- the position of a later offset, from that of an earlier one and that of the offset in the bytes after it
+-- the position of the offset `to`, from that of an offset `at` up to it, and that of `to - at` in the bytes after `at`; the number of bytes
+-- is less than 2^64 - 1
 pub joined_at : (bytes rest : List ℕ) (at to : ℕ) → length bytes + 1 < 2 ^ 64 → rest ≡ slice_range bytes at (length bytes) → at ≤ to
     → joined_position (position_at bytes at) (position_at rest (to - at)) ≡ position_at bytes to
 joined_at bytes rest at to small is later =

@@ -42,7 +42,7 @@ no_lines {text} {says} skipped name is_empty recovery empty =
       lines_are = empty;
     }
 
--- no entries have no findings
+-- for an empty list of entries, the list of findings is empty
 none_of_each : {A : Type 0} {Are : EntryReading → A → List Finding → Type 0} {said : List EntryReading} {found : List Finding}
     → AreOfEach Are said [] [] found → found ≡ []
 none_of_each none = refl

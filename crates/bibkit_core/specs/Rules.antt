@@ -50,11 +50,12 @@ is_field_name field word = is_word word field
 abbrev pub names_field : List ℕ → List ℕ → Bool
 names_field field message = list_any (is_field_name field) (slice_split ends_word (after_key message))
 
--- whether a message contains the name of the field of a rule as a word, or the rule has none
+-- whether the rule has no field, or the message contains the name of the field as a word, in any ASCII case, after the key of its entry
 abbrev pub is_of_field : Option (List ℕ) → List ℕ → Bool
 is_of_field field message = option_map_or (λ name. names_field name message) field true
 
--- whether a rule means a finding: it has the code of the rule. If the rule has a field, the message contains its name as a word
+-- whether a rule means a finding: the finding has the code of the rule. If the rule has a field, the message contains its name as a word,
+-- in any ASCII case, after the key of its entry
 abbrev pub means : Finding → Rule → Bool
 means f rule = bytes_eq (code_name rule.code) (code_name f.code) && is_of_field rule.field f.message
 

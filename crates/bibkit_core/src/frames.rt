@@ -79,8 +79,9 @@ fn blank(character: char) -> char {
     if character == '\t' { '\t' } else { ' ' }
 }
 
-// Returns the line that contains the offset `at`, and a line with a mark below the character at that offset. The first line is cut to
-// `MOST_SHOWN` bytes on each side and at the first invalid UTF-8 on each side. Its control characters except tabs are replaced.
+// Returns the line that contains the offset `at`, and a line with a mark below the character at that offset. The first line has at most
+// `MOST_SHOWN` bytes on each side of the offset, and on each side only those before the first invalid UTF-8. Its control characters except
+// tabs are replaced.
 fn frame(alloc: Global, bytes: &[u8], at: usize) -> Result<String, AllocError> {
     let at = at.min(bytes.len());
     let before = end_of(before(bytes, at));

@@ -167,7 +167,7 @@ pub fn print_kept(
 /// Appends the selected findings of a file to `printed`, and counts them. The findings of its bytes come first, with their positions in
 /// the bytes. The findings of the decoded text follow, with their positions in this text. If there are conditions,
 /// only findings about entries whose key is that of an entry that meets all of them are appended. Findings that report one of the names
-/// `lint.own` as unknown are left out.
+/// `lint.own` as unknown, and those that the file switches off, are left out.
 pub fn print_file(
     alloc: Global,
     printed: &mut Printed,

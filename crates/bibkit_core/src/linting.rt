@@ -143,7 +143,7 @@ pub fn in_file(alloc: Global, style: Style, name: &str, text: String) -> Result<
     }
 }
 
-// Returns the status: 1 if findings of the severities that `fail_on` names were printed, otherwise 0.
+// Returns the status: 1 if findings of at least the severity `fail_on` are counted (with `Never`, none count), otherwise 0.
 pub(crate) fn lint_status(fail_on: FailOn, tally: Tally) -> u8
     ensures { result ≡ spec.lint_status fail_on tally }
 {

@@ -33,8 +33,8 @@ impl<M: Sink> Messages<M> {
         }
     }
 
-    /// Counts the next file. If progress is shown, replaces the line of progress by the number and the name of this file. The name is
-    /// cut to `MOST_SHOWN` characters, without control characters.
+    /// Counts the next file. If progress is shown, replaces the line of progress by the number of this file, the number of all files, and
+    /// the name of this file. The name is cut to `MOST_SHOWN` characters, without control characters.
     pub fn begin(&mut self, alloc: Global, name: &str) -> Result<(), AllocError> {
         self.begun = self.begun.saturating_add(1);
         if self.has_progress {

@@ -105,7 +105,8 @@ impl Rule {
         rule_with(alloc, code, text_after(text, ":"))
     }
 
-    // Returns whether the message of a finding contains the field of this rule as a word, or the rule has none.
+    // Returns whether this rule has no field, or the message of the finding contains the name of the field as a word, in any ASCII case,
+    // after the key of its entry.
     fn is_of_field(&self, finding: &Finding) -> bool
         ensures { result ≡ spec.is_of_field self.now.field finding.now.message }
     {

@@ -330,7 +330,7 @@ fn answer<F: Files, K: Sink, M: Sink>(
 
 /// Runs a request, and returns the greatest status that applies:
 /// - 0: done.
-/// - 1: `lint` printed findings of the severities that `fail_on` names, a search found nothing, or a request for entries skipped a block.
+/// - 1: `lint` printed a finding of at least the severity `fail_on`, a search found nothing, or a request for entries skipped a block.
 /// - 2: a file can't be read, or the output refused a text.
 /// - 3: out of memory.
 pub fn run<F: Files, K: Sink, M: Sink + Drop>(

@@ -55,7 +55,7 @@ fn notes_on(
     Ok(notes)
 }
 
-// Returns the new key for the entry with the key `old`; none if no entry has it, or if the new key is `old`.
+// Returns the new key for the first entry with the key `old`. There is none if no entry has this key, or if the new key is `old`.
 fn renamed_key<'k>(document: &RawDocument<'_>, old: &str, new: &'k str) -> NewKeys<'k>
     ensures { (index : ℕ) → key_for result index ≡ spec.renamed_key document.now.says.entries old.now new.now index }
 {

@@ -54,7 +54,7 @@ names_set None = []
 names_set (Some names) = map (λ name. name.now) names.now
 
 -- `style` is the style of the settings `set`. By default, two spaces are before a field, equals signs aren't aligned, and a comma is after
--- the last field. The text between entries and delimiters are kept, no field is moved to the front, and the width has no limit.
+-- the last field. The text between entries is kept, and so are the delimiters. No field is moved to the front, and the width has no limit.
 pub record IsStyleSet (set : StyleSettings) (style : Style) : Type 0 where
   pub indent : style.indent ≡ unwrap_or set.indent 2
   pub aligned : style.aligned ≡ unwrap_or set.aligned false

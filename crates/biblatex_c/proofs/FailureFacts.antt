@@ -35,19 +35,19 @@ error_fails : {Q R : Type 0} (F : Status → Type 0) (e : ParseError) → (e ≡
 error_fails F e (inl is) memory text = subst (λ e. F (status_of_error e)) (sym is) memory
 error_fails F e (inr found) memory text = kind_fails F e.kind memory (text found.1)
 
--- if a text isn't a file of the grammar, a call with it may fail with the status of the error of that text
+-- if parsing a text as a file may fail with an error, a call with the text may fail with the status of this error
 pub file_fails : (bytes text : List ℕ) (e : ParseError) → text ≡ bytes → Refuses text e (IsFile text → ⊥)
     → TextFails (IsNoFile bytes) bytes (status_of_error e)
 file_fails bytes text e same refuses = error_fails (TextFails (IsNoFile bytes) bytes) e refuses tt (λ unread. subst IsNoFile same unread)
 
--- if a text isn't accepted as a bibliography, a call with it may fail with the status of the error of that text
+-- if parsing a text as a bibliography may fail with an error, a call with the text may fail with the status of this error
 pub bibliography_fails : (bytes text : List ℕ) (e : ParseError) → text ≡ bytes
     → (e ≡ out_of_memory) ⊎ (IsErrorOf text e × (IsAcceptedText text → ⊥))
     → TextFails (IsNoBibliography bytes) bytes (status_of_error e)
 bibliography_fails bytes text e same refuses =
     error_fails (TextFails (IsNoBibliography bytes) bytes) e refuses tt (λ unread. subst IsNoBibliography same unread)
 
--- if a text isn't a file of the grammar, reading it as a document may fail with the status of its error
+-- if parsing a text as a file may fail with an error, reading the text as a document may fail with the status of this error
 pub reading_fails : (text : List ℕ) (e : ParseError) → Refuses text e (IsFile text → ⊥) → ReadingFails text (status_of_error e)
 reading_fails text e refuses = error_fails (ReadingFails text) e refuses tt (λ unread. unread)
 

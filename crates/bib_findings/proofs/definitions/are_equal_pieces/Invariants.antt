@@ -3,7 +3,7 @@ use Rattle.bib_syntax.specs.Views.{piece_of}
 use Rattle.bib_findings.specs.Definitions.{are_equal_pieces}
 use Rattle.bib_findings.proofs.definitions.are_equal_pieces.Given as goal
 
--- the values have the same pieces if their remaining pieces are the same
+-- the values have the same pieces exactly if their remaining pieces are the same
 abbrev pub invariant-pieces : goal.invariant-pieces
 invariant-pieces l =
     are_equal_pieces (map piece_of (drop l.index l.one)) (map piece_of (drop l.index l.other))
