@@ -106,7 +106,8 @@ first_more view test xs i x within is =
     ap (first_position test) (mapped_more view xs i x within is) ∙ first_append test (map view (take i xs)) (view x)
     ∙ ap (λ n. first_found (first_position test (map view (take i xs))) (cond (test (view x)) (Some n) None)) size
 
--- if an index is that of the first entry that passes, it is after one more entry gets its index if it passes
+-- if `old` is the index of the first entry that passes among those before an index, and the entry there gives its own index if it passes
+-- and there was none, `new` is the index of the first that passes among those up to it
 pub index_more : {A : Type 0} (view : A → EntryReading) (test : EntryReading → Bool) (xs : List A) (i : ℕ) (x : A) (old new : Option ℕ)
     → i < length xs → x ≡ get_or xs i x → old ≡ first_position test (map view (take i xs))
     → new ≡ first_found old (cond (test (view x)) (Some i) None)

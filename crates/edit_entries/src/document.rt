@@ -235,8 +235,8 @@ impl<'s> RawDocument<'s> {
     ///
     /// # Errors
     ///
-    /// `UnknownKey` if no entry has the key `old`. The others occur only if `new` isn't `old`: `NotAKey` if `old` is empty, or `new` can't
-    /// be a new key. `KeyIsThere` if `new` is, in any ASCII case, the key of another entry or a name in the field `ids` of an entry.
+    /// `UnknownKey` if no entry has the key `old`. The following occur only if `new` isn't `old`: `NotAKey` if `old` is empty, or `new`
+    /// can't be a new key. `KeyIsThere` if `new` is, in any ASCII case, the key of another entry or a name in the field `ids` of an entry.
     /// `NotInBraces` if a value that changes can't be written in braces.
     pub fn rename_key(&self, alloc: Global, old: &str, new: &str) -> Result<String, EditError>
         ensures renamed { IfOk result (λ text. IsEdited (KeyRenamed self.now old.now new.now) (string_bytes text)) }
