@@ -12,7 +12,7 @@ use std::alloc::{AllocError, Global};
 /// A sign of a text.
 #[derive(Debug, Clone, Copy, PartialEq, Eq)]
 pub enum Sign {
-    /// The backslash that begins a command.
+    /// The backslash that begins a command, outside of math, addresses and keys.
     Command,
     /// An opening brace that no backslash escapes.
     Opening,

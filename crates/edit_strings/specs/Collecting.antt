@@ -112,7 +112,7 @@ pub record TakesName (old new : Taken) (numbers : BTreeMap (String Global) ℕ) 
   pub others : (other : List ℕ) → is_taken new other ≡ (is_word name other || is_taken old other)
   pub closed : AreBelowUsed new numbers
 
--- the taken names and their numbers stay
+-- the same names are taken, and each number below a known one makes a name that is used
 pub record StaysTaken (old new : Taken) (numbers : BTreeMap (String Global) ℕ) : Type 0 where
   pub others : (other : List ℕ) → is_taken new other ≡ is_taken old other
   pub closed : AreBelowUsed new numbers
