@@ -40,7 +40,7 @@ pub enum Stretch {
     Address(usize),
 }
 
-// Returns whether a text begins with a word that marks the name of a command with an address or a key, such as `url` or `cite`.
+// Returns whether a text begins with a word, such as `url` or `cite`, that marks a command with an address or a key.
 fn begins_address_word(text: &[char]) -> bool
     ensures { result ≡ spec.begins_address_word text.now }
 {

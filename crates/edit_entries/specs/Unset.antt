@@ -38,8 +38,7 @@ is_line_space b = is_ascii_whitespace b && is_no_line_feed b
 abbrev pub line_end_at : List ℕ → ℕ → ℕ
 line_end_at text feed = if has_byte_at text (feed - 1) char.carriage_return then feed - 1 else feed
 
--- the byte offset after the line comment at a byte offset and the ASCII white space after it, or that byte offset if no comment is there;
--- `end` bounds both
+-- the byte offset after the line comment at `sign` and the ASCII white space after it, or `sign` if no comment is there. `end` bounds both
 abbrev pub after_comment : List ℕ → ℕ → ℕ → ℕ
 after_comment text sign end =
     if has_byte_at text sign char.percent then after_bytes is_ascii_whitespace text (after_bytes is_no_line_feed text sign end) end

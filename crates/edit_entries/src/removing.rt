@@ -217,7 +217,7 @@ fn white_end(text: &str, start: usize, end: usize) -> usize
     start + white_len(stretch(text, start, end))
 }
 
-// Returns the byte offset of the first line feed in the stretch between two byte offsets, or that of the stretch's end.
+// Returns the byte offset of the first line feed in the stretch from `start` to `end`, or else `start` plus the length of the stretch.
 fn line_feed(text: &str, start: usize, end: usize) -> usize
     ensures { result ≡ unset.after_bytes unset.is_no_line_feed text.now start end }
 {
