@@ -46,8 +46,8 @@ fn is_blank(text: &str) -> bool
     true
 }
 
-// Returns the number of bytes from the start of a field's name to its equals sign, if more than one byte is between its name and the
-// sign.
+// Returns the number of bytes from the start of a field's name to its equals sign. Returns `None` if at most one byte is between its name
+// and the sign.
 fn own_column(text: &str, field: &Pair<'_>) -> Option<usize>
     requires { IsSignPlaced text.now (field_of field.now) }
     ensures { result ≡ spec.wide_column text.now (field_of field.now ∷ []) }
