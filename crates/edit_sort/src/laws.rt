@@ -28,7 +28,7 @@ pub fn twice_is_once()
         IsSortedText (record { text = text_in_order d order; says = again }) (map (λ i. i.place) order) new → new ≡ text_in_order d order }
 {}
 
-/// States that sorting changes nothing in a text that was sorted and then formatted in a style. Each entry keeps its place.
+/// States that a text that was sorted and then formatted in a style is unchanged if it is sorted again and each entry keeps its place.
 pub fn formatted_stays()
     ensures { (style : Style) (d : Document) (places : List ℕ) (order : List Item) (again : FileReading) (after : Document) (new : List ℕ) →
         IsDocument d → AreEntriesInOrder (items d places) order → IsRawReading (text_in_order d order) again → IsDocument after →
