@@ -23,7 +23,7 @@ fn is_one_line(text: &str) -> bool
     text.as_bytes().iter().all(|byte| is_in_line(*byte))
 }
 
-// Returns the formatted text of a chunk if it is the text of the chunk itself.
+// Returns the text of a chunk that is verbatim, or normal and on one line. It is the formatted text of the chunk, too.
 fn standing(chunk: &Spanned<Chunk>) -> Option<&str>
     ensures { IfSome result (λ own. own.now ≡ text (chunk.now ∷ [])) }
 {

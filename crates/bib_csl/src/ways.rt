@@ -84,8 +84,8 @@ fn is_way_printed(alloc: Global, entry: &Entry, way: &str) -> Result<bool, Alloc
     Ok(named_publisher(alloc, entry)?.is_empty())
 }
 
-// Returns the field `howpublished`, or an empty text if it is the address of the item, or is printed as its publisher because the item has
-// no other.
+// Returns the field `howpublished`. Returns an empty text if it is the address of the item, or is printed as its publisher because the item
+// has no other.
 #[tactic(auto, unfolding(crate::specs::Notes::way_in_note))]
 pub(crate) fn way_in_note(alloc: Global, entry: &Entry) -> Result<Text, AllocError>
     ensures { IfOk result (λ way. way ≡ way_in_note entry.now) }

@@ -22,7 +22,7 @@ tag_name Subscript = codes "sub>"
 tag_name SmallCapitals = codes "span style=\"font-variant:small-caps;\">"
 tag_name KeepsCase = codes "span class=\"nocase\">"
 
--- the LaTeX command of a tag and its opening brace
+-- the LaTeX command of a tag, if there is one, and an opening brace
 abbrev pub command_of : Tag → List ℕ
 command_of Italic = codes "\\emph{"
 command_of Bold = codes "\\textbf{"

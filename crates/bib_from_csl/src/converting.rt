@@ -31,8 +31,9 @@ pub struct Refusal {
     pub fault: Fault,
     /// The index of the element at fault; 0 if the text isn't JSON, or is no array.
     pub element: usize,
-    /// The byte offset of the fault: the start of that element, or the place at which the text stops being JSON. If no place is found, such
-    /// as for a missing value in an object, it is the end of the text. For JSON that is no array, it is the start of the value.
+    /// The byte offset of the fault: the start of that element, or the place at which the text stops being JSON. The places of a missing
+    /// key or value in an object and of too deep nesting aren't found. For these, it is the place of a later fault, or else the end of the
+    /// text. For JSON that is no array, it is the start of the value.
     pub at: usize,
 }
 

@@ -186,8 +186,8 @@ fn whole_prefix(alloc: Global, parts: &NameParts) -> Result<Text, AllocError>
     Ok(text)
 }
 
-// Returns `true` if the name has a prefix that is part of the family name, `false` if it only has another prefix, and an empty text if it
-// has none.
+// Returns `true` if the name has a prefix that is part of the family name, and `false` if it only has another prefix. Returns an empty text
+// if it has none.
 #[tactic(auto, unfolding(crate::specs::WrittenPeople::prefix_flag))]
 fn prefix_flag(parts: &NameParts) -> &'static str
     ensures { result.now ≡ spec.prefix_flag parts.now }

@@ -34,8 +34,8 @@ impl Nesting {
         is_open
     }
 
-    // Records a token. Returns false for `Bad`, for a token after the value at the top, for a key outside an object, and for a bracket
-    // that doesn't close the innermost open one. Whether keys and values alternate in an object isn't tested.
+    // Records a token. Returns false for `Bad`, for a token after the value at the top, and for a key outside an object. Returns false also
+    // for a bracket that doesn't close the innermost open one. Whether keys and values alternate in an object isn't tested.
     fn pass(&mut self, token: &Token<'_>) -> Result<bool, AllocError> {
         if self.is_over {
             return Ok(false);

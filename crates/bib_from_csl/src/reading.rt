@@ -80,7 +80,7 @@ fn dashed_text(alloc: Global, text: &str) -> Result<Text, AllocError>
     replaced(alloc, text, '-', "–")
 }
 
-// Returns the text before and after the first hyphen.
+// Returns the text before and after the first hyphen, or `None` without a hyphen.
 pub(crate) fn sides(text: &str) -> Option<(&str, &str)>
     ensures some { is_some result ≡ has_byte char.hyphen text.now }
     ensures from { IfSome result (λ p. p.0.now ≡ before_first (λ b. b == char.hyphen) text.now) }

@@ -51,7 +51,7 @@ fn name_of(tag: Tag) -> &'static str
     }
 }
 
-// Returns the LaTeX command of a tag and its opening brace.
+// Returns the LaTeX command of a tag, if there is one, and an opening brace.
 fn command_of(tag: Tag) -> &'static str
     ensures { result.now ≡ spec.command_of tag }
 {

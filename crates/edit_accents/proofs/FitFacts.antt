@@ -73,7 +73,7 @@ neutral_dull q c dull =
     never true = refl
     never false = refl
 
--- signs that fit also fit after a neutral plain character
+-- signs that fit also fit after a neutral plain character other than a backslash
 pub plain_fit : (q : Bool) (d c : ℕ) (ss : List Sign) → (c ≡ 92 → ⊥) → is_neutral q c ≡ true → fit q false d ss ≡ true
     → fit q false d (Plain c ∷ ss) ≡ true
 plain_fit q d c ss no_slash neutral is =
@@ -138,7 +138,7 @@ closes_again q d cs is =
     and_from (can_close q (depth_opened q d)) (text_fits q false (depth_closed q (depth_opened q d)) cs) (close_opened q d)
     (subst (λ n. text_fits q false n cs ≡ true) (sym (back_again q d)) is)
 
--- a text that fits also fits after a neutral character
+-- a text that fits also fits after a neutral character other than a backslash
 plain_fits : (q : Bool) (d c : ℕ) (cs : List ℕ) → (c ≡ 92 → ⊥) → is_neutral q c ≡ true → text_fits q false d cs ≡ true
     → text_fits q false d (c ∷ cs) ≡ true
 plain_fits q d c cs no_slash neutral is =

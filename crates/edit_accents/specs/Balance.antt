@@ -31,8 +31,8 @@ abbrev pub can_close : Bool → ℕ → Bool
 can_close true depth = true
 can_close false depth = nat_lt 0 depth
 
--- whether the unescaped characters close this number of braces and all that they open, and in quotes contain no quote. No unescaped
--- backslash may be at the end
+-- whether the unescaped braces of a text close this number of open braces, and all that the text opens. In quotes, whether this number is
+-- 0, and the text has no unescaped quote. No unescaped backslash may be at the end
 abbrev pub text_fits : Bool → Bool → ℕ → List ℕ → Bool
 text_fits quoted is_escaped depth [] = not is_escaped && depth == 0
 text_fits quoted true depth (c ∷ cs) = text_fits quoted false depth cs
@@ -43,7 +43,7 @@ text_fits quoted false depth (c ∷ cs) =
     (cond (c == char.close_brace) (can_close quoted depth && text_fits quoted false (depth_closed quoted depth) cs)
     (text_fits quoted false depth cs))))
 
--- whether a plain character that no backslash escapes has no meaning
+-- whether a plain character is neither a brace nor, in quotes, a quote
 abbrev pub is_neutral : Bool → ℕ → Bool
 is_neutral quoted c = not (c == char.open_brace) && not (c == char.close_brace) && not (quoted && c == char.quote)
 

@@ -16,7 +16,7 @@ use Rattle.unicode_normalization.specs.Lookups.{is_combining_mark}
 
 -- ---- the names of accents and letters
 
--- the name in a row of accents for a mark, if it is in ASCII
+-- the name in a row of accents, if the row is for this mark and the name is one ASCII character
 abbrev pub name_in_row : List ℕ × ℕ → ℕ → Option ℕ
 name_in_row row mark = if row.1 == mark && not (list_any is_beyond_ascii row.0) then only_character row.0 else None
 

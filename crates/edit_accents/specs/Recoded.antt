@@ -76,7 +76,7 @@ value_recoded form text f =
 abbrev pub recoding : Form → List ℕ → Exchange
 recoding form text f = if changes_value form f then Some (value_recoded form text f) else None
 
--- a text is that of a document with the accents and letters in its entries written in a form, and parses to entries with these values,
+-- a text is that of a document with the accents and letters in its entries written in a form. It parses to entries with these values,
 -- except for byte offsets
 abbrev pub IsRecoded : Form → Document → List ℕ → Type 0
 IsRecoded form d text = IsChanged (λ e. exchanges (recoding form d.text) e) d text

@@ -242,9 +242,9 @@ fn push_character(
     Ok(())
 }
 
-/// Returns a text with commands for the characters beyond ASCII that `command_for` has one for. Math between dollar signs, addresses and
-/// keys with the optional arguments before them, characters on which a command puts an accent, escaped characters and characters before
-/// a combining character stay the same. The only error is out of memory.
+/// Returns a text in which a command replaces each character beyond ASCII for which `command_for` returns one. Math between dollar signs
+/// stays the same, and so do addresses and keys with the optional arguments before them. So do characters on which a command puts an
+/// accent, escaped characters, and characters before a combining character. The only error is out of memory.
 pub(crate) fn with_commands(alloc: Global, text: &str) -> Result<String, AllocError>
     ensures { IfOk result (λ new. string_bytes new ≡ encode_utf8_all (spec.with_commands (chars text.now))) }
 {

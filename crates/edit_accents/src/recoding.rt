@@ -324,8 +324,8 @@ fn edits(
 }
 
 /// Returns the text of `document` with the accents and letters beyond ASCII in its entries written in the form `form`. LaTeX
-/// commands become characters, or characters become LaTeX commands. Verbatim fields, fields with keys or keywords, four fields of other
-/// programs, math between dollar signs, and addresses and keys in commands with the optional arguments before them stay the same. The
+/// commands become characters, or characters become LaTeX commands. Verbatim fields, fields with keys or keywords, and four fields of other
+/// programs stay the same. So do math between dollar signs, and addresses and keys in commands with the optional arguments before them. The
 /// only error is out of memory.
 pub fn recode(alloc: Global, document: &RawDocument<'_>, form: Form) -> Result<String, AllocError>
     ensures { IfOk result (λ new. IsRecoded form document.now (string_bytes new)) }

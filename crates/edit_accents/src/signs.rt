@@ -12,7 +12,7 @@ use std::alloc::{AllocError, Global};
 /// A sign of a text.
 #[derive(Debug, Clone, Copy, PartialEq, Eq)]
 pub enum Sign {
-    /// The backslash that begins a command.
+    /// The backslash that begins a command, outside of math, addresses and keys.
     Command,
     /// An opening brace that no backslash escapes.
     Opening,
@@ -40,7 +40,7 @@ pub enum Stretch {
     Address(usize),
 }
 
-// Returns whether a text begins with a word that names of commands contain whose first argument in braces is an address or a key.
+// Returns whether a text begins with a word, such as `url` or `cite`, that marks a command with an address or a key.
 fn begins_address_word(text: &[char]) -> bool
     ensures { result ≡ spec.begins_address_word text.now }
 {

@@ -241,8 +241,8 @@ with_field_before_kept text fields new (f ∷ fs) [] = []
 with_field_before_kept text fields new (f ∷ fs) (FieldChange.kept ∷ changes) = preceded_by text fields f new ∷ changes
 with_field_before_kept text fields new (f ∷ fs) (change ∷ changes) = change ∷ with_field_before_kept text fields new fs changes
 
--- these changes of the last fields of an entry, with a new field `type` before the first field that is kept, if the value of a missing
--- `type` is given
+-- these changes of the last fields of an entry. If the value of a missing `type` is given, a new field `type` is before the first field
+-- that is kept
 abbrev pub with_missing_type : List ℕ → List FieldReading → Option (List ℕ) → List FieldReading → List FieldChange → List FieldChange
 with_missing_type text fields None fs changes = changes
 with_missing_type text fields (Some value) fs changes = with_field_before_kept text fields (type_field value) fs changes

@@ -34,8 +34,8 @@ month_date_text (Some d) =
     if is_some (first_side d.value).month && is_some (readable_value (date_of (datetime_text (first_side d.value))))
     then Some (datetime_text (first_side d.value)) else None
 
--- the text of the date that a year, a month and perhaps a day are parsed as. `None` if the year isn't four ASCII digits, if the
--- month names no month, if the day isn't one or two ASCII digits, or if they are no date
+-- the text of the date that a year, a month and perhaps a day are parsed as. `None` if the year isn't four ASCII digits, or the day isn't
+-- one or two. `None` also if the month names no month, or if they are no date
 abbrev pub joined_text : List ℕ → List ℕ → Option (List ℕ) → Option (List ℕ)
 joined_text year month day =
     if are_digits 4 year && (is_month_alone month && is_day_alone day)

@@ -133,8 +133,8 @@ fn month_date_text(alloc: Global, date: &Date) -> Result<Option<String>, AllocEr
     Ok(Some(text))
 }
 
-// Returns the text of the date that `year`, `month` and `day` are parsed as. Returns `None` if `year` isn't four digits, if
-// `month` names no month, if `day` isn't one or two digits, or if they are no date.
+// Returns the text of the date that `year`, `month` and `day` are parsed as. Returns `None` if `year` isn't four digits, or `day` isn't one
+// or two. Returns `None` also if `month` names no month, or if they are no date.
 fn joined_text(
     alloc: Global,
     year: &str,

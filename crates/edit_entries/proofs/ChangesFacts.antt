@@ -238,7 +238,7 @@ module _ (d : Document) (changes : EntryReading → EntryChange) (read : IsDocum
       (kind_case before es others (edits ++ later) e now at change.kind can.0.kind whole order.1
       (omega (arith, order.2.some)) fields.made)
 
--- in a UTF-8 text, the value of each field of an entry may be cut out, and only white space is between its trimmed end and its end
+-- in a UTF-8 text, the value of each field may be cut out, and only white space is between its trimmed end and its end
 pub values_placed : (d : Document) → IsDocument d → IsUtf8 d.text → OfFields (IsFieldPlaced d.text) d.says.entries
 values_placed d read utf8 =
     let all = all_placed d read in

@@ -84,7 +84,8 @@ entry_edited_read d edit k e e' fits s before past block =
     subst (λ n. File longest (place (edited edit d.text) n) (entry_edited d edit k e').says) zero
     (subst (λ says. File longest (goes edit d.text (place d.text 0)) says) (said ∙ named) whole)
 
--- if other fields parse between the comma after the key and the closing brace after an edit there, the entry has these fields
+-- if other fields parse between the comma after the key and the closing brace after an edit there, the entry has these fields. This
+-- holds if the edit ends after the end of this comma
 pub fields_edited_read : (d : Document) (edit : Edit) (k : ℕ) (e : EntryReading) (news : List FieldReading) {start : Place}
     → Fits edit d.text → (s : EntrySplit (place d.text 0) d.says e k) → s.block.after_comma.at ≤ edit.start
     → s.block.after_comma.at < edit.end → edit.end ≤ s.block.brace.at

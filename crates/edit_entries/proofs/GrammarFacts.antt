@@ -166,8 +166,8 @@ line_before {u} {v} {w} {x} {c} m ahead char other =
           absurd (test_clash (not (c == 10)) (not_from_false (c == 10) other) (m.line.stops c x (subst (λ p. CharAt p c x) same char)))
     ]
 
--- a gap in the zone is a gap in the second text, if a character other than a line feed follows it in the first text, and neither white
--- space nor a percent sign in the second one
+-- a gap in the zone is a gap in the second text, under two conditions. In the first text, a character other than a line feed follows it.
+-- In the second text, neither white space nor a percent sign follows it
 pub gap_until : {f : Frame} {u v x : Place} {c : ℕ} → Zone f → Inside f u → Inside f v → CharAt v c x
     → (c == 10) ≡ false → Stops is_whitespace (there f v) → Stops (λ d. d == 37) (there f v) → Gap longest u v
     → Gap longest (there f u) (there f v)

@@ -30,7 +30,7 @@ given true None new index none same = same
 given true (Some own) new index none same = absurd (let clash : true ≡ false = none refl in cc)
 given false old new index none same = same ∙ sym (or_none old)
 
--- giving an index to names and then to one more name gives it to all of them
+-- giving an index to names and then to one more name is giving it to all of them
 pub given_more : (found : Option ℕ) (one others : Bool) (index : ℕ)
     → option_or (option_or found (cond others (Some index) None)) (cond one (Some index) None)
     ≡ option_or found (cond (cond one true others) (Some index) None)
@@ -103,7 +103,8 @@ first_more view test xs i x within is =
     ap (first_position test) (mapped_more view xs i x within is) ∙ first_append test (map view (take i xs)) (view x)
     ∙ ap (λ n. option_or (first_position test (map view (take i xs))) (cond (test (view x)) (Some n) None)) size
 
--- if an index is that of the first entry that passes, it is after one more entry gets its index if it passes
+-- `old` is the index of the first entry that passes among the first `i` ones. `new` is `old`, or else `i` if the entry there passes. Then
+-- `new` is the index of the first that passes among the first `i + 1`
 pub index_more : {A : Type 0} (view : A → EntryReading) (test : EntryReading → Bool) (xs : List A) (i : ℕ) (x : A) (old new : Option ℕ)
     → i < length xs → x ≡ get_or xs i x → old ≡ first_position test (map view (take i xs))
     → new ≡ option_or old (cond (test (view x)) (Some i) None)

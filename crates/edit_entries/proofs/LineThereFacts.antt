@@ -41,8 +41,8 @@ limit_after d k e j f start end a =
       ),
     )
 
--- a field between two commas is removed by the same edit in a document with this field and the same text up to the end of the second
--- comma. The key or value before the field ends at the same byte offset in both documents
+-- the edit that removes a field between two commas also removes it in another document. That document has this field, and the same text up
+-- to the end of the second comma. The key or value before the field ends at the same byte offset in both documents
 pub line_there : (d after : Document) (k : ℕ) (e x : EntryReading) (n : ℕ) (f : FieldReading) → IsDocument after
     → slice_get after.says.entries k ≡ Some x → slice_get x.fields n ≡ Some f → end_before x n ≡ end_before e n
     → take (comma_after d.text e n f + 1) after.text ≡ take (comma_after d.text e n f + 1) d.text

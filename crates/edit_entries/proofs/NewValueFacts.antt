@@ -43,7 +43,8 @@ pub record ReadWith (known : Place → List Piece → Type 0) (u w : Place) : Ty
   pub elements : Elements longest u reading w
   pub is : known u reading
 
--- these bytes parse as `read` says wherever the next character can't continue a name or a number, and then white space but no `#` follows
+-- these bytes and the white space after them parse as `read` says. The next character must not continue a name or a number, and no `#` may
+-- follow the white space
 abbrev pub CanBeReadTo : (Place → Place → Type 0) → List ℕ → Type 0
 CanBeReadTo read bytes =
     (u v w : Place) → Stands u bytes v → Ending v → Longest is_whitespace v w → Stops (λ c. c == 35) w → read u w

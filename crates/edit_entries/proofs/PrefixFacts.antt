@@ -46,7 +46,8 @@ module _ (x y : List ℕ) (at : ℕ) (same : take at x ≡ take at y) where
       ∙ ap (λ m. cond (has_byte_at y s 37) m s)
       (after_prefix is_ascii_whitespace n end (omega (arith, n_in)) (omega (arith, last)))
 
-  -- if the first byte that fails a test is before the byte offset, it is at the same place in both texts, for each end at or after it
+  -- if the first byte that fails a test is before the byte offset, it is at the same place in both texts. This holds if the end in the
+  -- text `x` is at or after this place
   after_found : (test : ℕ → Bool) (start end end' n c : ℕ) → after_bytes test y start end ≡ n → has_byte_at y n c ≡ true
       → test c ≡ false → n < at → n ≤ end' → end' ≤ length x → after_bytes test x start end' ≡ n
   after_found test start end end' n c is byte fails less below within =

@@ -204,7 +204,8 @@ first_there test (e ∷ es) (suc k) found = first_there test es k (later (test e
     later false None n is = absurd (cc)
     later false (Some i) n is = let same : suc i ≡ suc n = cc in let index : i ≡ n = omega arith in ap Some index
 
--- if entries can get new keys and a call returns the text after these changes, which can be made, it returns the document with the keys
+-- if entries can get new keys and a call returns the text after the changes for them, it returns the document with the keys. This holds
+-- if each change can be made, and only white space is between its stretch and the end of the changed part
 pub renamed_answer : {S : Type 0} (bytes : S → List ℕ) (d : Document) (listed : List EntryReading) (keys : ℕ → Option (List ℕ))
     (r : Result S EditError) → IsDocument d → listed ≡ d.says.entries → CanGetKeys d.says.entries keys
     → IfOk r (λ made. bytes made ≡ edited_all (map (change_edit d.text) (key_renaming keys listed)) d.text)

@@ -391,8 +391,8 @@ module _ (d : Document) (selected : List ℕ → Bool) (name : List ℕ) (read :
   unsets_in_order =
       within_order d.text 0 (length d.text) (flat_map (unset_if_selected selected d.text name) d.says.entries) fields_unset.within
 
--- If the text is UTF-8 and each selected entry keeps a field, a call that returns the text with the edits for them returns the document
--- without these fields.
+-- The text is UTF-8, and each selected entry that has fields keeps one. Then a call that returns the text with the edits for them returns
+-- the document without these fields.
 pub selection_unset : {S : Type 0} (bytes : S → List ℕ) (d : Document) (selected : List ℕ → Bool) (name : List ℕ) (new : S) → IsDocument d
     → IsUtf8 d.text → list_any (would_be_empty selected name) d.says.entries ≡ false
     → bytes new ≡ edited_all (flat_map (unset_if_selected selected d.text name) d.says.entries) d.text

@@ -168,8 +168,8 @@ pub no_element : {A : Type 0} (xs : List A) → length xs < 1 → xs ≡ []
 no_element [] short = refl
 no_element (x ∷ xs) short = absurd (omega (arith, short))
 
--- if no field has the name, and name and value can be written, the text with a new field before the first one is the text after the field
--- is set
+-- the text with a new field before the first one is the text after the field is set. This holds if no field has the name, and name
+-- and value can be written
 pub put_made : (definitions : List FieldReading) (text : List ℕ) (e : EntryReading) (name : List ℕ) (value : SetValue)
     (first : FieldReading)
     (others : List FieldReading) (new : List ℕ) → list_any (has_name name) e.fields ≡ false → e.fields ≡ first ∷ others

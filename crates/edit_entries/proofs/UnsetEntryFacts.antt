@@ -109,7 +109,8 @@ module _ (d : Document) (before others : List EntryReading) (e : EntryReading) (
       by_case None is = several (ap (or_removals name e) is)
       by_case (Some edits) is = each edits is
 
--- if a call returns the text with `unset_edits` and a field without the name remains, it returns the document without the fields
+-- if a call returns the text with `unset_edits`, it returns the document without the fields. This holds if the entry has no
+-- fields, or keeps one
 pub field_unset : {S : Type 0} (bytes : S → List ℕ) (d : Document) (key name : List ℕ) (k : ℕ) (e : EntryReading)
     (new : S) → IsDocument d → ((j : ℕ) (f : FieldReading) → slice_get e.fields j ≡ Some f → IsTrimmed d.text f)
     → HasEntry d key k e → have_only name e.fields ≡ false

@@ -166,8 +166,8 @@ part_there {f} {u} {v} z iu iv ahead =
     let build : List ℕ → Part = λ (t : List ℕ). record { text = t; start = f.move u.at; end = f.move v.at } in
     ap build (between_there z iu iv ahead)
 
--- if both texts have the same length from the start of the zone on, the end of the first text, in the zone or at its end, is moved to the
--- end of the second
+-- the end of the first text, in the zone or at its end, is moved to the end of the second. This holds if both texts have the same length
+-- from the start of the zone on
 pub end_there : {f : Frame} {u : Place} → Inside f u → length f.old + f.to ≡ length f.new + f.from → AtEnd u → AtEnd (there f u)
 end_there {f} {u} iu same end =
     let size : length u.text ≡ length f.old = ap length iu.text in

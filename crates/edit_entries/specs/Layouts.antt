@@ -56,6 +56,6 @@ abbrev pub new_sign : List ℕ → List ℕ → FieldReading → List FieldReadi
 new_sign text name first fields = sign_in_column text name (wide_column text fields) first
 
 -- The text between the name and the value of a new field that replaces a field or comes before it; the list has all fields of the entry.
--- The column is that of this field if it has more than one byte between its name and its sign, or else that of the first such field.
+-- If this field has more than one byte between its name and its sign, the column is its own. Otherwise it is that of the first such field.
 abbrev pub sign_at : List ℕ → FieldReading → List FieldReading → List ℕ → List ℕ
 sign_at text f fields name = new_sign text name f (f ∷ fields)

@@ -1,6 +1,6 @@
 -- Meaning: words of public contracts.
 -- Texts in quotes whose braces aren't balanced. BibTeX and Biber end a text in quotes at the first quote outside of braces. This library
--- and bibtool end it at the first quote that no backslash escapes. So the end of such a text depends on the program.
+-- and bibtool end it at the first quote that no backslash escapes. So the end of such a text can depend on the program.
 use Rattle.std.specs.Prelude.{ℕ, ◌-◌, ◌&&◌, ◌||◌, not, Bool, false, List}
 use Rattle.std.specs.List.{list_any}
 use Rattle.bib_text.specs.Characters as char

@@ -115,7 +115,7 @@ abbrev pub value_change : FieldReading → Option (List ℕ) → List Change
 value_change f None = []
 value_change f (Some new) = Change.value f new ∷ []
 
--- the change of each reference field with an element that gets a new name
+-- the change of each reference field whose value is one literal with an element that gets a new name
 abbrev pub reference_changes : (List ℕ → List ℕ → Option (List ℕ)) → List FieldReading → List Change
 reference_changes names fields = flat_map (λ f. value_change f (renamed_value names f)) fields
 

@@ -22,7 +22,7 @@ has_byte_at text at c = option_map_or (λ b. b == c) (slice_get text at) false
 abbrev pub has_percent : List ℕ → ℕ → ℕ → Bool
 has_percent text start end = list_any (λ b. b == char.percent) (between (place text start) (place text end))
 
--- the first byte offset between two at which a byte fails a test, or the second one
+-- the byte offset after the longest run of bytes that pass a test, from the first byte offset on and before the second one
 abbrev pub after_bytes : (ℕ → Bool) → List ℕ → ℕ → ℕ → ℕ
 after_bytes test text start end = start + prefix_len test (between (place text start) (place text end))
 
@@ -38,7 +38,7 @@ is_line_space b = is_ascii_whitespace b && is_no_line_feed b
 abbrev pub line_end_at : List ℕ → ℕ → ℕ
 line_end_at text feed = if has_byte_at text (feed - 1) char.carriage_return then feed - 1 else feed
 
--- the byte offset after the line comment at a byte offset and the ASCII white space after it, or that byte offset if none is there
+-- the byte offset after the line comment at `sign` and the ASCII white space after it, or `sign` if no comment is there. `end` bounds both
 abbrev pub after_comment : List ℕ → ℕ → ℕ → ℕ
 after_comment text sign end =
     if has_byte_at text sign char.percent then after_bytes is_ascii_whitespace text (after_bytes is_no_line_feed text sign end) end

@@ -100,7 +100,7 @@ impl<'s> RawDocument<'s> {
     /// Returns the text with a field of the first entry with `key` set: each field with `name`, in any ASCII case, gets `value`. A text is
     /// written in braces, a number or the name of an abbreviation as it is. BibTeX reads the first of several fields with one name, Biber
     /// and this library the last. A field that already has this value is kept. If the entry has no such field, a new one comes before the
-    /// others, laid out like them, or with ` = ` if the first has other characters than spaces and tabs around its equals sign.
+    /// others, laid out like them. It has ` = ` if the first has other characters than spaces and tabs around its equals sign.
     ///
     /// # Errors
     ///
@@ -235,8 +235,8 @@ impl<'s> RawDocument<'s> {
     ///
     /// # Errors
     ///
-    /// `UnknownKey` if no entry has the key `old`. The others occur only if `new` isn't `old`: `NotAKey` if `old` is empty, or `new` can't
-    /// be a new key. `KeyIsThere` if `new` is, in any ASCII case, the key of another entry or a name in the field `ids` of an entry.
+    /// `UnknownKey` if no entry has the key `old`. The following occur only if `new` isn't `old`: `NotAKey` if `old` is empty, or `new`
+    /// can't be a new key. `KeyIsThere` if `new` is, in any ASCII case, the key of another entry or a name in the field `ids` of an entry.
     /// `NotInBraces` if a value that changes can't be written in braces.
     pub fn rename_key(&self, alloc: Global, old: &str, new: &str) -> Result<String, EditError>
         ensures renamed { IfOk result (λ text. IsEdited (KeyRenamed self.now old.now new.now) (string_bytes text)) }
@@ -283,9 +283,9 @@ impl<'s> RawDocument<'s> {
     ///
     /// # Errors
     ///
-    /// `NotAKey` if an entry that gets a key has an empty one, or the new one can't be a new key. `KeyIsThere` if a new key is, in any
-    /// ASCII case, the key of an entry that gets none, a name in the field `ids` of an entry, or another new key. `NotInBraces` if a value
-    /// that changes can't be written in braces.
+    /// `NotAKey` if an entry that gets a key has an empty one, or the new one can't be a new key. `KeyIsThere` if a new key is the
+    /// key of an entry that gets none, a name in the field `ids` of an entry, or another new key. These are compared in any ASCII
+    /// case. `NotInBraces` if a value that changes can't be written in braces.
     pub fn rename_keys(&self, alloc: Global, keys: &[Option<&str>]) -> Result<String, EditError>
         ensures renamed { IfOk result (λ text. IsEdited (KeysRenamed self.now (given_keys keys.now)) (string_bytes text)) }
         ensures refused { IfErr result (KeysAreRefused self.now (given_keys keys.now)) }

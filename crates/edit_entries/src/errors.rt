@@ -28,7 +28,7 @@ pub enum EditError {
     #[error("the value can't be written in braces")]
     NotInBraces,
     /// The value can't be written without braces: it is neither a number nor an abbreviation that is a month or is defined before the
-    /// entry. BibTeX requires this order.
+    /// entry. BibTeX requires this order. An abbreviation that begins with a digit can't be written either.
     #[error("the value is neither a number nor an abbreviation that is defined before the entry")]
     NotBare,
     /// An abbreviation is defined already, in any ASCII case, with other literals or abbreviations as its value: uses of it could change

@@ -41,7 +41,7 @@ pub(crate) fn can_be_new_key(text: &str) -> bool
     s.done()
 }
 
-// Returns the first key of these entries that can't be a new key.
+// Returns the first key of these entries that can't be a new key, or `None` if each can be one.
 pub(crate) fn first_unsafe_key<'s>(entries: &[Spanned<RawEntry<'s>>]) -> Option<&'s str>
     ensures { MatchOption result
         (HaveNewKeys (map entry_reading_of entries.now))

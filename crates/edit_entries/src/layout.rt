@@ -46,8 +46,8 @@ fn is_blank(text: &str) -> bool
     true
 }
 
-// Returns the number of bytes from the start of a field's name to its equals sign, if more than one byte is between its name and the
-// sign.
+// Returns the number of bytes from the start of a field's name to its equals sign. Returns `None` if at most one byte is between its name
+// and the sign.
 fn own_column(text: &str, field: &Pair<'_>) -> Option<usize>
     requires { IsSignPlaced text.now (field_of field.now) }
     ensures { result ≡ spec.wide_column text.now (field_of field.now ∷ []) }
@@ -100,8 +100,9 @@ fn push_before_sign(
     }
 }
 
-// Returns the text between the name and the value of a new field beside `field`, with its equals sign in the column, if there is one.
-// Returns ` = ` if `field` has any other character than spaces and tabs around its sign.
+// Returns the text between the name and the value of a new field beside `field`. Its equals sign is in the column, if there is one, or else
+// after the white space that is before the sign of `field`. Returns ` = ` if `field` has any other character than spaces and tabs around
+// its sign.
 fn sign_in_column(
     alloc: Global,
     text: &str,
@@ -123,7 +124,8 @@ fn sign_in_column(
     Ok(sign)
 }
 
-// Returns the text between the name and the value of a new field before these, of which `first` is the first.
+// Returns the text between the name and the value of a new field beside the field `first`. The column is that of the first of `fields` with
+// more than one byte between its name and its sign, if there is one.
 pub(crate) fn new_sign(
     alloc: Global,
     text: &str,

@@ -45,11 +45,11 @@ impl<'k> NewKeys<'k> {
 #[derive(Drop)]
 pub struct Names<'k, 's> {
     pub(crate) keys: NewKeys<'k>,
-    // The first entry with each key.
+    // The index of the first entry with each key.
     exact: BTreeMap<&'s str, usize>,
-    // The first entry with each key in ASCII lowercase.
+    // The index of the first entry with each key, by the key in ASCII lowercase.
     in_lowercase: BTreeMap<String, usize>,
-    // The first entry with each name in its field `ids`.
+    // The index of the first entry with each name in its fields `ids`.
     aliases: BTreeMap<&'s str, usize>,
     // The keys of the entries.
     texts: Vec<&'s str>,

@@ -193,7 +193,7 @@ fn white_len(bytes: &[u8]) -> usize
     bytes.iter().take_while(|b| b.is_ascii_whitespace()).count()
 }
 
-// Returns the number of bytes before the first line feed.
+// Returns the number of bytes before the first line feed, or of all bytes if there is none.
 fn line_len(bytes: &[u8]) -> usize
     ensures { result ≡ prefix_len unset.is_no_line_feed bytes.now }
 {
@@ -217,7 +217,7 @@ fn white_end(text: &str, start: usize, end: usize) -> usize
     start + white_len(stretch(text, start, end))
 }
 
-// Returns the byte offset of the first line feed between two byte offsets, or the second one.
+// Returns the byte offset of the first line feed in the stretch from `start` to `end`, or else `start` plus the length of the stretch.
 fn line_feed(text: &str, start: usize, end: usize) -> usize
     ensures { result ≡ unset.after_bytes unset.is_no_line_feed text.now start end }
 {

@@ -73,7 +73,7 @@ fn push_reference_edit(
     }
 }
 
-// Adds the edit of each field with an element that gets a new name.
+// Adds the edit of each reference field whose value is one literal with an element that gets a new name.
 fn push_reference_edits(
     edits: &mut Vec<Edit>,
     alloc: Global,

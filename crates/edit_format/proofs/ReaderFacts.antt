@@ -13,7 +13,7 @@ use Rattle.edit_entries.proofs.SplitFacts.{entry_block}
 use Rattle.edit_format.specs.Formatted.{entry_in_style, gap_in_style, rest_in_style}
 use Rattle.edit_format.specs.declared.style.Style.{Style}
 
--- the next entry and the gap before it may be cut out of the text, and parsing continues after the closing brace at the end of the entry
+-- the next entry and the gap before it may be cut out of the text. Parsing continues after the closing brace at the end of the entry
 pub next_cut : (text : List ℕ) {u v : Place} {e : EntryReading} → u.text ≡ text → IsNextEntry u e v → IsCharBoundary text u.at
     → IsCharBoundary text v.at → CanBeCut text u.at e.start × IsEntryCut text e × (v.at ≡ e.end + 1)
 next_cut text {u} {v} {e} same next cut after =

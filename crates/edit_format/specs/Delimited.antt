@@ -47,8 +47,8 @@ goes_in_braces Quotes content = false
 abbrev pub has_quote : List ℕ → Bool
 has_quote content = list_any (λ b. b == char.quote) content
 
--- whether the style rewrites a braced literal in quotes: it must have no quote, not even an escaped one, since BibTeX knows no
--- escapes
+-- whether the style rewrites a braced literal in quotes. It must have no quote, not even an escaped one, since BibTeX knows no escapes, and
+-- no backslash at its end may escape the delimiter
 abbrev pub goes_in_quotes : Delimiters → List ℕ → Bool
 goes_in_quotes Keep content = false
 goes_in_quotes Braces content = false

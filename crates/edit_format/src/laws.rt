@@ -9,16 +9,16 @@ ghost use Rattle.edit_format.specs.declared.style.Style.{Style};
 ghost use Rattle.bib_syntax.specs.Grammar.{IsRawReading, QuotedParts};
 ghost use Rattle.bib_syntax.specs.Reading.{FileReading};
 
-/// A text in a style is unchanged if it is formatted in the same style again.
+/// States that a text in a style is unchanged if it is formatted in the same style again.
 pub fn twice_is_once()
     ensures { (style : Style) (text : List ℕ) (says again : FileReading) → IsRawReading text says →
         IsRawReading (text_in_style style text says) again →
         text_in_style style (text_in_style style text says) again ≡ text_in_style style text says }
 {}
 
-/// The tests of contents agree with the file grammar. The content of a quoted literal passes the test for braces exactly if it
-/// parses as the content of a braced literal. The content of a braced literal passes the test for quotes exactly if it parses
-/// as the content of a quoted literal.
+/// States that the tests of contents agree with the file grammar. The content of a quoted literal passes the test for braces exactly if
+/// it parses as the content of a braced literal. The content of a braced literal passes the test for quotes exactly if it parses as the
+/// content of a quoted literal.
 pub fn delimiters_fit()
     ensures braces { (text : List ℕ) → QuotedParts (place text 0) (place text (length text)) →
         MatchBool (can_stand_in_braces text) (IsParts text) (IsParts text → ⊥) }

@@ -193,7 +193,8 @@ module _ (name : List ℕ) (value : SetValue) (text : List ℕ) where
           let passes : bytes_eq other (name_of f) ≡ true = found_passes (λ g. bytes_eq other (name_of g)) (reverse fs) f is in
           ap Some (other_kept f (named_alike name other f passes ∙ apart))
 
-  -- after each field with a name gets a value that is a text, the last of them has this text; other names keep their last fields
+  -- after each field with a name gets a value that is a text, the last of them has this text; other names keep their last fields. This
+  -- holds if a field has the name, and each field that already has the value has this text
   pub values_are_set : (fs : List FieldReading) → list_any (has_name name) fs ≡ true → IsText (new_value value).pieces text
       → AllByRecursion HasTextAlready fs → IsFieldSet fs (map set_field fs) (str_to_ascii_lowercase name) text
   values_are_set fs any new already =

@@ -241,7 +241,7 @@ tracked_back at old new t below =
       | inr from ↦ absurd (omega (arith, t.from from, below))
     ]
 
--- a byte offset is also tracked from `less` on after an edit between `less` and `at`
+-- a byte offset that is tracked from `at` on is tracked from `less` on after an edit that starts between `less` and `at`
 tracked_moved : (edit : Edit) (less at old new : ℕ) → less ≤ edit.start → edit.start ≤ edit.end → edit.start ≤ at
     → IsTracked at old new → IsTracked less old (moved_place edit new)
 tracked_moved edit less at old new first ordered last t = record {

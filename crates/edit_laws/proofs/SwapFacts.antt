@@ -57,7 +57,7 @@ module _ {X : Type 0} where
       get_or-set_other once j n (get_or xs i d) d e ∙ ap (λ m. get_or once m d) f ∙ get_or-set_same xs i (get_or xs j d) d a)
       (λ e f. get_or-set_other once j n (get_or xs i d) d e ∙ get_or-set_other xs i n (get_or xs j d) d f)
 
-  -- the element at an index after swaps is the one that was at its old index
+  -- after swaps of indices in range, the element at an index is the one that was at its old index
   pub get_swaps : (xs : List X) (ps : List (ℕ × ℕ)) (n : ℕ) (d : X) → SwapsInRange (length xs) ps
       → get_or (apply_swaps xs ps) n d ≡ get_or xs (before_swaps ps n) d
   get_swaps xs [] n d below = refl

@@ -83,8 +83,8 @@ abbrev pub linked_names : Names
 linked_names = fields "ids crossref xdata date year month day"
 
 -- two bibliographies have the same keys, entry types and names. Each entry has the same styled texts of fields, with two exceptions.
--- One field of the entry with a key may differ, and so may entries that lead to this one by the references of `own`, the entries
--- before inheriting.
+-- One field of the entry with a key may differ. So may entries that lead to this one by the references of `own`, the entries before
+-- inheriting.
 pub record AreAlikeExcept (own : List Entry) (one other : Bibliography) (key name : List ℕ) : Type 0 where
   pub index : ℕ
   pub entry : Entry

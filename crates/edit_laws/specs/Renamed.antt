@@ -14,8 +14,8 @@ use Rattle.edit_entries.specs.References.{elements_of, meant_index}
 
 -- ---- entries before inheriting
 
--- an entry is another one with the same or a new key, the same type, and the same styled texts of its own fields, except for
--- reference fields
+-- an entry is another one with the same or a new key. It has the same type and, except for reference fields, the same styled texts of its
+-- own fields
 pub record IsKeyRenamed (keys : ℕ → Option (List ℕ)) (one other : Entry) : Type 0 where
   pub key : (other.key ≡ one.key) ⊎ ((index : ℕ) × (keys index ≡ Some other.key))
   pub kind : other.entry_type ≡ one.entry_type

@@ -82,8 +82,8 @@ pub fn set_is_read()
         → CanBeFieldContents (str_to_ascii_lowercase name) text → IsAcceptedText d.text → IsErrorOf after.text e → ⊥ }
 {}
 
-/// States that, after a field is unset, the entry with the key lacks this field before inheriting, and all other fields of the
-/// file are as they were.
+/// States that, after a field is unset, the entry with the key lacks this field before inheriting. All other fields of the file are as
+/// they were.
 ///
 /// If the field isn't `ids`, `crossref`, `xdata`, `date`, `year`, `month` or `day`, the entry of a bibliography has the field exactly if it
 /// inherits the field. All other fields of the bibliography are then as they were, except in entries that can inherit from this one. The

@@ -15,7 +15,7 @@
 //! (`MovedFacts`, `RemovedFacts`, `SortedFacts`).
 //!
 //! Keys and values begin at byte offsets of their own (`LeadOrderFacts`). So each change of a key or a reference changes the one that its
-//! definition names (`LeadChangeFacts`), and each name leads to the entry that it led to (`LeadNameFacts`, `LeadFacts`).
+//! definition names (`LeadChangeFacts`). Each name leads to the entry that it led to (`LeadNameFacts`, `LeadFacts`).
 #![tactic(auto)]
 
 pub mod laws;

@@ -110,8 +110,9 @@ fn places_of(
 /// they keep their order in the file. The only error is out of memory.
 ///
 /// Only the own fields of an entry count, not those that it inherits. Abbreviations count as their last definitions in the file with
-/// exactly the same name. A field can't be parsed if it contains an abbreviation that is neither defined nor a month, one that its own
-/// definition uses, or LaTeX with an error. The source of its texts and the names of its abbreviations count then.
+/// exactly the same name. A field can't be parsed if it contains LaTeX with an error, or an abbreviation that is neither defined nor a
+/// month. Nor can a field with an abbreviation that its own definition uses. The source of its texts and the names of its abbreviations
+/// count then.
 pub fn order_places(
     alloc: Global,
     order: Order,

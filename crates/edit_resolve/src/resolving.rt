@@ -30,11 +30,12 @@ use std::alloc::Global;
 /// `school` as `location`, `journaltitle` and `institution`. An entry with `date` inherits no `year`, `month` or `day`, and one with `year`
 /// no `date`.
 ///
-/// **Text.** The inherited fields replace the last reference of their entry, and its other references are removed, with the text up to
-/// the next field. Each value is written as its parent has it, with ` # ` between joined pieces. If nothing is inherited, the last
-/// reference is removed too, or kept if no field follows it. A field that takes the place of an own field is written there. A
-/// reference without a key, or with a key that finds no entry, is kept, and so is every other byte of the file. An entry whose
-/// references are all kept gets no new field, but fields of the `xdata` parents that are found still take the places of own ones.
+/// **Text.** A reference is resolved if it has a key and each of its keys finds an entry. The inherited fields replace the last resolved
+/// reference of their entry. Its other resolved references are removed, with the text up to the next field. Each value is written as its
+/// parent has it, with ` # ` between joined pieces. If nothing is inherited, the last resolved reference is removed too, or kept if no
+/// field follows it. A field that takes the place of an own field is written there. A reference that isn't resolved is kept, and so is
+/// every other byte of the file. An entry without a resolved reference gets no new field, but fields of found `xdata` parents still take
+/// the places of own ones.
 ///
 /// # Errors
 ///

@@ -172,7 +172,7 @@ in_style_in_order style d after places read read' is sorted =
     ∙ ap (map (λ (i : Item). i.place)) (sym (items_are d places)) in
     sorted_as (items after places) (items d places) runs ranks numbers (starts_in_order after places read') sorted
 
--- sorting a text that was sorted and then formatted doesn't change it
+-- if each entry keeps its place, sorting a text that was sorted and then formatted doesn't change it
 pub sorted_in_style_stays : (style : Style) (d : Document) (places : List ℕ) (order : List Item) (again : FileReading) (after : Document)
     (new : List ℕ) → IsDocument d → AreEntriesInOrder (items d places) order → IsRawReading (text_in_order d order) again
     → IsDocument after → after.text ≡ text_in_style style (text_in_order d order) again

@@ -32,7 +32,7 @@ one_text (abbreviation p ∷ rest) = None
 one_text (literal p ∷ []) = Some (trim p.text)
 one_text (literal p ∷ other ∷ rest) = None
 
--- the key that a field names, if it is a `crossref`
+-- the key that a field names, if it is a `crossref` and its value is one literal
 abbrev pub crossref : FieldReading → Option (List ℕ)
 crossref f = cond (is_word f.name.text (codes "crossref")) (one_text f.value.pieces) None
 

@@ -9,26 +9,26 @@ ghost use Rattle.edit_format.specs.Formatted.{text_in_style};
 ghost use Rattle.edit_format.specs.declared.style.Style.{Style};
 ghost use Rattle.edit_sort.specs.Sorted.{AreEntriesInOrder, IsAfterCycle, IsSortedText, Item, has_key_of, item_cmp, items, refers_to, text_in_order};
 
-/// The items of a document have only one sorted order.
+/// States that the items of a document have only one sorted order.
 pub fn one_order()
     ensures { (d : Document) (places : List ℕ) (first second : List Item) → IsDocument d →
         AreEntriesInOrder (items d places) first → AreEntriesInOrder (items d places) second → first ≡ second }
 {}
 
-/// A text whose entries are in order is unchanged by sorting.
+/// States that a text whose entries are in order is unchanged by sorting.
 pub fn in_order_stays()
     ensures { (d : Document) (places new : List ℕ) → IsDocument d →
         IsSorted item_cmp (items d places) → IsSortedText d places new → new ≡ d.text }
 {}
 
-/// A sorted text is unchanged if it is sorted again by the same places.
+/// States that a sorted text is unchanged if it is sorted again and each entry keeps its place.
 pub fn twice_is_once()
     ensures { (d : Document) (places : List ℕ) (order : List Item) (again : FileReading) (new : List ℕ) → IsDocument d →
         AreEntriesInOrder (items d places) order → IsRawReading (text_in_order d order) again →
         IsSortedText (record { text = text_in_order d order; says = again }) (map (λ i. i.place) order) new → new ≡ text_in_order d order }
 {}
 
-/// A text that is sorted and then formatted in a style is unchanged if it is sorted again by the same places.
+/// States that a text that was sorted and then formatted in a style is unchanged if it is sorted again and each entry keeps its place.
 pub fn formatted_stays()
     ensures { (style : Style) (d : Document) (places : List ℕ) (order : List Item) (again : FileReading) (after : Document) (new : List ℕ) →
         IsDocument d → AreEntriesInOrder (items d places) order → IsRawReading (text_in_order d order) again → IsDocument after →
@@ -36,13 +36,14 @@ pub fn formatted_stays()
         new ≡ after.text }
 {}
 
-/// Sorting keeps the run at each index, so no entry moves over an at sign between entries.
+/// States that sorting keeps the run at each index, so no entry moves over an at sign between entries.
 pub fn runs_stay()
     ensures { (d : Document) (places : List ℕ) (order : List Item) →
         AreEntriesInOrder (items d places) order → map (λ i. i.run) order ≡ map (λ i. i.run) (items d places) }
 {}
 
-/// In a run, an entry that a `crossref` of another entry names comes after that entry, unless it is on a cycle of references or after one.
+/// States that, in a run, an entry that a `crossref` of another entry names comes after that entry. An entry on a cycle of references, or
+/// after one, is excluded.
 pub fn parents_follow()
     ensures { (d : Document) (places : List ℕ) (order : List Item) (i j : ℕ) (parent child : Item) →
         AreEntriesInOrder (items d places) order →
@@ -50,8 +51,8 @@ pub fn parents_follow()
         refers_to parent.entry.key.text child.entry ≡ true → (IsAfterCycle d.says.entries parent.entry → ⊥) → j < i }
 {}
 
-/// Sorting keeps the order of entries with one key, in any ASCII case. So the first entry with a key, which is the only one that BibTeX
-/// reads, stays the first one.
+/// States that sorting keeps the order of entries with one key, in any ASCII case. So the first entry with a key, which is the only one
+/// that BibTeX reads, stays the first one.
 pub fn one_key_keeps_order()
     ensures { (d : Document) (places : List ℕ) (order : List Item) (i j : ℕ) (first second : Item) → IsDocument d →
         AreEntriesInOrder (items d places) order →

@@ -58,8 +58,7 @@ fields_can : (exchange : Exchange) (fs : List FieldReading) → AllByRecursion (
 fields_can exchange [] can = tt
 fields_can exchange (f ∷ fs) can = (value_can fs (exchange f) can.0, fields_can exchange fs can.1)
 
--- if the new values can be parsed, the UTF-8 text of a document with replaced values parses to its reading with these values replaced,
--- except for byte offsets
+-- if the new values can be parsed, a document's UTF-8 text with them parses to its reading with them, except for byte offsets
 pub exchanged_read : (d : Document) (exchange : EntryReading → Exchange) → IsDocument d → IsUtf8 d.text
     → AllByRecursion (λ e. AllByRecursion (CanBeExchanged (exchange e)) e.fields) d.says.entries
     → IsReadPlaceless (file_changed (λ e. exchanges (exchange e) e) d.says) (text_changed (λ e. exchanges (exchange e) e) d)

@@ -141,7 +141,7 @@ no_month : (name : List ℕ) → list_any is_ascii_digit name ≡ true → is_mo
 unfolding month_of_abbreviation
 no_month name some = ap is_some (none_abbreviated name year_months some)
 
--- a name with a number from 2 on is no month's abbreviation
+-- a name that ends with a number below 2^64 is no month's abbreviation
 pub numbered_no_month : (base : List ℕ) (n : ℕ) → n < 2 ^ 64 → is_month (base ++ decimal n) ≡ false
 numbered_no_month base n small =
     let numeral = (decimal_is_IsNumeral n small).0 in

@@ -131,8 +131,8 @@ ahead_step definitions end between from next e es ahead within before after = (
       | inr past ↦ before i past less
     ]
 
--- if `next` is the index of the first definition that doesn't begin before an entry, a map with the indices of the first `next`
--- definitions has those before the entry. The first `next` definitions begin before the entries after it.
+-- `next` is the index of the first definition that doesn't begin before an entry. A map with the indices of the first `next` definitions
+-- then has those before the entry. The first `next` definitions begin before the entries after it.
 pub indices_step : (xs : List Pair) (end : ℕ) → BeginBetween 0 end (map field_of xs) → (from next : ℕ) (e : EntryReading)
     (es : List EntryReading) (indices : BTreeMap (String Global) ℕ) → IsAhead (map field_of xs) from (e ∷ es) → next ≤ length xs
     → BeginBefore (map field_of xs) e.start from next → IsNextAfter (map field_of xs) e.start next

@@ -33,7 +33,7 @@ counted_more text t ts old count counted before = by_case (bytes_eq t text) refl
     by_case true same = let is : t ≡ text = (bytes_eq-Decides t text).0 same in ap (λ n. n + 1) (counted ∙ ap (λ u. times_of u ts) is)
     by_case false other = let none : times_of text ts ≡ times_of text ts + 0 = omega arith in before ∙ none
 
--- the lines for names and one more are the lines for the names and the line for the last one
+-- with one more name, the lines are those for the names before it, and its line unless its text has a known name
 pub lines_push : (says : FileReading) (line_end : List ℕ) (names texts : List (List ℕ)) (name text : List ℕ) → length names ≡ length texts
     → definition_lines says line_end (names ++ name ∷ []) (texts ++ text ∷ [])
     ≡ definition_lines says line_end names texts ++ cond (is_some (known_name says text)) [] (string_line line_end name text)

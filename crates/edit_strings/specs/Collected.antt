@@ -45,7 +45,7 @@ option_texts (Some text) = text ∷ []
 abbrev pub field_texts : List (List ℕ) → List FieldReading → List (List ℕ)
 field_texts names fields = flat_map (λ f. option_texts (named_text names f)) fields
 
--- the texts of all fields of entries that have one of these names and are one literal, in order
+-- the texts of all fields of entries that have one of these names and whose value is one literal, in order
 abbrev pub named_texts : List (List ℕ) → List EntryReading → List (List ℕ)
 named_texts names entries = flat_map (λ e. field_texts names e.fields) entries
 
@@ -263,9 +263,9 @@ with_definitions at definitions says = record says {
       filter (is_before at) says.abbreviations ++ (definitions ++ filter (λ f. not (is_before at f)) says.abbreviations);
 }
 
--- a text is that of a document with the texts to collect from fields with these names replaced by abbreviations. The lines that define
--- new names are directly before the first entry. The text parses to the reading with these replacements and definitions, except for byte
--- offsets.
+-- a text is that of a document with the texts to collect from fields with these names replaced by abbreviations. A `least` of 0 or 1 counts
+-- as 2. The lines that define new names are directly before the first entry. The text parses to the reading with these replacements and
+-- definitions, except for byte offsets.
 pub record AreMadeAbbreviations (d : Document) (fields : List (List ℕ)) (least : ℕ) (text : List ℕ) : Type 0 where
   pub texts : List (List ℕ)
   pub names : List (List ℕ)

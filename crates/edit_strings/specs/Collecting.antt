@@ -100,7 +100,7 @@ pub record IsLeastFree (taken : Taken) (base : List ℕ) (number : ℕ) (name : 
   pub new : is_used taken name ≡ false
   pub first : AreUsedBelow taken base number
 
--- the number that a map has for the start of a name is at least 1, and each smaller number from 1 on makes a name that is used
+-- the number that a map has for the start of a name is at least 1. Each smaller number from 1 on makes a name that is used
 abbrev pub AreBelowUsed : Taken → BTreeMap (String Global) ℕ → Type 0
 AreBelowUsed taken numbers =
     (base : List ℕ) (number : ℕ) → get_by_text numbers base ≡ Some number → (1 ≤ number) × AreUsedBelow taken base number
@@ -112,7 +112,7 @@ pub record TakesName (old new : Taken) (numbers : BTreeMap (String Global) ℕ) 
   pub others : (other : List ℕ) → is_taken new other ≡ (is_word name other || is_taken old other)
   pub closed : AreBelowUsed new numbers
 
--- the taken names and their numbers stay
+-- the same names are taken, and each number below a known one makes a name that is used
 pub record StaysTaken (old new : Taken) (numbers : BTreeMap (String Global) ℕ) : Type 0 where
   pub others : (other : List ℕ) → is_taken new other ≡ is_taken old other
   pub closed : AreBelowUsed new numbers

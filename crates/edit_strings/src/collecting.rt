@@ -48,7 +48,8 @@ fn indices<'s>(alloc: Global, texts: &[&'s str]) -> Result<BTreeMap<&'s str, usi
     Ok(indices)
 }
 
-// If the text of `field` is collected, appends the edit that replaces its value by the name of the text.
+// Appends the edit that replaces the value of `field` by the name of its text. Does nothing unless the field has one of the names `fields`
+// and its text is collected.
 fn push_edit(
     edits: &mut Vec<Edit>,
     alloc: Global,
@@ -78,7 +79,7 @@ fn push_edit(
     Ok(())
 }
 
-// Appends an edit for each field of `among` whose text is collected.
+// Appends an edit for each field of `among` that has one of the names `fields`, and whose text is collected.
 fn push_edits(
     edits: &mut Vec<Edit>,
     alloc: Global,
@@ -99,7 +100,7 @@ fn push_edits(
     Ok(())
 }
 
-// Returns `first` and the edits for all fields of `entries` whose text is collected.
+// Returns `first` and the edits for all fields of `entries` that have one of the names `fields`, and whose text is collected.
 fn edits(
     alloc: Global,
     text: &str,
@@ -193,7 +194,8 @@ fn collection_of<'s>(
     })
 }
 
-// Returns `text` with each collected value replaced by its name, and the definitions of the new names before the first entry.
+// Returns `text` with each collected value of a field with one of the names `fields` replaced by the name of its text. The definitions of
+// the new names are before the first entry.
 fn with_collection(
     alloc: Global,
     text: &str,

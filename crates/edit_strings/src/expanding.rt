@@ -28,8 +28,8 @@ struct Names<'a, 's> {
     rows: Vec<Vec<Indexed<'a, 's>>>,
 }
 
-// Sets the indices of the definitions from the index `from` on that begin before the byte offset `start`. Returns the index of the
-// first definition that doesn't, or the number of definitions.
+// Sets the indices of the definitions from the index `from` on, up to the first that doesn't begin before the byte offset `start`. Returns
+// the index of that definition, or the number of definitions if there is none.
 pub(crate) fn add_before(
     alloc: Global,
     indices: &mut Indices,

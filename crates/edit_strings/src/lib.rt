@@ -6,8 +6,8 @@
 //! indices are looked up once. A value is expanded by a stack of the pieces that are still to expand. The entries are visited in the
 //! order of the file, with a map from each name to the index of its last definition so far.
 //!
-//! To collect texts, a map counts repeated texts, and each candidate name is checked against the set of taken names. The new `@string`
-//! lines are written before the first entry.
+//! To collect texts, a map counts how often each text occurs, and each candidate name is checked against the set of taken names. The new
+//! `@string` lines are written before the first entry.
 //!
 //! Each replaced value is one edit of the text. All edits are applied in one pass, and the new text isn't parsed again. The
 //! proof of its reading takes the edits as changes of entries (`ExchangedFacts`), with the lemmas of `edit_entries` about such

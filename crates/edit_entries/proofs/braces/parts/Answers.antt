@@ -21,7 +21,7 @@ passed c = ahead_then c.parts.invariant.ahead (ahead_run (run c).run)
 all : (c : After-eat_while) → SameBraced zero c.args.s.now c.parts.depth c.eat_while.new.self
 all c = braced_then c.parts.invariant.same (braced_run _ (run c).run)
 
--- if at most as many braces are open as bytes were passed, this is so after one more character
+-- if at most as many braces are open as bytes were passed, this also holds with one more brace after one more character
 deeper : {u v w : Place} {n k : ℕ} → n ≤ u.at → Ahead u v → CharAt v k w → n + 1 ≤ w.at
 deeper {u} {v} {w} {n} {k} depth run char =
     let width : 1 ≤ len_utf8 k = (len_utf8_bounds k).0 in
