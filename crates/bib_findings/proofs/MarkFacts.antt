@@ -21,17 +21,7 @@ use Rattle.bib_findings.proofs.SharedFacts.{HasMark, share_mark}
 pub count_next : (test : ℕ → Bool) (one : ℕ) (all : List ℕ) → count_by test (one ∷ all) ≡ cond (test one) 1 0 + count_by test all
 count_next test one all = sum_by-cons (λ n. cond (test n) 1 0) one all
 
-<<<<<<< HEAD
--- a mark that occurs counts at least once
-=======
-pub count_last : (test : ℕ → Bool) (all : List ℕ) (one : ℕ) → count_by test (all ++ one ∷ []) ≡ count_by test all + cond (test one) 1 0
-count_last test all one =
-    let sum : count_by test (all ++ one ∷ []) ≡ count_by test all + (0 + cond (test one) 1 0) =
-    sum_by-append (λ n. cond (test n) 1 0) all (one ∷ []) in
-    omega (arith, sum)
-
 -- a mark that occurs in a list is counted at least once
->>>>>>> h1
 pub any_counts : (one : ℕ) (all : List ℕ) → list_any (nat_eq one) all ≡ true → 1 ≤ count_by (nat_eq one) all
 any_counts one [] is = absurd (let clash : false ≡ true = is in cc)
 any_counts one (first ∷ all) is =

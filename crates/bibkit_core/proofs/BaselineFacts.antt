@@ -8,26 +8,7 @@ use Rattle.bib_queries.specs.Needed.{is_listed}
 use Rattle.bib_text.proofs.BoolFacts.{or_turned}
 use Rattle.bibkit_core.specs.Baselines.{texts_of_line}
 
-<<<<<<< HEAD
--- the texts of one more line are among those of all lines
-=======
--- the step of `one_listed`, in Booleans
-or_of_one : (b c : Bool) → ((b || false) || c) ≡ cond b true c
-or_of_one true c = refl
-or_of_one false c = refl
-
--- a list of one text contains a text, or `c` is true, exactly if the two texts are equal, or `c` is true
-pub one_listed : (t text : List ℕ) (c : Bool) → (is_listed (t ∷ []) text || c) ≡ cond (bytes_eq t text) true c
-one_listed t text c = or_of_one (bytes_eq t text) c
-
-or_turned : (x y : Bool) → (x || y) ≡ (y || x)
-or_turned true true = refl
-or_turned true false = refl
-or_turned false true = refl
-or_turned false false = refl
-
 -- a text is among those of lines and one more exactly if it is among those of that line, or among those of the others
->>>>>>> h1
 pub listed_more : (lines : List (List ℕ)) (line text : List ℕ)
     → is_listed (flat_map texts_of_line (lines ++ line ∷ [])) text
     ≡ (is_listed (texts_of_line line) text || is_listed (flat_map texts_of_line lines) text)

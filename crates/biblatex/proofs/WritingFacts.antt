@@ -62,4 +62,3 @@ appends_more (Some old) (Some now) (Some new) xs ys zs first second is =
 pub appends_nothing : (a : Option (List ℕ)) → Appends a a []
 appends_nothing None = tt
 appends_nothing (Some bytes) = sym (append-nil bytes)
-

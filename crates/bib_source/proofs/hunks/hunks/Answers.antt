@@ -26,7 +26,8 @@ hunks-preserved-in-Continue-1 c =
           c.run_end-start.ensures.after c.run_end-end.ensures.after c.run_end-end.ensures.within
           (c.run_end-start.ensures.hidden refl) c.hunks.invariant.make
           c.old_count.ensures.is c.new_count.ensures.is made);
-      narrow = subst (AllByRecursion IsNarrow) (sym (ap (map hunk_of) c.in_ok-push.ensures.items ∙ map-append hunk_of c.hunks.hunks.items _))
+      narrow = subst (AllByRecursion IsNarrow)
+          (sym (ap (map hunk_of) c.in_ok-push.ensures.items ∙ map-append hunk_of c.hunks.hunks.items _))
           (all_push IsNarrow (map hunk_of c.hunks.hunks.items) _ c.hunks.invariant.narrow
           (narrow_run c.args.lines.now c.run_end-start.result c.run_end-end.result _ _ (omega arith)
           c.run_end-end.ensures.within c.run_end-end.ensures.same

@@ -17,7 +17,8 @@ files-preserved c =
           (take (length c.args.found.now - c.files.first) (drop c.files.first c.args.found.now)))
           (take_to_end ends (c.files.index + 1))
           ∙ ap (count_of_file (drop (c.files.index + 1) ends) (get_or ends c.files.index 0)) (take_to_end c.args.found.now c.files.first))
-          (ap (take c.count_of_file-count.result) (take_to_end c.args.found.now c.files.first)) c.in_ok-print_file.ensures c.files.invariant.0,
+          (ap (take c.count_of_file-count.result) (take_to_end c.args.found.now c.files.first)) c.in_ok-print_file.ensures
+          c.files.invariant.0,
       omega (
         arith,
         c.count_of_file-count.ensures.within,

@@ -11,7 +11,8 @@ text-init c = rw c.new-scanner.ensures (refl, c.utf8.text, refl, refl)
 
 pub returns-in_default : goal.returns-in_default
 returns-in_default c =
-    let longest : Longest is_unbroken c.text.scanner c.eat_while-run.new.self = c.eat_while-run.ensures.longest _ (λ x r post. search rules) in
+    let longest : Longest is_unbroken c.text.scanner c.eat_while-run.new.self =
+    c.eat_while-run.ensures.longest _ (λ x r post. search rules) in
     let both = flowing_end (string_bytes c.text.out) (string_bytes c.push_str.new.self) _ c.eat_while-run.result.now
     c.text.after c.ends_in_space-after.result _ longest c.text.invariant.1 c.eat_while-run.utf8
     c.eat_while-run.ensures.eaten c.in_default.ensures.0
@@ -21,12 +22,14 @@ returns-in_default c =
 
 pub text-smaller : goal.text-smaller
 text-smaller c =
-    let longest : Longest is_unbroken c.text.scanner c.eat_while-run.new.self = c.eat_while-run.ensures.longest _ (λ x r post. search rules) in
+    let longest : Longest is_unbroken c.text.scanner c.eat_while-run.new.self =
+    c.eat_while-run.ensures.longest _ (λ x r post. search rules) in
     less_left longest.run c.in-Some.ensures
 
 pub text-preserved : goal.text-preserved
 text-preserved c =
-    let longest : Longest is_unbroken c.text.scanner c.eat_while-run.new.self = c.eat_while-run.ensures.longest _ (λ x r post. search rules) in
+    let longest : Longest is_unbroken c.text.scanner c.eat_while-run.new.self =
+    c.eat_while-run.ensures.longest _ (λ x r post. search rules) in
     let step = flowing_step (string_bytes c.text.out) (string_bytes c.push_str.new.self)
     (string_bytes c.write_break.new.out) _ c.eat_while-run.result.now c.text.after c.ends_in_space-after.result _
     longest c.text.invariant.1 c.eat_while-run.utf8 c.eat_while-run.ensures.eaten c.in-Some.ensures
