@@ -114,7 +114,7 @@ pub record IsSearchedTo (text : List ℕ) (at : ℕ) (space : Bool) : Type 0 whe
   pub passed : MovesPast (place text 0) cs (place text at)
   pub texts : between_ands false (chars text) ≡ prepend cs (between_ands space (chars (drop at text)))
 
--- at the start of a text no character was passed
+-- at the start of a UTF-8 text no character was passed
 pub searched_none : (text : List ℕ) → IsUtf8 text → IsSearchedTo text 0 false
 searched_none text utf8 = record {
   cs = [];

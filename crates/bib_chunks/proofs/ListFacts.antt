@@ -121,7 +121,7 @@ before-with_chunk c (d ∷ e ∷ rest) n =
     (if b then both c d ∷ with_chunk (e ∷ rest) n else c ∷ d ∷ with_chunk (e ∷ rest) n)
     ≡ with_chunk (if b then both c d ∷ e ∷ rest else c ∷ d ∷ e ∷ rest) n) [ true ↦ refl | false ↦ refl ]
 
--- if more atoms are one chunk, appending them to a styled text appends this chunk to its chunks
+-- if more atoms are one chunk, appending them to a styled text adds this chunk to its chunks, by `with_chunk`
 chunks_of-append : (atoms more : List Atom) (n : Spanned Chunk) → chunks_of more ≡ n ∷ []
     → chunks_of (atoms ++ more) ≡ with_chunk (chunks_of atoms) n
 chunks_of-append [] more n is = is

@@ -55,7 +55,7 @@ pub this_file : (text ends : List ℕ) (start i : ℕ) → i < length ends → A
     → AreFiles text start (get_or ends i 0 ∷ drop (i + 1) ends)
 this_file text ends start i within are = subst (AreFiles text start) (next_file ends i within) are
 
--- no element follows the last element of a list
+-- no element is left if at least as many elements as a list has are dropped
 pub drop_all : {A : Type 0} (xs : List A) (n : ℕ) → length xs ≤ n → drop n xs ≡ []
 drop_all [] zero all = refl
 drop_all [] (suc n) all = refl

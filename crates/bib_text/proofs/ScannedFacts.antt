@@ -28,7 +28,7 @@ split_after test (c ∷ run) rest all stops =
     let parts = and_parts (test c) (list_all test run) all in
     cond-true (test c) (rest_after test (run ++ rest)) (c ∷ run ++ rest) parts.0 ∙ split_after test run rest parts.1 stops
 
--- if a test stops at a place, the leading run of the characters from there is empty
+-- if a test stops at a place in UTF-8 text, the leading run of the characters from there is empty, and all of them come after it
 stopped : (test : ℕ → Bool) (v : Place) (cs : List ℕ) → IsUtf8 (ahead v) → cs ≡ chars (ahead v) → Stops test v
     → (leading_run test cs ≡ []) × (rest_after test cs ≡ cs)
 stopped test v [] utf8 is stops = (refl, refl)
@@ -118,7 +118,7 @@ pub eaten_digits : (text : List ℕ) {u v : Place} → u ≡ place text 0 → Is
     → between u v ≡ leading_run is_ascii_digit (chars text)
 eaten_digits text is utf8 longest = (eaten_new is_ascii_digit text is utf8 longest).1 ∙ digits_encode (chars text)
 
--- the characters of a text are the first one and those from the offset after it
+-- the characters of a UTF-8 text are the first one and those from the offset after it
 pub eaten_char : (text : List ℕ) (at : ℕ) {u v : Place} {c : ℕ} → u ≡ place text 0 → IsUtf8 text → CharAt u c v
     → at ≡ v.at → chars text ≡ c ∷ chars (drop at text)
 eaten_char text at {u} {v} {c} is utf8 char there =
