@@ -17,7 +17,7 @@ abbrev pub following : (ℕ → Bool) → List ℕ → List ℕ
 following test [] = []
 following test (c ∷ cs) = if test c then following test cs else c ∷ cs
 
--- the characters before the brace that closes `depth` open ones and one more
+-- the characters before the brace that closes `depth` open ones and one more, or all characters if there is no such brace
 abbrev pub braces : ℕ → List ℕ → List ℕ
 braces depth [] = []
 braces depth (c ∷ cs) =
@@ -51,7 +51,7 @@ first_escape is_verbatim (c ∷ cs) =
     else if is_sign c then first_command (c ∷ []) cs
     else first_command (c ∷ prefix is_name_character cs) (following is_name_character cs)
 
--- the unit with which a text begins
+-- the unit with which a text begins; for an empty text, an opening brace
 abbrev pub first_unit : Bool → List ℕ → ContentUnit
 first_unit is_verbatim [] = ContentUnit.opening
 first_unit is_verbatim (c ∷ cs) =

@@ -44,7 +44,7 @@ pub record EatsRun (test : ℕ → Bool) (u v : Place) : Type 0 where
   pub utf8 : IsUtf8 (ahead v)
   pub rest : chars (ahead v) ≡ rest_after test (chars (ahead u))
 
--- a longest run is the leading run of the characters ahead
+-- in UTF-8 text, a longest run is the leading run of the characters ahead
 pub eaten : (test : ℕ → Bool) {u v : Place} → Longest test u v → IsUtf8 (ahead u) → EatsRun test u v
 eaten test {u} {v} longest utf8 =
     let passed = passed_run longest.run utf8 in
@@ -75,7 +75,7 @@ pub trimmed_chars : (bs trimmed : List ℕ) → IsUtf8 trimmed → trimmed ≡ t
 unfolding trim_start
 trimmed_chars bs trimmed utf8 is = sym (chars_from_encodes (skip_leading_whitespace (chars bs)) trimmed utf8 (sym is)) ∙ white (chars bs)
 
--- `eaten` from the start of a text
+-- `eaten` from the start of a UTF-8 text
 pub eaten_new : (test : ℕ → Bool) (text : List ℕ) {u v : Place} → u ≡ place text 0 → IsUtf8 text → Longest test u v
     → (v.text ≡ text) × (between u v ≡ encode_utf8_all (leading_run test (chars text)))
     × (chars (ahead v) ≡ rest_after test (chars text))
@@ -87,7 +87,7 @@ eaten_new test text {u} {v} is utf8 longest =
       ate.rest ∙ ap (λ bs. rest_after test (chars bs)) here,
     )
 
--- the characters from the offset after the longest run are those after the leading run
+-- in a UTF-8 text, the characters from the offset after the longest run from the start are those after the leading run
 pub eaten_rest : (test : ℕ → Bool) (text : List ℕ) (at : ℕ) {u v : Place} → u ≡ place text 0 → IsUtf8 text
     → Longest test u v → at ≡ v.at → chars (drop at text) ≡ rest_after test (chars text)
 eaten_rest test text at {u} {v} is utf8 longest there =
@@ -113,7 +113,7 @@ prefix_ascii (c ∷ cs) = here (is_ascii_digit c) c (leading_run is_ascii_digit 
 digits_encode : (cs : List ℕ) → encode_utf8_all (leading_run is_ascii_digit cs) ≡ leading_run is_ascii_digit cs
 digits_encode cs = encodes-IsAscii (leading_run is_ascii_digit cs) (prefix_ascii cs)
 
--- the longest run of digits from the start of a text, in bytes, is the leading run of its characters
+-- the bytes of the longest run of digits from the start of a UTF-8 text are its leading run of digits, as a list of characters
 pub eaten_digits : (text : List ℕ) {u v : Place} → u ≡ place text 0 → IsUtf8 text → Longest is_ascii_digit u v
     → between u v ≡ leading_run is_ascii_digit (chars text)
 eaten_digits text is utf8 longest = (eaten_new is_ascii_digit text is utf8 longest).1 ∙ digits_encode (chars text)
