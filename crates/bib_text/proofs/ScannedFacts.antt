@@ -70,7 +70,7 @@ white (c ∷ cs) = ap (λ xs. here (is_whitespace c) xs (c ∷ cs)) (white cs)
     here true xs ys = xs
     here false xs ys = ys
 
--- the characters of a text trimmed at its start are those after its leading white space
+-- if a text trimmed at its start is UTF-8, its characters are those after the leading white space of the text
 pub trimmed_chars : (bs trimmed : List ℕ) → IsUtf8 trimmed → trimmed ≡ trim_start bs → chars trimmed ≡ rest_after is_whitespace (chars bs)
 unfolding trim_start
 trimmed_chars bs trimmed utf8 is = sym (chars_from_encodes (skip_leading_whitespace (chars bs)) trimmed utf8 (sym is)) ∙ white (chars bs)

@@ -168,7 +168,7 @@ chars_past (c ∷ cs) bs rest utf8 begins =
     let more = chars_past cs (encode_utf8_all cs ++ rest) rest (IsUtf8-past_char bs (encode_utf8_all cs ++ rest) c utf8 leading_run) refl in
     (chars_past_char bs (encode_utf8_all cs ++ rest) c utf8 leading_run ∙ ap (λ xs. c ∷ xs) more.0, more.1)
 
--- the characters of the text that `cs` spell are `cs`
+-- the characters of the UTF-8 text that `cs` spell are `cs`
 pub chars_whole : (cs bs : List ℕ) → IsUtf8 bs → bs ≡ encode_utf8_all cs → chars bs ≡ cs
 chars_whole cs bs utf8 spells = (chars_past cs bs [] utf8 (spells ∙ sym (append-nil _))).0 ∙ ap (λ xs. cs ++ xs) chars-nil ∙ append-nil cs
 
