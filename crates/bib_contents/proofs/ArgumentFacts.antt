@@ -332,7 +332,7 @@ known_encloses {u} {t} {w} {inside} start end found closes here there utf8 withi
     encloses start passed closes.balanced (brace_eaten found eaten ahead) is here inside_utf8
     (omega (arith, ap (λ p. p.at) there, within, ap (λ p. length p.text) there))
 
--- the end of an argument is at a character boundary
+-- the end of an argument in UTF-8 text is at a character boundary
 pub closes_boundary : {text : List ℕ} {start end : ℕ} → Closes text start end → IsUtf8 (drop start text)
     → end < length text → IsCharBoundary text end
 closes_boundary {text} {start} {end} closes utf8 within =

@@ -86,7 +86,7 @@ pub cut_back : (base inside now cut : List ℕ) {start : ℕ} → length (encode
 cut_back base inside now cut {start} size is taken =
     taken ∙ ap (take start) (is ∙ encodes-append base inside) ∙ take_at (encode_utf8_all base) (encode_utf8_all inside) start size
 
--- the start of a text's last part is a character boundary
+-- the start of a UTF-8 text's last part is a character boundary
 pub boundary_at : (base inside bs : List ℕ) {start : ℕ} → length (encode_utf8_all base) ≡ start
     → bs ≡ encode_utf8_all (base ++ inside) → IsUtf8 bs → IsCharBoundary bs start
 boundary_at base inside bs {start} size is utf8 =

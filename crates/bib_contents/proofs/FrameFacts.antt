@@ -369,7 +369,7 @@ read_begun frame name old now same shallow wrote utf8 =
     read_start (ap left same) shallow (wrote_after old now (before_argument frame.effect name) utf8 wrote)
 
 module _ {first_name first_whole first_under : List ℕ} {ends : Ends} {low high : ℕ} where
-  -- a command with an argument in braces comes next, and the argument was begun
+  -- after UTF-8 output, a command with an argument in braces comes next, and the argument was begun
   pub reading_follows : {frame on above : Frame} {frames : List Frame} {now more most name : List ℕ} {inside : Place}
       (reading : IsReading first_name first_whole first_under ends low high frame frames now) → KeepsFrame frame on
       → StandsRight on → IsUtf8 more
