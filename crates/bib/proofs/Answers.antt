@@ -37,7 +37,7 @@ decides_one b word text words named tests one same =
       head_same : {x y : List ℕ} → x ∷ [] ≡ y ∷ [] → x ≡ y
       head_same e = cc
 
--- the line that shows a syntax error is an answer of `keys` with status 1, unless the error is out of memory
+-- for UTF-8 bytes, the line that shows a syntax error is an answer of `keys` with status 1, unless the error is out of memory
 pub error_reported : {bytes text : List ℕ} {e : ParseError} → IsUtf8 bytes → Refuses bytes e (IsFile bytes → ⊥)
     → (e ≡ out_of_memory) ⊎ IsReported bytes e → (e.kind ≡ OutOfMemory → ⊥) → ShowsError e text
     → IsKeysAnswer bytes text 1
@@ -45,7 +45,7 @@ error_reported utf8 (inl memory) reported other listed = absurd (other (ap (λ x
 error_reported utf8 (inr error_answer) (inl memory) other listed = absurd (other (ap (λ x. x.kind) memory))
 error_reported utf8 (inr error_answer) (inr reported) other listed = no_file utf8 reported error_answer.1 listed
 
--- the line printed for an error is an answer of `keys`, unless the error is out of memory
+-- for UTF-8 bytes, the line printed for an error is an answer of `keys`, unless the error is out of memory
 pub error_answered : {E : Type 0} {bytes : List ℕ} (e : ParseError) (r : Result Answer E)
     → IfOk r (λ answer. (e.kind ≢ OutOfMemory) × ShowsError e (string_bytes answer.text) × (answer.status ≡ 1))
     → IsUtf8 bytes → Refuses bytes e (IsFile bytes → ⊥) → (e ≡ out_of_memory) ⊎ IsReported bytes e
@@ -66,7 +66,7 @@ no_bibliography {e = e} (inr error_answer) other listed = record {
   listed = listed;
 }
 
--- the line printed for a text without a bibliography is an answer of a command that needs one
+-- the line printed for a UTF-8 text without a bibliography is an answer of a command that needs one
 pub no_bibliography_shown : {shows : Bibliography → List ℕ → ℕ → Type 0} {bytes : List ℕ}
     (found : Result Bibliography Answer) (answer : Answer) → IsUtf8 bytes → IsParseAnswer bytes found
     → found ≡ Err answer → IsBibliographyAnswer shows bytes (string_bytes answer.text) answer.status
@@ -75,7 +75,7 @@ no_bibliography_shown {shows} {bytes} found answer utf8 is same =
     subst (λ status. IsBibliographyAnswer shows bytes (string_bytes answer.text) status) (sym listed.1)
     (IsBibliographyAnswer.no_bibliography utf8 listed.0)
 
--- the output that a command shows for a bibliography is its output for a text with this bibliography
+-- the output that a command shows for a bibliography is its output for a UTF-8 text with this bibliography
 pub bibliography_shown : {shows : Bibliography → List ℕ → ℕ → Type 0} {bytes text : List ℕ} {status : ℕ}
     (found : Result Bibliography Answer) (bibliography : Bibliography) → IsUtf8 bytes → IsParseAnswer bytes found
     → found ≡ Ok bibliography → shows bibliography text status

@@ -194,7 +194,7 @@ expanding_refused e piece rest x split d (inl memory) = inl memory
 expanding_refused e piece rest x split d (inr error) = inr (expanding_error piece rest x split d (error (map piece_of rest)))
 
 module _ {definitions : Definitions} {is_verbatim : Bool} where
-  -- a memo without names is right
+  -- `IsSound` holds for a memo without names and an empty path
   pub sound_empty : (memo : Memo) → ((name : List ℕ) → progress memo name ≡ None) → IsSound definitions is_verbatim memo []
   sound_empty memo empty = record {
     done = λ name start end is. absurd (none_done start end (sym (empty name) ∙ is));

@@ -286,8 +286,8 @@ impl<'m, 'f, 's> Expansion<'m, 'f, 's> {
         Ok(())
     }
 
-    // Appends the chunks of a name to the memo, or starts to expand it. Returns an error if the name is being expanded, or
-    // if it is neither defined nor the abbreviation of a month.
+    // Appends the chunks of a name to the memo, or starts to expand it. Returns an error if the name is being expanded, if it
+    // is neither defined nor the abbreviation of a month, or if out of memory.
     fn name(
         self,
         memo: &mut Memo<'s>,
@@ -317,7 +317,7 @@ impl<'m, 'f, 's> Expansion<'m, 'f, 's> {
     }
 
     // Starts to expand a name that isn't in the memo, or appends the name of the month that it abbreviates. Returns an error if
-    // the name is neither defined nor the abbreviation of a month.
+    // the name is neither defined nor the abbreviation of a month, or if out of memory.
     fn new_name(
         self,
         memo: &mut Memo<'s>,

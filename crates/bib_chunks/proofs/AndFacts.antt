@@ -46,7 +46,7 @@ and_bytes_all : (cs : List ℕ) → codes "and" ++ encode_utf8_all cs ≡ encode
 unfolding encode
 and_bytes_all cs = refl
 
--- the characters of a text that begins with the word are its letters and the characters after it
+-- The characters of a UTF-8 text that begins with `and` are its letters and the characters after it. The text after it is UTF-8.
 and_chars : (text following : List ℕ) → IsUtf8 text → text ≡ codes "and" ++ following
     → (chars text ≡ 97 ∷ 110 ∷ 100 ∷ chars following) × IsUtf8 following
 and_chars text following utf8 word = chars_past (97 ∷ 110 ∷ 100 ∷ []) text following utf8 (word ∙ and_bytes following)
@@ -62,7 +62,7 @@ never (a ∷ n ∷ d ∷ rest) = refl
 pub not_spaced : (space : Bool) (cs : List ℕ) → space ≡ false → word_here space cs ≡ false
 not_spaced space cs none = rw none (never cs)
 
--- a text that doesn't begin with the word and white space doesn't pass `word_here`
+-- a UTF-8 text that doesn't begin with the word `and` and white space doesn't pass `word_here`
 pub no_word : (space : Bool) (bs : List ℕ) → IsUtf8 bs → NoAnd bs → word_here space (chars bs) ≡ false
 no_word space bs utf8 no_and = false_from_ne_true (word_here space (chars bs)) (λ here.
     let (rest, letters, spaced) = word_letters space (chars bs) here in
@@ -114,7 +114,7 @@ pub record IsSearchedTo (text : List ℕ) (at : ℕ) (space : Bool) : Type 0 whe
   pub passed : MovesPast (place text 0) cs (place text at)
   pub texts : between_ands false (chars text) ≡ prepend cs (between_ands space (chars (drop at text)))
 
--- at the start of a text no character was passed
+-- at the start of a UTF-8 text no character was passed
 pub searched_none : (text : List ℕ) → IsUtf8 text → IsSearchedTo text 0 false
 searched_none text utf8 = record {
   cs = [];
@@ -144,7 +144,7 @@ before_place text at cs passed =
     let next : at ≡ 0 + length (encode_utf8_all cs) = passed.next in
     ap (take at) passed.here ∙ take_at (encode_utf8_all cs) (drop at text) at (omega arith)
 
--- the word at an offset with white space right before it is the first one
+-- after a search up to white space right before an offset, the word `and` at the offset is the first one, if the text before it is UTF-8
 pub searched_word : (text : List ℕ) (at : ℕ) (before following : List ℕ) → IsSearchedTo text at true → before ≡ take at text
     → IsUtf8 before → IsAnd (drop at text) following → IsFirstAnd text before following
 searched_word text at before following so_far leading_run prefix_utf8 word =

@@ -91,7 +91,7 @@ pub record IsCharCut (c : ℕ) (text before after : List ℕ) : Type 0 where
   pub utf8 : IsUtf8 after
   pub size : length text ≡ length before + (len_utf8 c + length after)
 
--- the texts that `split_once` returns are these
+-- the texts that `split_once` returns for a character and a UTF-8 text are its cut (`IsCharCut`)
 pub char_cut : (c : ℕ) (text : List ℕ) (before after : Bor (List ℕ)) → IsUtf8 text
     → IsSplitOnceResult c text (Some (before, after)) → IsCharCut c text before.now after.now
 char_cut c text before after utf8 (i, j, found, leading_run, back, ordered, size, rest_size) =
@@ -110,7 +110,7 @@ char_cut c text before after utf8 (i, j, found, leading_run, back, ordered, size
       size = omega (arith, found.1.ends, size, rest_size, ap length leading_run, ap length back);
     })
 
--- if `split_once` returns `None`, no character of the text is that one
+-- if `split_once` returns `None` for a UTF-8 text, no character of the text is the one searched for
 pub char_free : (c : ℕ) (text : List ℕ) → IsUtf8 text → IsSplitOnceResult c text None → NonePass (λ d. d == c) (chars text)
 char_free c text utf8 none = rw (chars_whole none.0 text utf8 (sym none.1)) none.2
 
@@ -126,7 +126,7 @@ split_here test [] c rest free here = slice_split-cons_yes test c rest here
 split_here test (d ∷ cs) c rest free here =
     slice_split-cons_no test d (cs ++ c ∷ rest) free.0 ∙ ap (onto_first d) (split_here test cs c rest free.1 here)
 
--- a result of `split_once` at a comma is the first cut of a comma list
+-- the result of `split_once` at a comma in a UTF-8 text is the first cut of a comma list, or `None` if there is no cut
 pub first_comma : (text : List ℕ) (r : Option (Bor (List ℕ) × Bor (List ℕ))) → IsUtf8 text → IsSplitOnceResult 44 text r
     → MatchOption r (between_cuts Comma (chars text) ≡ chars text ∷ []) (λ both. IsFirstCut Comma text both.0.now both.1.now)
 first_comma text None utf8 none = split_none (λ c. c == 44) (chars text) (char_free 44 text utf8 none)
@@ -199,7 +199,7 @@ read_piece separator old middle new whole span at onward following rest before a
     ap (λ ps. all_parts new (joined_parts ps parts)) rest_pieces ∙ read_end old middle new here x xs added closed parts
     ∙ ap (λ ps. all_parts old (joined_parts ps parts)) (sym all_pieces)
 
--- the last piece was read
+-- the last piece, a UTF-8 text, was read
 pub read_rest : (separator : Separator) (old new : Parts) (whole : List ℕ) (span : Range ℕ) (at : ℕ) (following : Bool)
     (rest : List ℕ) (here : Spanned Chunk)
     → IsUtf8 rest → between_cuts separator (chars rest) ≡ chars rest ∷ [] → here ≡ piece whole span at following false rest
@@ -231,12 +231,12 @@ cut_here : (c : ℕ) (cs rest : List ℕ) → NonePass (λ d. d == c) cs → cut
 cut_here c [] rest free = cond-true (c == c) _ _ (eq-eqb c c refl)
 cut_here c (d ∷ cs) rest free = cond-false (d == c) _ _ free.0 ∙ ap (option_map (λ both. (d ∷ both.0, both.1))) (cut_here c cs rest free.1)
 
--- a chunk without the character has no halves
+-- a normal chunk has no halves if `split_once` doesn't find the character in its UTF-8 text
 pub no_halves : (c : ℕ) (text : List ℕ) (span : Range ℕ) → IsUtf8 text → IsSplitOnceResult c text None → None ≡ halves (Normal text) span c
 no_halves c text span utf8 none =
     sym (ap (option_map (both_pieces (len_utf8 c) text span)) (cut_free c (chars text) (char_free c text utf8 none)))
 
--- the two pieces at the character are the halves
+-- the two pieces around the character that `split_once` finds in a normal chunk's UTF-8 text are its halves
 pub two_halves : (c : ℕ) (text : List ℕ) (span : Range ℕ) (before after : Bor (List ℕ)) (first second : Spanned Chunk) (at : ℕ)
     → IsUtf8 text → IsSplitOnceResult c text (Some (before, after)) → at ≡ length text - length after.now
     → first ≡ piece text span 0 false true before.now → second ≡ piece text span at true false after.now

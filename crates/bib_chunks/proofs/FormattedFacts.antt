@@ -24,7 +24,7 @@ pub ends-append : (empty : Bool) (xs ys : List ℕ) → ends_in_space empty (xs 
 ends-append empty [] ys = refl
 ends-append empty (x ∷ xs) ys = ends-append (is_whitespace x) xs ys
 
--- the last character decides whether a text ends in white space
+-- the last character of a UTF-8 text decides whether the text ends in white space
 pub ends_at_char : (empty answer : Bool) (bs leading_run : List ℕ) (c : ℕ) → IsUtf8 bs → IsUtf8 leading_run
     → bs ≡ leading_run ++ encode_utf8 c → answer ≡ is_whitespace c → answer ≡ ends_in_space empty (chars bs)
 ends_at_char empty answer bs leading_run c utf8 prefix_utf8 ends decides =
@@ -63,7 +63,7 @@ flowing_break space c rest breaks =
     let becomes : char_on_line space c ≡ gap space = cond-true (is_break c) _ _ breaks in
     ap (λ xs. xs ++ flowing (ends_in_space space xs) rest) becomes ∙ ap (λ b. gap space ++ flowing b rest) (gap_ends space)
 
--- a run was written
+-- a run of UTF-8 text was written
 run_written : (out one total run : List ℕ) {u w : Place} (space after ends : Bool) → Run is_unbroken u w → IsUtf8 (ahead u)
     → IsUtf8 run → run ≡ between u w
     → one ≡ out ++ run → after ≡ ends_in_space space (chars run)
@@ -85,7 +85,7 @@ run_written out one total run {u} {w} space after ends runs utf8 run_utf8 is_run
           ∙ before_ends,
     )
 
--- a run was written, and then the replacement of a line break
+-- a run of UTF-8 text was written, and then the replacement of a line break
 pub flowing_step : (out one two total run : List ℕ) {u w x : Place} {c : ℕ} (space after ends : Bool)
     → Longest is_unbroken u w → IsUtf8 (ahead u) → IsUtf8 run → run ≡ between u w → CharAt w c x
     → one ≡ out ++ run → after ≡ ends_in_space space (chars run) → two ≡ one ++ encode_utf8_all (gap after)
@@ -108,7 +108,7 @@ flowing_step out one two total run {u} {w} {x} {c} space after ends longest utf8
           ∙ middle_ends,
     )
 
--- a run was written, and the text ends
+-- a run of UTF-8 text was written, and the text ends
 pub flowing_end : (out one total run : List ℕ) {u w : Place} (space after ends : Bool) → Longest is_unbroken u w
     → IsUtf8 (ahead u) → IsUtf8 run → run ≡ between u w → AtEnd w
     → one ≡ out ++ run → after ≡ ends_in_space space (chars run)
@@ -146,7 +146,7 @@ goes_lower : (cs : List ℕ) → flat_map to_lowercase cs ≡ sentence_case fals
 goes_lower [] = refl
 goes_lower (c ∷ cs) = refl
 
--- a character was consumed that is replaced by nothing
+-- a character of UTF-8 text was consumed that is replaced by nothing
 pub sentence_skip : (out total : List ℕ) {u x : Place} {c : ℕ} (first space ends : Bool) (r : Option ℕ) → CharAt u c x
     → IsUtf8 (ahead u) → r ≡ None → option_to_list r ≡ char_on_line space c
     → out ++ encode_utf8_all (sentence_case first (flowing space (chars (ahead u)))) ≡ total
@@ -165,7 +165,7 @@ sentence_skip out total {u} {x} {c} first space ends r char utf8 none becomes be
       ap (ends_in_space space) (sym same) ∙ before_ends,
     )
 
--- a character was consumed, and its replacement was written
+-- a character of UTF-8 text was consumed, and its replacement was written
 pub sentence_step : (out more total : List ℕ) {u x : Place} {c : ℕ} (d : ℕ) (first space after ends : Bool)
     (r : Option ℕ) → CharAt u c x → IsUtf8 (ahead u) → r ≡ Some d → option_to_list r ≡ char_on_line space c
     → more ≡ out ++ encode_utf8_all (upper_or_lower first d) → after ≡ is_whitespace d

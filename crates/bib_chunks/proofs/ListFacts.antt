@@ -121,7 +121,7 @@ before-with_chunk c (d ∷ e ∷ rest) n =
     (if b then both c d ∷ with_chunk (e ∷ rest) n else c ∷ d ∷ with_chunk (e ∷ rest) n)
     ≡ with_chunk (if b then both c d ∷ e ∷ rest else c ∷ d ∷ e ∷ rest) n) [ true ↦ refl | false ↦ refl ]
 
--- if more atoms are one chunk, appending them to a styled text appends this chunk to its chunks
+-- if more atoms are one chunk, appending them to a styled text adds this chunk to its chunks, by `with_chunk`
 chunks_of-append : (atoms more : List Atom) (n : Spanned Chunk) → chunks_of more ≡ n ∷ []
     → chunks_of (atoms ++ more) ≡ with_chunk (chunks_of atoms) n
 chunks_of-append [] more n is = is
@@ -182,7 +182,7 @@ module _ (old leading_run now : List (Spanned Chunk)) (last : Spanned Chunk) (v 
       (ap (λ l. with_chunk l (at_start chunk)) was ∙ with_chunk-last leading_run last (at_start chunk)
       ∙ ap (λ l. leading_run ++ l) (before_apart last (at_start chunk) h []))
 
--- the atoms of a text that isn't empty are one chunk, if this is so for one or more atoms of their kind
+-- the atoms of a UTF-8 text that isn't empty are one chunk, if this is so for one or more atoms of their kind
 one_run : (kind : ℕ → Atom) (to : List ℕ → Chunk)
     (run : (c : ℕ) (cs : List ℕ) → chunks_of (map kind (c ∷ cs)) ≡ at_start (to (encode_utf8_all (c ∷ cs))) ∷ [])
     (text : List ℕ) → IsUtf8 text → not (length text == 0) ≡ true
@@ -193,7 +193,7 @@ one_run kind to run text utf8 some =
       | c ∷ cs ↦ λ is. run c cs ∙ ap (λ t. at_start (to t) ∷ []) (ap encode_utf8_all (sym is) ∙ encodes-chars text utf8)
     ] refl
 
--- a chunk that has atoms is the one chunk of them
+-- a chunk of UTF-8 text that has atoms is, with the span 0 to 0, the one chunk of its atoms
 shown : (chunk : Chunk) → IsUtf8 (text_of chunk) → is_shown chunk ≡ true → chunks_of (atoms_of chunk) ≡ at_start chunk ∷ []
 shown (Normal text) utf8 some = one_run Atom.normal Normal normal_run text utf8 some
 shown (Verbatim text) utf8 some = one_run Atom.verbatim Verbatim verbatim_run text utf8 some
@@ -206,7 +206,7 @@ joined_more chunks i d lt =
     ap styled (take_more chunks i d lt) ∙ flat_map-append (λ c. atoms_of c.v) (take i chunks) (get_or chunks i d ∷ [])
     ∙ ap (λ l. styled (take i chunks) ++ l) (append-nil _)
 
--- appending a chunk with atoms gives the chunks of the longer styled text
+-- appending a chunk of UTF-8 text that has atoms gives the chunks of the longer styled text
 pub joined_shown : (atoms : List Atom) (chunk : Chunk) (all more : List (Spanned Chunk)) → IsUtf8 (text_of chunk)
     → is_shown chunk ≡ true → all ≡ chunks_of atoms → more ≡ with_chunk all (at_start chunk)
     → more ≡ chunks_of (atoms ++ atoms_of chunk)

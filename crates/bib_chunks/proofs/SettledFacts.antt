@@ -51,7 +51,7 @@ no_dollar (c ∷ cs) rest all =
     let parts = and_parts (not (c == 36)) (list_all (λ d. not (d == 36)) cs) all in
     rw (not-true (c == 36) parts.0) (no_dollar cs rest parts.1)
 
--- the characters ahead contain a dollar sign exactly if the longest run without one doesn't end at the end of the text
+-- in UTF-8 text, the characters ahead contain a dollar sign exactly if the longest run without one doesn't end at the end of the text
 pub dollar_found : {u w : Place} (x : Place) (r : Option ℕ) (found : Bool) → Longest (λ c. not (c == 36)) u w
     → IsUtf8 (ahead u) → MatchOption r (AtEnd w × (x ≡ w)) (λ c. CharAt w c x) → found ≡ is_some r
     → found ≡ list_any (λ c. c == 36) (chars (ahead u))
@@ -148,7 +148,7 @@ runs_into_math (Verbatim c) text = refl
 math_atoms : (chunk : Chunk) (text bytes : List ℕ) → chunk ≡ MathChunk text → bytes ≡ text → atoms_of chunk ≡ Atom.math (chars bytes) ∷ []
 math_atoms chunk text bytes is same = ap atoms_of is ∙ ap (λ t. Atom.math (chars t) ∷ []) (sym same)
 
--- no text that begins with the math of this chunk is settled if the math isn't
+-- no text that begins with the math of this chunk, which is UTF-8, is settled if the math isn't
 pub math_stuck : (v : Bool) (before : Before) (chunk : Chunk) (text bytes : List ℕ) → chunk ≡ MathChunk text
     → bytes ≡ text → IsUtf8 bytes → (IsSettledMath bytes → ⊥) → IsStuckIn v before (atoms_of chunk)
 math_stuck v before chunk text bytes is same utf8 unsettled =
@@ -160,7 +160,7 @@ pub math_by_parts : (text : List ℕ) (parts : Bool) → list_any (λ c. c == 36
 math_by_parts text true none is = (none, is)
 math_by_parts text false none is = λ settled. is settled.1
 
--- after settled math, outside verbatim fields, the rest decides
+-- after settled math in UTF-8, outside verbatim fields, the rest decides
 pub math_on : (v : Bool) (before : Before) (chunk : Chunk) (text bytes : List ℕ) → chunk ≡ MathChunk text → bytes ≡ text
     → IsUtf8 bytes → v ≡ false → IsSettledMath bytes → ContinuesIn v before (atoms_of chunk) Nothing []
 math_on v before chunk text bytes is same utf8 normal settled =

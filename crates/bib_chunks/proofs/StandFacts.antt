@@ -180,7 +180,7 @@ comma_list_stands chunks texts long =
     list_stands (44 ∷ []) 1 comma_width between_commas commas_whole chunks chunks texts long
     (stand_all chunks chunks long (contains_all chunks))
 
--- a trimmed chunk is in its chunk if that is as long as its span
+-- a trimmed chunk is in its chunk if that meets `IsAsLong` and its text is UTF-8
 trimmed_stands : (first last : Bool) (v : Chunk) (span : Range ℕ) → IsUtf8 (text_of v)
     → IsAsLong (record { v = v; span = span })
     → StandsInChunk (record { v = v; span = span }) (trimmed_chunk first last v span)

@@ -32,7 +32,7 @@ verbatim_text : (space : Bool) (cs : List ℕ) (more : List Atom)
 verbatim_text space [] more = refl
 verbatim_text space (c ∷ cs) more = ap (λ xs. c ∷ xs) (verbatim_text (is_whitespace c) cs more)
 
--- a text without characters is empty
+-- a UTF-8 text without characters is empty
 pub no_characters : (text : List ℕ) → IsUtf8 text → chars text ≡ [] → text ≡ []
 no_characters text utf8 none = sym (encodes-chars text utf8) ∙ ap encode_utf8_all none
 
@@ -41,7 +41,7 @@ pub no_text : (text : List ℕ) → not (length text == 0) ≡ false → chars t
 no_text [] none = chars-nil
 no_text (b ∷ text) none = absurd (false≢true (sym none ∙ ap not (ne_eqb _ _ (λ e. omega arith))))
 
--- whether a non-empty text ends in white space doesn't depend on the text before it
+-- whether a non-empty UTF-8 text ends in white space doesn't depend on the text before it
 same_end : (space : Bool) (text : List ℕ) → IsUtf8 text → not (length text == 0) ≡ true
     → ends_in_space space (chars text) ≡ ends_in_space false (chars text)
 same_end space text utf8 some =
@@ -50,7 +50,7 @@ same_end space text utf8 some =
       | c ∷ cs ↦ λ is. refl
     ] refl
 
--- a chunk that has atoms is formatted as they are
+-- a chunk of UTF-8 text that has atoms is formatted as they are
 chunk_text : (space : Bool) (v : Chunk) (more : List Atom) → IsUtf8 (text_of v) → is_shown v ≡ true
     → formatted_atoms space (atoms_of v ++ more)
     ≡ formatted_chunk (λ cs. cs) space v ++ formatted_atoms (space_after space v) more
@@ -71,7 +71,7 @@ styled_from : (chunks : List (Spanned Chunk)) (i : ℕ) (x : Spanned Chunk) → 
     → styled (drop i chunks) ≡ atoms_of x.v ++ styled (drop (i + 1) chunks)
 styled_from chunks i x within is = ap styled (drop_more chunks i x within ∙ ap (λ y. y ∷ drop (i + 1) chunks) (sym is))
 
--- a step of the loop: a chunk is written
+-- a step of the loop: a chunk of UTF-8 text that has atoms is written
 pub shown_part : (space following : Bool) (chunks : List (Spanned Chunk)) (i : ℕ) (x : Spanned Chunk)
     (out more total : List ℕ) → i < length chunks → x ≡ get_or chunks i x
     → IsUtf8 (text_of x.v) → is_shown x.v ≡ true → more ≡ out ++ encode_utf8_all (formatted_chunk (λ cs. cs) space x.v)

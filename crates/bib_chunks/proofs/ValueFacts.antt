@@ -11,7 +11,7 @@ use Rattle.bib_chunks.specs.Formatted.{flowing, is_unbroken}
 use Rattle.bib_chunks.proofs.FormattedFacts.{flowing_run}
 use Rattle.bib_chunks.specs.Values.{text, alone}
 
--- a verbatim chunk formats to its text
+-- a verbatim chunk of UTF-8 text formats to its text
 pub verbatim_text : (t : List ℕ) → IsUtf8 t → text (alone (Verbatim t)) ≡ t
 verbatim_text t utf8 = ap encode_utf8_all (append-nil (chars t)) ∙ encodes-chars t utf8
 
@@ -48,6 +48,6 @@ simple_text t all =
     (append-nil (flowing false (chars t)) ∙ ap (flowing false) whole ∙ flowing_whole false t (simple_goes t all))
     ∙ encodes-IsAscii t ascii
 
--- the formatted text of a verbatim chunk is the text that it was made of
+-- the formatted text of a verbatim chunk is the UTF-8 text that it was made of
 pub string_survives : (t : List ℕ) → IsUtf8 t → Some (text (alone (Verbatim t))) ≡ Some t
 string_survives t utf8 = ap (λ x. Some x) (verbatim_text t utf8)

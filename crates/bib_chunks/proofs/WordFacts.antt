@@ -151,7 +151,7 @@ left_no_and first last text left cut none before following s t white blank is =
 chunk_no_and : (text : List ℕ) → scalars text ≡ true → HasNoAnd text → IsWithoutAnd (Normal (encode_utf8_all text))
 chunk_no_and text valid none = subst HasNoAnd (sym (chars-encodes text valid)) none
 
--- a trimmed normal chunk has the trimmed text
+-- a trimmed normal chunk of UTF-8 text has the trimmed text
 pub trimmed_says : (first last : Bool) (text : List ℕ) (span : Range ℕ) → IsUtf8 text
     → SaysPiece first last (chars text) (trimmed_chunk first last (Normal text) span)
 trimmed_says first last text span utf8 =

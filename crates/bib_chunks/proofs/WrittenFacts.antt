@@ -71,7 +71,7 @@ pub circumflex_bytes : codes "\\textasciicircum{}" ≡ encode_utf8_all (codes "\
 unfolding encode
 circumflex_bytes = refl
 
--- a run of bare characters was written, and then one character
+-- a run of bare characters of UTF-8 text was written, and then one character
 pub written_run_char : (out one two total : List ℕ) {u w x : Place} {c : ℕ} (v : Bool) → Run (is_bare v) u w
     → IsUtf8 (ahead u) → CharAt w c x
     → one ≡ out ++ between u w → two ≡ one ++ encode_utf8_all (char_spelling v c)
@@ -91,7 +91,7 @@ written_run_char out one two total {u} {w} {x} {c} v run utf8 char first second 
       written_more one two total (char_spelling v c) _ _ second (ap (spelling v) following.spelt) after,
     )
 
--- a run of bare characters was written, and the text ends
+-- a run of bare characters of UTF-8 text was written, and the text ends
 pub written_run_end : (out one total : List ℕ) {u w : Place} (v : Bool) → Run (is_bare v) u w → IsUtf8 (ahead u) → AtEnd w
     → one ≡ out ++ between u w
     → out ++ encode_utf8_all (spelling v (chars (ahead u))) ≡ total

@@ -60,7 +60,7 @@ empty_rows n p = elim (cases_lt p n) [
   | inr t ↦ get_or_past (replicate n []) p [] (omega (arith, t, length-replicate {A = List ℕ} n []))
 ]
 
--- `waiting` has the references of the entries before `entry`, and the first `i` references of `entry`
+-- `waiting` has, reversed, the references of the entries before `entry` and the first `i` references of `entry`, and no others
 pub record IsFilled (graph waiting : List (List ℕ)) (entry i : ℕ) : Type 0 where
   pub same_length : length waiting ≡ length graph
   pub before : (index e : ℕ) → e < entry → times e (refs_of waiting index) ≡ times index (refs_of graph e)

@@ -81,7 +81,7 @@ module _ (graph : List (List ℕ)) where
     nothing : (index entry : ℕ) → Contains (refs_of inside index) entry → ⊥
     nothing index entry c = let c' = subst (λ l. Contains l entry) (none index) c in omega (arith, c'.1)
 
-  -- one more reversed reference between indices with the same root or without a root
+  -- `IsTurnedInside` stays true if a reference between indices with the same root, or without a root, is reversed and appended
   pub inside_more : (roots : List (Option ℕ)) (inside : List (List ℕ)) (r entry : ℕ) → r < length inside
       → Contains (refs_of graph entry) r → root_at roots r ≡ root_at roots entry → AreBackInside graph roots inside
       → AreBackInside graph roots (set inside r (refs_of inside r ++ entry ∷ []))
@@ -110,7 +110,7 @@ module _ (graph : List (List ℕ)) where
     ]
 
   module _ (roots : List (Option ℕ)) (inside : List (List ℕ)) (h : AreBackInside graph roots inside) where
-    -- if an index leads to another in `inside`, the other leads to it in `graph` and has the same root
+    -- if an index leads to another in `inside`, the other leads to it in `graph`, and both have the same root or none
     turned_leads : (a b : ℕ) → Leads inside a b → Leads graph b a × (root_at roots a ≡ root_at roots b)
     turned_leads a b (one e) = let t = h.turned a b e in (one t.0, t.1)
     turned_leads a c (more {b = b} e r) =
@@ -118,7 +118,7 @@ module _ (graph : List (List ℕ)) where
         let rest = turned_leads b c r in
         (further rest.0 t.0, t.1 ∙ rest.1)
 
-    -- if a search in `inside` from a root with itself as root marks an index, this index leads to itself
+    -- `AllLeadToThemselves` stays true after a search in `inside` from an index that is its own root
     pub returning_more : (root : ℕ) (old new : List Bool) → AreRoots graph roots → root_at roots root ≡ Some root
         → IsSpread inside root old new → AllLeadToThemselves graph old → AllLeadToThemselves graph new
     returning_more root old new are is spread before index marked = ⊎_elim

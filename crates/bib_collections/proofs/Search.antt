@@ -15,7 +15,7 @@ use Rattle.bib_text.proofs.ListFacts.{cons_cases, contains_more}
 abbrev pub unmarked : List Bool → ℕ
 unmarked marks = count_by not marks
 
--- marking an index without a mark lowers their number by 1
+-- marking an index in range that has no mark lowers the number of indices without a mark by 1
 pub unmarked_less : (marks : List Bool) (r : ℕ) → r < length marks → is_marked marks r ≡ false
     → unmarked (set marks r true) + 1 ≡ unmarked marks
 unmarked_less marks r within h =

@@ -148,7 +148,7 @@ module _ {K V : Type 0} {R : K → K → Ordering} (o : IsTotalOrder R) where
       ap (λ r. cond (not (is_eq r)) (e ∷ others k es) (others k es)) (index_later k e es i (first _ _ sorted) (omega arith) here)
       ∙ ap (λ l. e ∷ l) (index_others k es i (second _ _ sorted) (omega arith) here)
 
-  -- if a key has a gap, all pairs have other keys
+  -- if the keys before an index are smaller than a key, and those from the index on are greater, all pairs have other keys
   pub gap_others : (k : K) (es : List (K × V)) (i : ℕ) → i ≤ length es → AllWithin (λ p. R p.0 k ≡ Less) es 0 i
       → AllWithin (λ p. R p.0 k ≡ Greater) es i (length es) → others k es ≡ es
   unfolding others

@@ -49,13 +49,13 @@ module _ {K V : Type 0} {R : K → K → Ordering} (o : IsTotalOrder R) where
   named-ties q v [] = refl
   named-ties q v (e ∷ es) = λ i. cond (sym (ties_are q v e) i) (e ∷ named-ties q v es i) (named-ties q v es i)
 
-  -- a stable sort keeps the first pair of a key `q`, where `v` is any value
+  -- a stable sort keeps the value of the first pair of a key `q`; `v` is any value
   found_by : (q : K) (v : V) (xs ys : List (K × V)) → IsStableBy (below R) xs ys → find R q ys ≡ find R q xs
   unfolding named first_value
   found_by q v xs ys stable =
       find-named q ys ∙ ap first_value (named-ties q v ys ∙ stable (q, v) ∙ sym (named-ties q v xs)) ∙ sym (find-named q xs)
 
-  -- a stable sort keeps the first pair of each key
+  -- a stable sort keeps the value of the first pair of each key
   pub find-stable : (q : K) (xs ys : List (K × V)) → IsStableBy (below R) xs ys → find R q ys ≡ find R q xs
   find-stable q [] [] stable = refl
   find-stable q (x ∷ xs) ys stable = found_by q x.1 (x ∷ xs) ys stable
@@ -69,7 +69,7 @@ module _ {K V : Type 0} {R : K → K → Ordering} (o : IsTotalOrder R) where
   hidden_past true c x y z e = refl
   hidden_past false c x y z e = ap (λ b. cond b y z) (sym e)
 
-  -- dropping later pairs of a key keeps the first pair of each key
+  -- dropping later neighbours with the same key keeps the value of the first pair of each key
   pub find-dedup_from : (q : K) (k : K × V) (xs : List (K × V)) → find R q (dedup_from (tie R) k xs) ≡ find R q (k ∷ xs)
   find-dedup_from q k [] = refl
   find-dedup_from q k (x ∷ xs) =

@@ -46,7 +46,7 @@ passes_one {u} {v} {c} passed =
     let width : 1 ≤ len_utf8 c = (len_utf8_bounds c).0 in
     omega arith
 
--- the text between two places consists of the passed characters
+-- the UTF-8 text between two places consists of the passed characters
 pub passes_text : {u v : Place} {cs : List ℕ} (start : ℕ) (bs : List ℕ) → Passes u cs v → start ≡ u.at → IsUtf8 bs
     → bs ≡ between (place v.text start) v → chars bs ≡ cs
 passes_text {u} {v} {cs} start bs passed is utf8 taken =
@@ -66,7 +66,7 @@ all_hyphens (c ∷ cs) all =
     let rest = all_hyphens cs parts.1 in
     rw (eqb-true c 45 parts.0) (ap (λ xs. 45 ∷ xs) rest.0, ap (λ xs. 45 ∷ xs) rest.1)
 
--- a text of hyphens has as many characters as bytes
+-- a UTF-8 text of hyphens has as many characters as bytes
 pub hyphens_bytes : (bs : List ℕ) → IsUtf8 bs → list_all (λ c. c == 45) (chars bs) ≡ true → chars bs ≡ replicate (length bs) 45
 hyphens_bytes bs utf8 all =
     let both = all_hyphens (chars bs) all in
@@ -262,7 +262,7 @@ braced_closed {u} {s} {t} {w} {depth} {run} {c} read bound passed plain ends bra
       (let one : t.at + 1 ≤ w.at = passes_one brace in let run' : s.at ≤ t.at = passes_ahead passed in omega arith),
     )
 
--- an argument and its closing brace were passed
+-- a UTF-8 argument whose braces balance was passed, and its closing brace
 pub encloses : {u t w inside : Place} {cs : List ℕ} (start : ℕ) → Passes u cs t → balances 0 cs ≡ true
     → Passes t (125 ∷ []) w → inside ≡ place (take t.at t.text) start → start ≡ u.at
     → IsUtf8 (drop inside.at inside.text) → t.at ≤ length t.text → Encloses u inside w
@@ -290,7 +290,7 @@ encloses {u} {t} {w} {inside} {cs} start passed balanced brace is here utf8 with
       balanced = ap (balances 0) same ∙ balanced;
     }
 
--- a closing brace without an opening one ends the argument
+-- a closing brace without an opening one ends a UTF-8 argument
 pub braced_encloses : {u s t w inside : Place} {depth : ℕ} {run : List ℕ} {c : ℕ} (start : ℕ) → BracedRead u depth s
     → depth ≡ 0 → Passes s run t → list_all is_no_brace run ≡ true → begins is_no_brace (left t) ≡ false
     → Passes t (c ∷ []) w → (c ≡ 123 → ⊥)
@@ -301,7 +301,7 @@ braced_encloses {u} {s} {t} {w} {inside} {depth} {run} {c} start read none passe
     let closing : c ≡ 125 = is_closing c (next_brace c (left t) (left w) ends brace.left) differs in
     encloses start found.1 found.3 (subst (λ x. Passes t (x ∷ []) w) closing brace) is here utf8 within
 
--- the characters of a text that begins with a closing brace are this brace and the characters after it
+-- the characters of a UTF-8 text that begins with a closing brace are this brace and the characters after it
 chars_brace : (bs rest : List ℕ) → IsUtf8 bs → bs ≡ 125 ∷ rest → chars bs ≡ 125 ∷ chars rest
 unfolding lib.Utf8.encode
 chars_brace bs rest utf8 is = (chars_past (125 ∷ []) bs rest utf8 is).0
@@ -313,7 +313,7 @@ brace_eaten : {t w : Place} {rest : List ℕ} (found : Option ℕ)
 brace_eaten None eaten ahead = absurd (cc (eaten.0, ahead))
 brace_eaten {t} {w} (Some c) eaten ahead = let is : c ≡ 125 = cc (eaten.left, ahead) in subst (λ x. Passes t (x ∷ []) w) is eaten
 
--- an argument whose end is known was passed, with its closing brace
+-- a UTF-8 argument whose end is known was passed, with its closing brace
 pub known_encloses : {u t w inside : Place} (start end : ℕ) (found : Option ℕ) → Closes u.text start end → start ≡ u.at
     → t ≡ place u.text end → IsUtf8 (drop u.at u.text) → end < length u.text
     → MatchOption found ((left t ≡ []) × (w ≡ t)) (λ c. Passes t (c ∷ []) w)
@@ -333,7 +333,7 @@ known_encloses {u} {t} {w} {inside} start end found closes here there utf8 withi
     encloses start passed closes.balanced (brace_eaten found eaten ahead) is here inside_utf8
     (omega (arith, ap (λ p. p.at) there, within, ap (λ p. length p.text) there))
 
--- the end of an argument is at a character boundary
+-- the end of an argument in UTF-8 text is at a character boundary
 pub closes_boundary : {text : List ℕ} {start end : ℕ} → Closes text start end → IsUtf8 (drop start text)
     → end < length text → IsCharBoundary text end
 closes_boundary {text} {start} {end} closes utf8 within =

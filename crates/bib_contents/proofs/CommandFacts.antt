@@ -43,7 +43,7 @@ same_name name bytes utf8 =
     )
     by_chars
 
--- a look-up in an encoded table is the encoded look-up
+-- a look-up of UTF-8 bytes in an encoded table is the encoded look-up of their characters
 pub named_encoded : (rows : List (List ℕ × List ℕ)) (bytes : List ℕ) → IsUtf8 bytes
     → value_named (map (λ row. (encode_utf8_all row.0, encode_utf8_all row.1)) rows) bytes
     ≡ option_map encode_utf8_all (value_named rows (chars bytes))
@@ -150,11 +150,11 @@ with_mark-push mark [] c = refl
 with_mark-push mark (d ∷ []) c = refl
 with_mark-push mark (d ∷ e ∷ leading_run) c = ap (λ cs. d ∷ cs) (with_mark-push mark (e ∷ leading_run) c)
 
--- the encoding of one character has this character only
+-- if the encoding of one character is UTF-8, it has this character only
 pub chars_one : (bytes : List ℕ) (c : ℕ) → IsUtf8 bytes → bytes ≡ encode_utf8 c → chars bytes ≡ c ∷ []
 chars_one bytes c utf8 spells = chars_past_char bytes [] c utf8 (spells ∙ sym (append-nil _)) ∙ ap (λ cs. c ∷ cs) chars-nil
 
--- the characters of a text with a last character
+-- the characters of a UTF-8 text that ends with `c` are those of the UTF-8 text before it, and `c`
 pub chars_last : (bytes leading_run : List ℕ) (c : ℕ) → IsUtf8 bytes → IsUtf8 leading_run
     → bytes ≡ leading_run ++ encode_utf8 c → chars bytes ≡ chars leading_run ++ c ∷ []
 chars_last bytes leading_run c utf8 prefix_utf8 ends =
@@ -163,7 +163,7 @@ chars_last bytes leading_run c utf8 prefix_utf8 ends =
     (ends ∙ ap (λ bs. bs ++ encode_utf8 c) (sym (encodes-chars leading_run prefix_utf8))) in
     past.0 ∙ ap (λ cs. chars leading_run ++ cs) (chars_one (encode_utf8 c) c past.1 refl)
 
--- a text that isn't a name in bytes isn't it in characters
+-- a UTF-8 text that isn't a name in bytes isn't it in characters
 pub not_named : (bytes name : List ℕ) → IsUtf8 bytes → (bytes ≡ encode_utf8_all name → ⊥) → bytes_eq (chars bytes) name ≡ false
 not_named bytes name utf8 differs =
     reported (bytes_eq (chars bytes) name)
@@ -191,7 +191,7 @@ accents_longer bytes rest c utf8 spells more =
     longer [] spelt = absurd (false≢true (sym more ∙ ap (λ bs. eqb (length bs) 0) (sym spelt)))
     longer (d ∷ cs) spelt = named_longer accents c d cs accents_short
 
--- the encoding of one character with nothing after it is a text of this character
+-- a UTF-8 text that is the encoding of one character with nothing after it has this character only
 pub accents_one : (bytes rest : List ℕ) (c : ℕ) → IsUtf8 bytes → bytes ≡ encode_utf8 c ++ rest
     → eqb (length rest) 0 ≡ true → chars bytes ≡ c ∷ []
 accents_one bytes [] c utf8 spells none = chars_past_char bytes [] c utf8 spells ∙ ap (λ cs. c ∷ cs) chars-nil
@@ -217,13 +217,13 @@ pub other_copyright_with : (name argument : List ℕ) → name ≡ copyright →
 unfolding chars
 other_copyright_with name argument is = ap (λ bs. other (chars bs) (Some argument)) is
 
--- the text of an unknown command without an argument
+-- the text, by `other`, of a command without an argument whose UTF-8 name is neither `o` nor `copyright`
 pub other_unknown : (name : List ℕ) → IsUtf8 name → (name ≡ 111 ∷ [] → ⊥) → (name ≡ copyright → ⊥)
     → other (chars name) None ≡ 92 ∷ (chars name ++ 32 ∷ [])
 unfolding encode_utf8
 other_unknown name utf8 not_o not_copyright = rw (not_named name (111 ∷ []) utf8 not_o, not_named name copyright utf8 not_copyright)
 
--- an unknown command with an argument is kept
+-- `other` keeps a command with an argument if its UTF-8 name is neither `o` nor `copyright`
 pub other_unknown_with : (name argument : List ℕ) → IsUtf8 name → (name ≡ 111 ∷ [] → ⊥) → (name ≡ copyright → ⊥)
     → other (chars name) (Some argument) ≡ codes "\\" ++ chars name ++ codes "{" ++ argument ++ codes "}"
 unfolding encode_utf8

@@ -46,7 +46,7 @@ spaced_more : (b : ℕ) (bs cs : List ℕ) → encode_utf8_all cs ≡ b ∷ bs �
 spaced_more b bs [] is = cc
 spaced_more b bs (c ∷ cs) is = rw (ne_eqb (length (b ∷ bs)) 0 (λ same. omega (arith, same))) refl
 
--- a text has characters exactly if it has bytes
+-- a UTF-8 text has characters exactly if it has bytes
 pub spaced_chars : (bs : List ℕ) → IsUtf8 bs → not (length bs == 0) ≡ not (is_empty (chars bs))
 spaced_chars [] utf8 = rw chars-nil refl
 spaced_chars (b ∷ bs) utf8 = spaced_more b bs (chars (b ∷ bs)) (encodes-chars (b ∷ bs) utf8)

@@ -51,7 +51,7 @@ last_same (x ∷ xs) (y ∷ ys) c d is =
     let first : x ≡ y = cc in
     (ap (λ z. z ∷ xs) first ∙ ap (λ zs. y ∷ zs) rest.0, rest.1)
 
--- a mark is put on the last character of a text
+-- a mark is put on the last character of a UTF-8 text
 pub marked_some : (base : List ℕ) (c : ℕ) (cs : List ℕ) (mark last : ℕ) (old leading_run new : List ℕ) → IsUtf8 old
     → IsUtf8 leading_run → old ≡ encode_utf8_all (base ++ c ∷ cs) → old ≡ leading_run ++ encode_utf8 last
     → new ≡ leading_run ++ encode_utf8_all (nfc (letter last ∷ mark ∷ [])) → new ≡ encode_utf8_all (base ++ with_mark mark (c ∷ cs))
@@ -69,7 +69,7 @@ marked_some base c cs mark last old leading_run new utf8 prefix_utf8 is popped g
     (append_assoc base split.0 _ ∙ ap (λ d. base ++ (split.0 ++ nfc (letter d ∷ mark ∷ []))) parts.1
     ∙ ap (λ xs. base ++ xs) (sym (ap (with_mark mark) split.2 ∙ with_mark-push mark split.0 split.1)))
 
--- composing the last character with a mark gives the text with the mark on its last character
+-- composing the last character of a UTF-8 text with a mark puts the mark on the last character of its non-empty part `inside`
 pub marked_after : (base inside : List ℕ) (mark last : ℕ) (old leading_run new : List ℕ) {start : ℕ}
     → length (encode_utf8_all base) ≡ start → start < length old → IsUtf8 old → IsUtf8 leading_run
     → old ≡ encode_utf8_all (base ++ inside) → old ≡ leading_run ++ encode_utf8 last
@@ -86,7 +86,7 @@ pub cut_back : (base inside now cut : List ℕ) {start : ℕ} → length (encode
 cut_back base inside now cut {start} size is taken =
     taken ∙ ap (take start) (is ∙ encodes-append base inside) ∙ take_at (encode_utf8_all base) (encode_utf8_all inside) start size
 
--- the start of a text's last part is a character boundary
+-- the start of a UTF-8 text's last part is a character boundary
 pub boundary_at : (base inside bs : List ℕ) {start : ℕ} → length (encode_utf8_all base) ≡ start
     → bs ≡ encode_utf8_all (base ++ inside) → IsUtf8 bs → IsCharBoundary bs start
 boundary_at base inside bs {start} size is utf8 =
@@ -95,7 +95,7 @@ boundary_at base inside bs {start} size is utf8 =
     (IsCharBoundary-at_seam bs (encode_utf8_all base) (encode_utf8_all inside) parts
     (chars_past base bs (encode_utf8_all inside) utf8 parts).1)
 
--- a symbol replaces an argument
+-- a symbol with a UTF-8 text replaces an argument
 pub symbol_end : (base inside now cut new text : List ℕ) {start : ℕ} → length (encode_utf8_all (base ++ [])) ≡ start
     → now ≡ encode_utf8_all ((base ++ []) ++ inside) → cut ≡ take start now → new ≡ cut ++ text → IsUtf8 text
     → new ≡ encode_utf8_all (base ++ chars text)

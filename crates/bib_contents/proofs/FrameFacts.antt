@@ -344,7 +344,7 @@ applied_shorter name space argument before rest one =
     length-append name _ in
     omega arith
 
--- an argument was begun
+-- an argument was begun, after UTF-8 output
 pub begun_here : {frame : Frame} {name old now : List ℕ} {inside : Place} {low high : ℕ} → frame.s ≡ inside
     → frame.depth ≡ 0 → ((argument : List ℕ) → command_text name (Some argument) ≡ effect_text frame.effect name argument)
     → IsFit frame.effect → list_all is_unbroken name ≡ true
@@ -361,7 +361,7 @@ begun_here {frame} {name} {old} {now} {inside} {low} {high} same shallow gives f
   right = record { within = rw same stands; deep = rw shallow (omega arith) };
 }
 
--- at the start of an argument nothing was parsed
+-- at the start of an argument, after UTF-8 output, nothing was parsed
 pub read_begun : (frame : Frame) {flat : Bool} (name old now : List ℕ) {inside : Place} → frame.s ≡ inside
     → frame.depth ≡ 0 → now ≡ old ++ encode_utf8_all (before_argument frame.effect name) → IsUtf8 old
     → IsReadTo flat (left inside) (chars old ++ before_argument frame.effect name) (left frame.s) frame.depth now
@@ -369,7 +369,7 @@ read_begun frame name old now same shallow wrote utf8 =
     read_start (ap left same) shallow (wrote_after old now (before_argument frame.effect name) utf8 wrote)
 
 module _ {first_name first_whole first_under : List ℕ} {ends : Ends} {low high : ℕ} where
-  -- a command with an argument in braces comes next, and the argument was begun
+  -- after UTF-8 output, a command with an argument in braces comes next, and the argument was begun
   pub reading_follows : {frame on above : Frame} {frames : List Frame} {now more most name : List ℕ} {inside : Place}
       (reading : IsReading first_name first_whole first_under ends low high frame frames now) → KeepsFrame frame on
       → StandsRight on → IsUtf8 more

@@ -45,7 +45,7 @@ flowing_plain space (c ∷ cs) all =
     let parts = and_parts (is_unbroken c) (list_all is_unbroken cs) all in
     rw (not-true (is_break c) parts.0) (ap (λ xs. c ∷ xs) (flowing_plain (is_whitespace c) cs parts.1))
 
--- a line break leaves no line break on one line
+-- a text that begins with a line break has none on one line, if the text after that break has none on one line
 lined_break : (space : Bool) (c : ℕ) (cs : List ℕ) → is_break c ≡ true → list_all is_unbroken (flowing true cs) ≡ true
     → list_all is_unbroken (flowing space (c ∷ cs)) ≡ true
 lined_break true c cs breaks rest = rw breaks rest

@@ -37,7 +37,7 @@ pub record Itself (is_verbatim : Bool) (u v : Place) : Type 0 where
   pub passed : MovesPast u shown v
   pub goes : (depth : ℕ) → Goes is_verbatim depth (left u) (map (character depth) shown) depth (left v)
 
--- an empty run is parsed as itself
+-- in UTF-8 text, an empty run is parsed as itself
 pub itself_none : (is_verbatim : Bool) (u : Place) → IsUtf8 (ahead u) → Itself is_verbatim u u
 itself_none is_verbatim u utf8 = record { shown = []; passed = passed_none u utf8; goes = λ depth. goes_here is_verbatim depth (left u) }
 
@@ -114,12 +114,12 @@ alone_hyphen c rest is = rw is refl
 pub alone_last : (c : ℕ) (rest : List ℕ) → rest ≡ [] → (c ≡ 32 → ⊥) → is_alone c rest ≡ (c == 45)
 alone_last c rest ends differs = rw (ends, ne_eqb c 32 differs) (and-true (c == 45))
 
--- the character at a place is the first of those left
+-- in UTF-8 text, the character at a place is the first of those left
 pub left_here : (text : List ℕ) (at : ℕ) {v : Place} {c : ℕ} → IsUtf8 text → IsCharBoundary text at
     → CharAt (place text at) c v → left (place text at) ≡ c ∷ left v
 left_here text at utf8 boundary char = stands_left char (IsUtf8-drop text at utf8 boundary)
 
--- at the start no character was passed
+-- in UTF-8 text, no character was passed at the start
 pub itself_start : (is_verbatim : Bool) (text : List ℕ) (at : ℕ) → IsUtf8 (drop at text)
     → Itself is_verbatim (place text at) (place text at)
 itself_start is_verbatim text at utf8 = itself_none is_verbatim (place text at) utf8
@@ -131,7 +131,7 @@ pub itself_char : {is_verbatim : Bool} {u v : Place} {c : ℕ} (text : List ℕ)
 itself_char {is_verbatim} {u} text at before char ordinary =
     subst (λ p. Itself is_verbatim u p) (place_after char) (itself_ordinary before char ordinary)
 
--- the passed characters are the text between the places
+-- the passed characters are those of the UTF-8 text between the places
 pub itself_reads : {is_verbatim : Bool} {u v : Place} (eaten : List ℕ) → Itself is_verbatim u v → IsUtf8 eaten
     → eaten ≡ between u v → ReadsAs is_verbatim u (chars eaten) v
 itself_reads {is_verbatim} {u} {v} eaten itself utf8 is =

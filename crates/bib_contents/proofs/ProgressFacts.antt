@@ -29,22 +29,22 @@ passes_then {u} {v} {w} {cs} {ds} first second =
 pub passes_none : (u : Place) → Passes u [] u
 passes_none u = record { same = refl; here = refl; next = omega arith; left = refl }
 
--- the first of the characters left is at the cursor
+-- in UTF-8 text, the first of the characters left is at the cursor
 pub stands : (u : Place) (c : ℕ) (rest : List ℕ) → IsUtf8 (ahead u) → left u ≡ c ∷ rest → (v : Place) × CharAt u c v
 stands u c rest utf8 is = (_, char_here u.text (encode_utf8_all rest) u.at c (sym (encodes-chars (ahead u) utf8) ∙ ap encode_utf8_all is))
 
--- the remaining characters are the one at the place and those after it
+-- in UTF-8 text, the remaining characters are the one at the place and those after it
 pub stands_left : {u v : Place} {c : ℕ} → CharAt u c v → IsUtf8 (ahead u) → left u ≡ c ∷ left v
 stands_left char utf8 = (passed_char char utf8).spelt
 
--- the character at a place is the first of the characters left there, and at the end of the text none are left
+-- in UTF-8 text, the character at a place is the first of the characters left there, and at the end of the text none are left
 pub peeked : (u : Place) (found : Option ℕ) → IsUtf8 (ahead u)
     → MatchOption found (AtEnd u) (λ c. (v : Place) × CharAt u c v)
     → MatchOption found (left u ≡ []) (λ c. (rest : List ℕ) × (left u ≡ c ∷ rest))
 peeked u None utf8 end = chars_at_end u end
 peeked u (Some c) utf8 char = (_, stands_left char.1 utf8)
 
--- eating a character passes it, and at the end of the text nothing is passed
+-- in UTF-8 text, eating a character passes it, and at the end of the text nothing is passed
 pub taken : (u v : Place) (found : Option ℕ) → IsUtf8 (ahead u)
     → MatchOption found (AtEnd u × (v ≡ u)) (λ c. CharAt u c v)
     → MatchOption found ((left u ≡ []) × (v ≡ u)) (λ c. Passes u (c ∷ []) v)
@@ -62,12 +62,12 @@ pub taken_utf8 : (u v : Place) (found : Option ℕ) → IsUtf8 (ahead u)
 taken_utf8 u v None utf8 end = rw end.1 utf8
 taken_utf8 u v (Some c) utf8 char = (passed_char char utf8).utf8
 
--- if the character at a place fails a test, the first of the characters left fails it
+-- in UTF-8 text, if the character at a place fails a test, the first of the characters left fails it
 pub begins_not : (test : ℕ → Bool) (u : Place) (cs : List ℕ) → IsUtf8 (ahead u) → left u ≡ cs → Stops test u → begins test cs ≡ false
 begins_not test u [] utf8 is stops = refl
 begins_not test u (c ∷ cs) utf8 is stops = let here = stands u c cs utf8 is in stops c here.0 here.1
 
--- eating a character if it is `c` passes it, or the characters left don't begin with it
+-- in UTF-8 text, eating a character if it is `c` passes it, or the characters left don't begin with it
 pub taken_if : (u v : Place) (c : ℕ) (found : Bool) → IsUtf8 (ahead u)
     → MatchBool found (CharAt u c v) ((v ≡ u) × ((w : Place) → CharAt u c w → ⊥))
     → MatchBool found (Passes u (c ∷ []) v) ((v ≡ u) × (begins (λ d. d == c) (left u) ≡ false))
@@ -91,7 +91,7 @@ pub taken_if_utf8 : (u v : Place) (c : ℕ) (found : Bool) → IsUtf8 (ahead u)
 taken_if_utf8 u v c true utf8 char = (passed_char char utf8).utf8
 taken_if_utf8 u v c false utf8 none = rw none.0 utf8
 
--- eating the longest run of characters that pass a test passes them, and no character that passes it follows
+-- in UTF-8 text, eating the longest run of characters that pass a test passes them, and no character that passes it follows
 pub taken_while : (test : ℕ → Bool) (u v : Place) (eaten : List ℕ) → IsUtf8 (ahead u) → IsUtf8 eaten → Longest test u v
     → eaten ≡ between u v
     → Passes u (chars eaten) v × (list_all test (chars eaten) ≡ true) × (begins test (left v) ≡ false)
@@ -104,7 +104,7 @@ taken_while test u v eaten utf8 text longest is =
 pub taken_while_utf8 : (test : ℕ → Bool) (u v : Place) → IsUtf8 (ahead u) → Longest test u v → IsUtf8 (ahead v)
 taken_while_utf8 test u v utf8 longest = (passed_run longest.run utf8).1.utf8
 
--- the passed characters are the text between the places
+-- the passed characters are those of the UTF-8 text between the places
 pub passes_between : {u v : Place} {cs : List ℕ} → Passes u cs v → IsUtf8 (between u v)
     → between u v ≡ encode_utf8_all cs → chars (between u v) ≡ cs
 passes_between {u} {v} {cs} passed utf8 is = chars_whole cs (between u v) utf8 is

@@ -76,7 +76,7 @@ reading_plain {is_verbatim} {text} {offset} {start} {out} {s} {t} growing grown 
       within = passes_within passes reading.within;
     }
 
--- the offset after a unit is the offset before it plus the number of the unit's bytes
+-- in UTF-8 text, the offset after a unit is the offset before it plus the number of the unit's bytes
 pub unit_place : {is_verbatim : Bool} {u : ContentUnit} {s t : Place} → IsNext is_verbatim u (left s) (left t)
     → t.text ≡ s.text → IsUtf8 (drop s.at s.text) → IsUtf8 (drop t.at t.text) → s.at ≤ length s.text
     → t.at ≤ length t.text

@@ -29,7 +29,7 @@ use Rattle.bib_contents.specs.declared.units.TextUnit.{TextUnit}
 use Rattle.bib_contents.specs.declared.units.TextUnit.TheVariants as shown
 use Rattle.bib_contents.proofs.ReaderFacts.{nothing_grows, no_argument}
 
--- a text with appended characters has its characters and these
+-- a UTF-8 text with appended characters has its characters and these, if the longer text is UTF-8 too
 pub grown_chars : (bs more cs : List ℕ) → IsUtf8 bs → IsUtf8 more → more ≡ bs ++ encode_utf8_all cs → chars more ≡ chars bs ++ cs
 grown_chars bs more cs utf8 utf8' grew =
     chars_whole (chars bs ++ cs) more utf8'

@@ -8,7 +8,7 @@ use Rattle.bib_chunks.specs.Written.{is_grouping, is_reserved}
 use Rattle.bib_text.specs.Runs.{leading_run, rest_after}
 use Rattle.bib_contents.specs.Contents.{is_escapable, ContentUnit, Argument, is_escaped, is_space, is_blank, is_name_character, is_sign, is_ordinary, begins, is_empty, balances, argument_spelling, unit_spelling, is_name, is_whole_name, takes_next, is_argument, fits}
 
--- the characters before the brace that closes `depth` open ones and one more
+-- the characters before the brace that closes `depth` open ones and one more, or all characters if there is no such brace
 abbrev pub braces : ℕ → List ℕ → List ℕ
 braces depth [] = []
 braces depth (c ∷ cs) =
@@ -42,7 +42,7 @@ first_escape is_verbatim (c ∷ cs) =
     else if is_sign c then first_command (c ∷ []) cs
     else first_command (c ∷ leading_run is_name_character cs) (rest_after is_name_character cs)
 
--- the unit with which a text begins
+-- the unit with which a text begins; for an empty text, an opening brace
 abbrev pub first_unit : Bool → List ℕ → ContentUnit
 first_unit is_verbatim [] = ContentUnit.opening
 first_unit is_verbatim (c ∷ cs) =

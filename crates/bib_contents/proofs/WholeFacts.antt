@@ -42,7 +42,7 @@ record HasEnds (u : ContentUnit) (inner : List Atom) : Type 0 where
   first : begins is_break (unit_text u inner) ≡ false
   last : breaks_last u ≡ false → ends_in_break (unit_text u inner) ≡ false
 
--- a unit whose text neither begins nor ends with a line break has such ends
+-- `HasEnds` is true of a unit whose text neither begins nor ends with a line break
 capped_ends : (u : ContentUnit) (inner : List Atom) → IsCapped (unit_text u inner) → HasEnds u inner
 capped_ends u inner capped = record { first = capped.first; last = λ plain. capped.last }
 

@@ -7,14 +7,14 @@ use Rattle.bib_dates.specs.declared.date.DateValue.{DateValue}
 use Rattle.bib_dates.specs.declared.date.DateValue.TheVariants.{At, After, Before, Between}
 use Rattle.bib_dates.specs.declared.date.Datetime.{Datetime}
 
--- the month and the day exist, and there is no day without a month; both count from 0
+-- a given month is one of a year, and a given day is one of that month; there is no day without a month. Both count from 0.
 abbrev pub IsKeptDay : ℤ → Option ℕ → Option ℕ → Type 0
 IsKeptDay y None None = Unit {0}
 IsKeptDay y None (Some d) = ⊥
 IsKeptDay y (Some m) None = m < 12
 IsKeptDay y (Some m) (Some d) = (m < 12) × (d < days_in_month y (m + 1))
 
--- the year is from -9999 to 9999, the month and the day exist, and there is no time
+-- the year is from -9999 to 9999, the month and the day meet `IsKeptDay`, and there is no time
 pub record IsKeptDatetime (d : Datetime) : Type 0 where
   pub year : IsYear d.year
   pub day : IsKeptDay d.year d.month d.day

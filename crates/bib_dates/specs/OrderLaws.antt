@@ -1,6 +1,5 @@
 -- Machinery: words of private contracts.
--- The orders of times and of dates are partial orders, with `Equal` exactly for equal values. A law of an `impl` may
--- cite lemmas of its own crate only from specs/.
+-- The orders of times and of dates are partial orders, with `Equal` exactly for equal values.
 use Rattle.std.specs.Prelude.{◌≡◌, refl, ℕ, Bool, true, false, ◌&&◌, Option, Some, None, is_some, option_map, nat_eq}
 use Rattle.std.proofs.Common.{ap, subst, ◌∙◌, arith}
 use Rattle.std.specs.Option.{option_eq}

@@ -19,7 +19,7 @@ pub struct Report {
     pub missing: Vec<&'static str>,
     /// The fields that its type forbids and the entry has.
     pub superfluous: Vec<&'static str>,
-    /// The fields that can't be parsed as values of their types, each with its error.
+    /// The checked fields and dates that can't be parsed as values of their types, each with its error.
     pub malformed: Vec<(Text, TypeError)>,
 }
 

@@ -249,8 +249,9 @@ fn keep_entries<'f, 's>(
 }
 
 /// Loads the entries of a file as far as possible. An entry is left out if its key was claimed by an earlier entry that was
-/// kept, and a field if it can't be parsed. An undefined abbreviation in a field is replaced by its name as text. Each of
-/// these adds an error. Each name points to the last kept entry that claims it. The only returned error is out of memory.
+/// kept, and a field if it can't be parsed. An abbreviation is undefined if it is neither defined in the file nor a month's. In a
+/// field, its name replaces it as text. Each of these adds an error. Each name points to the last kept entry that claims it. The
+/// only returned error is out of memory.
 pub fn keep(alloc: Global, raw: &RawBibliography<'_>) -> Result<KeptEntries, AllocError>
     ensures kept { IfOk result (λ found. IsKeptSoFar (definition_in (file_of raw.now).abbreviations)
         (file_of raw.now).entries found.entries.items found.names found.spans.items

@@ -41,7 +41,7 @@ second_none (Some x) two is = absurd (false≢true (sym is))
 pub no_xdata : (e : Entry) → has_references e ≡ false → by_name.get e.fields (codes "xdata") ≡ None
 no_xdata e is = second_none (by_name.get e.fields (codes "crossref")) (by_name.get e.fields (codes "xdata")) is
 
--- and refers to nothing
+-- an entry that isn't flagged refers to nothing
 pub refers_nowhere : (names : ByText ℕ) (e : Entry) → has_references e ≡ false → references names (fields_of e.fields) ≡ []
 refers_nowhere names e is =
     let one = first_none (by_name.get e.fields (codes "crossref")) (by_name.get e.fields (codes "xdata")) is in

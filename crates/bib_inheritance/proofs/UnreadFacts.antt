@@ -34,7 +34,8 @@ find_here test (x ∷ xs) (suc i) d within none here =
       following true c none rest here = absurd (false≢true (sym none))
       following false c none rest here = rest none here
 
--- the next entry: either its date is unreadable, or it isn't
+-- Suppose that none of the first `i` indices has an unreadable date. An error cached at the next index is then the first one
+-- (`unread_here`). If a date without an error is cached there, none of the first `i + 1` indices has an unreadable date (`read_here`).
 module _ (entries : List Entry) (dates : Dates) (indices : List ℕ) (i : ℕ) (within : i < length indices)
     (are : AreDates entries dates) (none : list_any (is_bad_date (texts_of_entries entries)) (take i indices) ≡ false)
   where

@@ -62,7 +62,7 @@ capital_table : list_all (λ b. not (is_capital_letter b) || not (is_lowercase b
 unfolding is_lowercase in_ranges lowercase_ranges
 capital_table = refl
 
--- an uppercase letter is not in lower case
+-- an ASCII uppercase letter is not in lower case
 pub capital_not_low : (b : ℕ) → is_capital_letter b ≡ true → is_lowercase b ≡ false
 capital_not_low b capital =
     not-true (is_lowercase b)
@@ -74,7 +74,7 @@ small_table : list_all (λ b. not (is_small_letter b) || (is_lowercase b && not 
 unfolding is_lowercase is_uppercase in_ranges lowercase_ranges uppercase_ranges
 small_table = refl
 
--- a lowercase letter is in lower case
+-- an ASCII lowercase letter is in lower case, and not in upper case
 pub small_low : (b : ℕ) → is_small_letter b ≡ true → (is_lowercase b && not (is_uppercase b)) ≡ true
 small_low b small =
     implied (is_small_letter b) (is_lowercase b && not (is_uppercase b))

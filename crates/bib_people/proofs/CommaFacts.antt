@@ -52,7 +52,7 @@ pub record AreHalves (leading_run rest : List ℕ) (span : Range ℕ) : Type 0 w
   pub right : Range ℕ
   pub cut : halves (Normal (leading_run ++ (44 ∷ rest))) span 44 ≡ Some (stands left (trim_end leading_run), stands right (trim_start rest))
 
--- the halves of a chunk at its first comma
+-- the halves of a normal chunk of ASCII text at its first comma
 pub halves_at : (leading_run rest : List ℕ) (span : Range ℕ) → list_any is_comma leading_run ≡ false
     → chars (leading_run ++ (44 ∷ rest)) ≡ leading_run ++ (44 ∷ rest) → encode_utf8_all leading_run ≡ leading_run
     → encode_utf8_all rest ≡ rest → AreHalves leading_run rest span
@@ -77,7 +77,7 @@ halves_at leading_run rest span none same spelt spells =
           ∙ ap (λ c. Some (stands one.span (trim_end leading_run), c)) two_is;
     }
 
--- a chunk without a comma has no halves
+-- a normal chunk of ASCII text without a comma has no halves
 halves_none : (text : List ℕ) (span : Range ℕ) → list_any is_comma text ≡ false → chars text ≡ text → halves (Normal text) span 44 ≡ None
 halves_none text span none same =
     ap (λ cs. option_map (both_pieces (len_utf8 44) text span) (cut_characters 44 cs)) same
@@ -103,7 +103,7 @@ cut_first_comma at true leading_run rest span more cut =
     (cut_at (stands span (leading_run ++ (44 ∷ rest)) ∷ more) 44)) (halves_none [] at refl chars-nil)
     ∙ ap (cut_after (stands at [] ∷ [])) (ap (λ h. cut_first (stands span (leading_run ++ (44 ∷ rest))) more h (cut_at more 44)) cut.cut)
 
--- a chunk without commas is not cut
+-- a normal chunk of ASCII text without commas is not cut, with or without an empty chunk after it
 pub cut_no_comma : (text : List ℕ) (span at : Range ℕ) (following : Bool) → list_any is_comma text ≡ false
     → chars text ≡ text → cut_at (stands span text ∷ empties at following) 44 ≡ None
 cut_no_comma text span at following none same =

@@ -84,7 +84,7 @@ pub no_space : (text : List ℕ) → ((i : ℕ) → i < length text → get_or t
 no_space [] none = refl
 no_space (b ∷ bs) none = rw (ne_eqb b 32 (none 0 (omega arith)), no_space bs (λ i within. none (suc i) (omega arith))) refl
 
--- a space after which there is no other is the last one
+-- in UTF-8 text, a space after which there is no other is the last one
 last_at : (text : List ℕ) (at : ℕ) → IsUtf8 text → IsCharBoundary text at → at < length text → get_or text at 0 ≡ 32
     → ((i : ℕ) → at < i → i < length text → get_or text i 0 ≢ 32) → IsLastSpace text at
 last_at text at utf8 boundary within here later =
@@ -103,7 +103,7 @@ last_at text at utf8 boundary within here later =
       next = IsCharBoundary-after_ascii text at utf8 within (omega arith);
     }
 
--- for a space, `rfind` returns the byte offset of the last one
+-- for a space in UTF-8 text, `rfind` returns the byte offset of the last one, or `None` if there is none
 pub last_space_found : (text : List ℕ) (r : Option ℕ) → IsUtf8 text
     → MatchOption r (RFindsChar 32 text None)
     (λ i. (j : ℕ) × RFindsChar 32 text (Some (i, j)) × (i ≤ j) × IsCharBoundary text i × IsCharBoundary text j)

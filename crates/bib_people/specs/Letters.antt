@@ -50,7 +50,8 @@ abbrev pub a_word : List Letter → List Letter → Word
 a_word gap letters = record { gap = gap; letters = letters }
 
 -- the words of a letter followed by the letters of these words. The letter belongs to the gap before the first word, is
--- the first letter of that word, or is a word by itself if a gap or nothing comes after it.
+-- the first letter of that word, or is a word by itself if a gap or nothing comes after it. A gap without a word after it is
+-- dropped.
 abbrev pub words_with_letter : Letter → List Word → List Word
 words_with_letter l [] = if is_gap l then [] else a_word [] (l ∷ []) ∷ []
 words_with_letter l (word ∷ words) =

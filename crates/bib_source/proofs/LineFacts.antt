@@ -22,7 +22,7 @@ pub after_ended : (bytes : List ℕ) (byte : ℕ) (lines : List (List ℕ)) → 
 after_ended [] byte lines = refl
 after_ended (b ∷ bytes) byte lines = ap (before_first_line b) (after_ended bytes byte lines)
 
--- prepending bytes to no lines gives one line
+-- prepending one or more bytes to no lines gives one line of these bytes
 after_all : (byte : ℕ) (bytes : List ℕ) → after (byte ∷ bytes) [] ≡ (byte ∷ bytes) ∷ []
 after_all byte [] = refl
 after_all byte (b ∷ bytes) = ap (before_first_line byte) (after_all b bytes)

@@ -15,7 +15,7 @@ abbrev pub begins_character : ℕ → Bool
 begins_character byte = not (is_in_range 0x80 0xBF byte)
 
 -- The position after `text`. Its line is one more than the number of line feeds. Its column is one more than the number of
--- characters after the last line feed, or of all characters if there is none.
+-- bytes that begin a character (`begins_character`) after the last line feed, or in all of `text` if there is none.
 abbrev pub position_after : List ℕ → Position
 position_after text = record {
   line = count_by is_line_feed text + 1;

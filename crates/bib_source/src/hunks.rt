@@ -11,7 +11,7 @@ ghost use Rattle.bib_source.specs.Hunks.{IsNarrow, Make};
 use crate::comparison::Line;
 use std::alloc::{AllocError, Global};
 
-// Lines, and the line numbers of the first of them in the old and in the new text.
+// Lines, and the line numbers at which they begin in the old and in the new text.
 #[derive(Clone, Copy)]
 pub(crate) struct Hunk<'c, 't> {
     pub(crate) old: usize,

@@ -6,12 +6,12 @@
 //!
 //! `positions` finds the line and the column of a byte.
 //!
-//! `unified_diff` prints the differences of two texts in the unified format. `lines` cuts a text into lines. `ends` finds the
+//! `unified_diff` returns the differences of two texts in the unified format. `lines` cuts a text into lines. `ends` finds the
 //! lines that both texts begin and end with, and `partners` pairs equal lines between them. `comparison` merges the lines of
 //! both texts into one list by these pairs. `hunks` cuts out the changed lines and their context. Which equal lines are paired
-//! is a choice. Three facts are proved for each choice. The hunks turn the old text into the new one. The common start and the
-//! common end aren't shown as changed. In no run of changed lines do the removed and the added lines begin or end with the same
-//! line.
+//! is a choice. For each choice, these facts are proved. The hunks turn the old text into the new one. Each line of a hunk is at
+//! most three lines from a changed line of the hunk. The common start and the common end aren't shown as changed. In no run of
+//! changed lines do the removed and the added lines begin or end with the same line.
 #![tactic(auto)]
 
 pub mod comparison;

@@ -1,4 +1,4 @@
-//! Prints the differences of two texts in the unified format.
+//! The differences of two texts in the unified format.
 
 ghost use Rattle.std.specs.Prelude.{◌≡◌, ◌++◌, codes, IfOk, OnOk, map};
 ghost use Rattle.std.specs.List.{flat_map};

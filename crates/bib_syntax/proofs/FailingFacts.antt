@@ -54,7 +54,7 @@ pub each_back : {u v : Place} {e : ParseError} (before starts : List ℕ) → Ah
     → e ≢ out_of_memory → AllFail u.text e before → AllFail u.text e starts
 each_back {e = e} before starts ahead each some = subst (λ t. AllFail t e before → AllFail t e starts) ahead.text (each some)
 
--- the same if there are no offsets before
+-- if `before` is empty, the failures from `starts` in the text of a place ahead are failures in the text of the place
 pub each_of_none : {u v : Place} {e : ParseError} (before starts : List ℕ) → before ≡ [] → Ahead u v
     → (e ≢ out_of_memory → AllFail v.text e before → AllFail v.text e starts)
     → e ≢ out_of_memory → AllFail u.text e starts

@@ -55,7 +55,7 @@ pub this_file : (text ends : List ℕ) (start i : ℕ) → i < length ends → A
     → AreFiles text start (get_or ends i 0 ∷ drop (i + 1) ends)
 this_file text ends start i within are = subst (AreFiles text start) (next_file ends i within) are
 
--- no element follows the last element of a list
+-- no element is left if at least as many elements as a list has are dropped
 pub drop_all : {A : Type 0} (xs : List A) (n : ℕ) → length xs ≤ n → drop n xs ≡ []
 drop_all [] zero all = refl
 drop_all [] (suc n) all = refl
@@ -78,7 +78,7 @@ end_boundary text end is =
     let here : get_or text end 0 ≡ 37 = get_or_from_slice_get text end 37 0 is in
     IsCharBoundary-before_ascii text end (slice_get_within text end 37 is) (omega (arith, here))
 
--- the next file begins at a character boundary
+-- in UTF-8 text, the next file begins at a character boundary
 pub next_boundary : (text : List ℕ) (end : ℕ) → IsUtf8 text → slice_get text (end + 1) ≡ Some 10 → IsCharBoundary text (end + 2)
 next_boundary text end utf8 is =
     let here : get_or text (end + 1) 0 ≡ 10 = get_or_from_slice_get text (end + 1) 10 0 is in

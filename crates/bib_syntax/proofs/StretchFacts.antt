@@ -53,7 +53,7 @@ ends_at sign text end ascii (inr (c, v, char, is)) =
 abbrev Others : ℕ → List ℕ → ℕ → ℕ → Type 0
 Others sign text at end = (k : ℕ) → at ≤ k → k < end → get_or text k 0 ≡ sign → ⊥
 
--- a character other than `sign` before the end of a stretch ends at or before it
+-- if `sign` is ASCII, a character other than `sign` before the end of a stretch ends at or before it
 not_past : (sign : ℕ) (text : List ℕ) (at end c : ℕ) → sign < 128 → at < end
     → CharAt (place text at) c (place text (at + len_utf8 c)) → (c ≡ sign → ⊥) → EndsAt sign text end
     → at + len_utf8 c ≤ end
@@ -63,7 +63,7 @@ not_past sign text at end c ascii below char other (inr is) = ⊎_elim
     (λ past. past)
     (cases_lt end (at + len_utf8 c))
 
--- the characters from an offset to the end of a stretch are a run without `sign`
+-- if `sign` is ASCII, the characters from an offset to the end of a stretch are a run without `sign`
 to_sign : (sign : ℕ) (text cs : List ℕ) (at end : ℕ) → sign < 128 → encode_utf8_all cs ≡ drop at text → at ≤ end
     → end ≤ length text → Others sign text at end → EndsAt sign text end
     → Run (λ c. not (c == sign)) (place text at) (place text end)
@@ -89,7 +89,7 @@ to_sign sign text (c ∷ cs) at end ascii left to within others ends = ⊎_elim
     subst (λ n. Run (λ c. not (c == sign)) (place text at) (place text n)) same stop)
     (cases_lt at end)
 
--- a stretch continues from each character boundary in it to its end
+-- if `sign` is ASCII, a stretch continues from each character boundary in it to its end
 pub from_inside : (sign : ℕ) (u : Place) (stretch : Stretch) → sign < 128 → IsStretch sign u.text stretch
     → stretch.start ≤ u.at → u.at ≤ stretch.end → IsCharBoundary u.text u.at → IsStretchFrom sign u stretch.end
 from_inside sign u stretch ascii is from to may =
@@ -100,7 +100,7 @@ from_inside sign u stretch ascii is from to may =
     (ends_at sign u.text stretch.end ascii is.stopped) in
     record { longest = record { run = run; stops = is.longest.stops }; stopped = is.stopped; may_end = is.may_end }
 
--- the longest run without `sign` from one place to another is a stretch
+-- in UTF-8 text, the longest run without `sign` from one place to another is a stretch
 pub stretch_made : (sign start end : ℕ) (text : List ℕ) (u v : Place) → IsUtf8 text → u.text ≡ text → v.text ≡ text
     → start ≡ u.at → end ≡ v.at → Longest (λ c. not (c == sign)) u v → EndsOr (λ c. c == sign ≡ true) v
     → IsCharBoundary v.text end

@@ -8,7 +8,7 @@
 //! `entry_reader` parses a file one entry at a time, for callers that don't need the whole content at once. `files` joins several
 //! files in one text, and recovers each of them.
 //!
-//! `specs/SyntaxErrors.antt` states how the rules of the grammar fail: with which error and at which place. `laws`
+//! The definitions in `SyntaxErrors` state how the rules of the grammar fail: with which error and at which place. `laws`
 //! proves, from the definitions only, that each UTF-8 text has exactly one raw reading or exactly one error, but not both.
 //! It also proves that each UTF-8 text has exactly one recovery and one full recovery, with the same skipped blocks.
 //!

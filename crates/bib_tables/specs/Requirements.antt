@@ -45,7 +45,7 @@ annotators = fields "annotator commentator translator origlanguage afterword for
 abbrev pub main_title : Names
 main_title = fields "maintitle mainsubtitle maintitleaddon"
 
--- the title of the book that contains a work, without `booktitle`
+-- the subtitle and the title addon of the book that contains a work
 abbrev pub book_title : Names
 book_title = fields "booksubtitle booktitleaddon"
 

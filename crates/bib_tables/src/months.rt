@@ -139,7 +139,7 @@ static MONTHS: [Month; 12] = [
     Month::December,
 ];
 
-// Returns the first of some months whose abbreviation `name` is, in any ASCII case.
+// Returns the first of `months` that has `name` as its abbreviation, in any ASCII case.
 fn find_abbreviated(months: &[Month], name: &str) -> Option<Month>
     ensures { result ≡ find (is_abbreviated name.now) months.now }
 {

@@ -143,7 +143,7 @@ remove_mapped f [] (suc k) = refl
 remove_mapped f (x ∷ xs) zero = refl
 remove_mapped f (x ∷ xs) (suc k) = ap (λ l. f x ∷ l) (remove_mapped f xs k)
 
--- the first `i + 1` elements, mapped, are the first `i` and the next one
+-- if `i` is below the length, the first `i + 1` elements, mapped, are the first `i` and the element at `i`, mapped
 pub mapped_more : {A B : Type 0} (f : A → B) (xs : List A) (i : ℕ) (x : A) → i < length xs → x ≡ get_or xs i x
     → map f (take (i + 1) xs) ≡ map f (take i xs) ++ f x ∷ []
 mapped_more f xs i x within is =
@@ -180,7 +180,7 @@ found_has P test (y ∷ ys) x all is = by_case (test y) (found_has P test ys x a
     by_case true later found = let same : y ≡ x = cc in subst P same all.0
     by_case false later found = later found
 
--- tests that agree on each value agree on a list
+-- two tests that agree on each value find a passing element in the same lists
 pub any_same : {A : Type 0} (f g : A → Bool) → ((x : A) → f x ≡ g x) → (xs : List A) → list_any f xs ≡ list_any g xs
 any_same f g same [] = refl
 any_same f g same (x ∷ xs) = ap (λ b. b || list_any f xs) (same x) ∙ ap (λ b. g x || b) (any_same f g same xs)

@@ -103,12 +103,12 @@ run_push run char passes = run_append run (run_one char passes)
 
 -- ---- a property of each character between two places
 
--- one more ASCII character
+-- `AllBetween` still holds after one more ASCII character for which `Holds` is true
 pub all_push_ascii : {Holds : ℕ → Type 0} {u : Place} (text : List ℕ) (at : ℕ) → AllBetween Holds u (place text at)
     → at < length text → get_or text at 0 < 128 → Holds (get_or text at 0) → AllBetween Holds u (place text (at + 1))
 all_push_ascii text at all within ascii holds = each.step all (ascii_here text at within ascii) holds
 
--- one more character
+-- `AllBetween` still holds after one more character for which `Holds` is true
 pub all_push_char : {Holds : ℕ → Type 0} {u v : Place} {c : ℕ} (text : List ℕ) (at : ℕ)
     → AllBetween Holds u (place text at) → CharAt (place text at) c v → Holds c
     → AllBetween Holds u (place text (at + len_utf8 c))

@@ -28,7 +28,7 @@ split_after test (c ∷ run) rest all stops =
     let parts = and_parts (test c) (list_all test run) all in
     cond-true (test c) (rest_after test (run ++ rest)) (c ∷ run ++ rest) parts.0 ∙ split_after test run rest parts.1 stops
 
--- if a test stops at a place, the leading run of the characters from there is empty
+-- if a test stops at a place in UTF-8 text, the leading run of the characters from there is empty, and all of them come after it
 stopped : (test : ℕ → Bool) (v : Place) (cs : List ℕ) → IsUtf8 (ahead v) → cs ≡ chars (ahead v) → Stops test v
     → (leading_run test cs ≡ []) × (rest_after test cs ≡ cs)
 stopped test v [] utf8 is stops = (refl, refl)
@@ -44,7 +44,7 @@ pub record EatsRun (test : ℕ → Bool) (u v : Place) : Type 0 where
   pub utf8 : IsUtf8 (ahead v)
   pub rest : chars (ahead v) ≡ rest_after test (chars (ahead u))
 
--- a longest run is the leading run of the characters ahead
+-- in UTF-8 text, a longest run is the leading run of the characters ahead
 pub eaten : (test : ℕ → Bool) {u v : Place} → Longest test u v → IsUtf8 (ahead u) → EatsRun test u v
 eaten test {u} {v} longest utf8 =
     let passed = passed_run longest.run utf8 in
@@ -70,12 +70,12 @@ white (c ∷ cs) = ap (λ xs. here (is_whitespace c) xs (c ∷ cs)) (white cs)
     here true xs ys = xs
     here false xs ys = ys
 
--- the characters of a text trimmed at its start are those after its leading white space
+-- if a text trimmed at its start is UTF-8, its characters are those after the leading white space of the text
 pub trimmed_chars : (bs trimmed : List ℕ) → IsUtf8 trimmed → trimmed ≡ trim_start bs → chars trimmed ≡ rest_after is_whitespace (chars bs)
 unfolding trim_start
 trimmed_chars bs trimmed utf8 is = sym (chars_from_encodes (skip_leading_whitespace (chars bs)) trimmed utf8 (sym is)) ∙ white (chars bs)
 
--- `eaten` from the start of a text
+-- `eaten` from the start of a UTF-8 text
 pub eaten_new : (test : ℕ → Bool) (text : List ℕ) {u v : Place} → u ≡ place text 0 → IsUtf8 text → Longest test u v
     → (v.text ≡ text) × (between u v ≡ encode_utf8_all (leading_run test (chars text)))
     × (chars (ahead v) ≡ rest_after test (chars text))
@@ -87,7 +87,7 @@ eaten_new test text {u} {v} is utf8 longest =
       ate.rest ∙ ap (λ bs. rest_after test (chars bs)) here,
     )
 
--- the characters from the offset after the longest run are those after the leading run
+-- in a UTF-8 text, the characters from the offset after the longest run from the start are those after the leading run
 pub eaten_rest : (test : ℕ → Bool) (text : List ℕ) (at : ℕ) {u v : Place} → u ≡ place text 0 → IsUtf8 text
     → Longest test u v → at ≡ v.at → chars (drop at text) ≡ rest_after test (chars text)
 eaten_rest test text at {u} {v} is utf8 longest there =
@@ -113,12 +113,12 @@ prefix_ascii (c ∷ cs) = here (is_ascii_digit c) c (leading_run is_ascii_digit 
 digits_encode : (cs : List ℕ) → encode_utf8_all (leading_run is_ascii_digit cs) ≡ leading_run is_ascii_digit cs
 digits_encode cs = encodes-IsAscii (leading_run is_ascii_digit cs) (prefix_ascii cs)
 
--- the longest run of digits from the start of a text, in bytes, is the leading run of its characters
+-- the bytes of the longest run of digits from the start of a UTF-8 text are its leading run of digits, as a list of characters
 pub eaten_digits : (text : List ℕ) {u v : Place} → u ≡ place text 0 → IsUtf8 text → Longest is_ascii_digit u v
     → between u v ≡ leading_run is_ascii_digit (chars text)
 eaten_digits text is utf8 longest = (eaten_new is_ascii_digit text is utf8 longest).1 ∙ digits_encode (chars text)
 
--- the characters of a text are the first one and those from the offset after it
+-- the characters of a UTF-8 text are the first one and those from the offset after it
 pub eaten_char : (text : List ℕ) (at : ℕ) {u v : Place} {c : ℕ} → u ≡ place text 0 → IsUtf8 text → CharAt u c v
     → at ≡ v.at → chars text ≡ c ∷ chars (drop at text)
 eaten_char text at {u} {v} {c} is utf8 char there =

@@ -24,11 +24,11 @@ pub record MovesPast (u : Place) (cs : List ℕ) (v : Place) : Type 0 where
   pub spelt : chars (ahead u) ≡ cs ++ chars (ahead v)
   pub utf8 : IsUtf8 (ahead v)
 
--- `MovesPast` for no characters
+-- in UTF-8 text, `MovesPast` holds from a place to itself, for no characters
 pub passed_none : (u : Place) → IsUtf8 (ahead u) → MovesPast u [] u
 passed_none u utf8 = record { same = refl; here = refl; next = omega arith; spelt = refl; utf8 = utf8 }
 
--- `MovesPast` for one character
+-- in UTF-8 text, `MovesPast` holds for one character
 pub passed_char : {u v : Place} {c : ℕ} → CharAt u c v → IsUtf8 (ahead u) → MovesPast u (c ∷ []) v
 passed_char {u} {v} {c} char utf8 =
     let here : ahead u ≡ encode_utf8 c ++ ahead v = char.here ∙ ap (λ t. encode_utf8 c ++ drop v.at t) (sym char.same) in
@@ -73,7 +73,7 @@ passed_between {u} {v} {cs} passed =
     let size : length (encode_utf8_all cs) ≡ v.at - u.at = omega arith in
     ap (take (v.at - u.at)) passed.here ∙ take_at (encode_utf8_all cs) (ahead v) (v.at - u.at) size
 
--- a run moves a cursor past characters that all pass the test
+-- in UTF-8 text, a run moves a cursor past characters that all pass the test
 pub passed_run : {test : ℕ → Bool} {u v : Place} → Run test u v → IsUtf8 (ahead u)
     → (cs : List ℕ) × MovesPast u cs v × (list_all test cs ≡ true)
 passed_run {test} {u} stop utf8 = ([], passed_none u utf8, refl)
@@ -168,7 +168,7 @@ chars_past (c ∷ cs) bs rest utf8 begins =
     let more = chars_past cs (encode_utf8_all cs ++ rest) rest (IsUtf8-past_char bs (encode_utf8_all cs ++ rest) c utf8 leading_run) refl in
     (chars_past_char bs (encode_utf8_all cs ++ rest) c utf8 leading_run ∙ ap (λ xs. c ∷ xs) more.0, more.1)
 
--- the characters of the text that `cs` spell are `cs`
+-- the characters of the UTF-8 text that `cs` spell are `cs`
 pub chars_whole : (cs bs : List ℕ) → IsUtf8 bs → bs ≡ encode_utf8_all cs → chars bs ≡ cs
 chars_whole cs bs utf8 spells = (chars_past cs bs [] utf8 (spells ∙ sym (append-nil _))).0 ∙ ap (λ xs. cs ++ xs) chars-nil ∙ append-nil cs
 

@@ -13,7 +13,7 @@ use Rattle.bib_text.specs.Places.{Place, place, CharAt, Run, Longest, AtEnd, End
 use Rattle.bib_text.specs.Places.Run.{stop, step}
 use Rattle.bib_text.proofs.PlaceFacts.{char_here, ascii_here, stops_at, stops_at_end}
 
--- characters without a byte that ends a run are a run
+-- if only ASCII characters end a run, characters without a byte that ends a run are a run
 run_of_chars : (ends passes : ℕ → Bool) → ((c : ℕ) → passes c ≡ not (ends c)) → ((c : ℕ) → ends c ≡ true → c < 128)
     → (text : List ℕ) (at : ℕ) (cs rest : List ℕ) → drop at text ≡ encode_utf8_all cs ++ rest
     → ((k : ℕ) → k < length (encode_utf8_all cs) → ends (get_or (encode_utf8_all cs) k 0) ≡ true → ⊥)
@@ -49,7 +49,8 @@ pub record Until (passes : ℕ → Bool) (u v : Place) : Type 0 where
   pub stopped : EndsOr (λ c. passes c ≡ false) v
   pub boundary : IsCharBoundary u.text v.at
 
--- `n` bytes from the offset `at`, up to a character boundary, are a run if none of them ends a run
+-- Suppose that only ASCII characters end a run. Then `n` bytes of UTF-8 text from the offset `at`, up to a character boundary, are a
+-- run if none of them ends one.
 run_of_bytes : (ends passes : ℕ → Bool) → ((c : ℕ) → passes c ≡ not (ends c)) → ((c : ℕ) → ends c ≡ true → c < 128)
     → (text : List ℕ) (at n : ℕ) → IsUtf8 (drop at text) → IsCharBoundary (drop at text) n
     → ((k : ℕ) → k < n → ends (get_or (drop at text) k 0) ≡ true → ⊥)
@@ -66,7 +67,8 @@ run_of_bytes ends passes split ascii text at n utf8 boundary none =
     none k low (subst (λ x. ends x ≡ true) (ap (λ bs. get_or bs k 0) taken ∙ get_or-take n (drop at text) k 0 low) is)) in
     subst (λ m. Run passes (place text at) (place text (at + m))) size run
 
--- the longest run goes up to the first byte that ends it, or to the end of the text
+-- Suppose that only ASCII characters end a run. Then the longest run from a place in UTF-8 text goes up to the first byte that ends it,
+-- or to the end of the text.
 pub until_found : (ends passes : ℕ → Bool) → ((c : ℕ) → passes c ≡ not (ends c)) → ((c : ℕ) → ends c ≡ true → c < 128)
     → (text : List ℕ) (at : ℕ) → IsUtf8 text → IsCharBoundary text at → (found : Option ℕ) (n : ℕ)
     → IsFirstByte ends (drop at text) found → n ≡ unwrap_or found (length (drop at text))
@@ -130,14 +132,14 @@ none_of true q r = refl
 none_of false true r = refl
 none_of false false r = refl
 
--- from `at`, the longest run without `a` ends before the first `a`, or at the end of the text
+-- in UTF-8 text, the longest run from `at` without the ASCII character `a` ends before the first `a`, or at the end of the text
 pub until_byte : (a : ℕ) → a < 128 → (text : List ℕ) (at : ℕ) → IsUtf8 text → IsCharBoundary text at
     → (found : Option ℕ) (n : ℕ) → IsFirstByte (is_byte a) (drop at text) found
     → n ≡ unwrap_or found (length (drop at text))
     → Until (λ c. not (c == a)) (place text at) (place text (at + n))
 until_byte a low = until_found (is_byte a) (λ c. not (c == a)) (λ c. refl) (one_ascii a low)
 
--- from `at`, the longest run without `a` and `b` ends before the first of them, or at the end of the text
+-- in UTF-8 text, the longest run from `at` without the ASCII characters `a` and `b` ends before the first of them, or at the end
 pub until_either : (a b : ℕ) → (a < 128) × (b < 128) → (text : List ℕ) (at : ℕ) → IsUtf8 text → IsCharBoundary text at
     → (found : Option ℕ) (n : ℕ) → IsFirstByte (is_byte2 a b) (drop at text) found
     → n ≡ unwrap_or found (length (drop at text))
@@ -146,7 +148,7 @@ until_either a b low =
     until_found (is_byte2 a b) (λ c. not (c == a) && not (c == b)) (λ c. neither (c == a) (c == b))
     (two_ascii a b low.0 low.1)
 
--- from `at`, the longest run without `a`, `b` and `d` ends before the first of them, or at the end of the text
+-- in UTF-8 text, the longest run from `at` without the ASCII characters `a`, `b` and `d` ends before the first of them, or at the end
 pub until_any : (a b d : ℕ) → (a < 128) × (b < 128) × (d < 128) → (text : List ℕ) (at : ℕ) → IsUtf8 text
     → IsCharBoundary text at → (found : Option ℕ) (n : ℕ) → IsFirstByte (is_byte3 a b d) (drop at text) found
     → n ≡ unwrap_or found (length (drop at text))

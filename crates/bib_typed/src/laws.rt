@@ -197,8 +197,8 @@ pub fn lists_of_people_are_kept()
     ensures { (people : List APerson) → ArePeople people → ⟦<Vec<Person> as Type>⟧.kept people }
 {}
 
-/// States that a date is kept if its year is from -9999 to 9999, and its month and day exist. It must have no day without a
-/// month, and no time. For a range, this must hold for each side.
+/// States that a date is kept if its year is from -9999 to 9999, a given month is one of a year, and a given day is one of that
+/// month. It must have no day without a month, and no time. For a range, this must hold for each side.
 pub fn dates_are_kept()
     ensures { (date : ADate) → IsKeptDate date → ⟦<Date as Type>⟧.kept date }
 {}

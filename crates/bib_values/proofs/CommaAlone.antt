@@ -171,7 +171,7 @@ all_plain (part ∷ parts) [] utf8 same all none = absurd (omega (arith, ap leng
 all_plain (part ∷ parts) (t ∷ texts) utf8 same all none =
     (part_plain part t utf8.0 (ap (λ l. get_or l 0 []) same) all.0 none.0, all_plain parts texts utf8.1 (ap (drop 1) same) all.1 none.1)
 
--- a list of texts that parses from its written form is kept
+-- a list of UTF-8 texts that parses from its written form is kept
 pub kept_alone : (texts : List (List ℕ)) → AllByRecursion IsUtf8 texts → strings_read (strings_written texts) ≡ texts → StringsKept texts
 unfolding strings_read
 kept_alone [] utf8 same = absurd (omega (arith, ap length same))

@@ -72,7 +72,7 @@ pub undashed_end : (cs : List ℕ) → cs ≡ [] → after_dash cs ≡ None
 unfolding after_dash
 undashed_end cs is = ap after_dash is
 
--- a non-empty text has characters
+-- a non-empty UTF-8 text has characters
 pub chars_some : (bs : List ℕ) → IsUtf8 bs → 0 < length bs → (c : ℕ) × (cs : List ℕ) × (chars bs ≡ c ∷ cs)
 chars_some bs utf8 some = here (chars bs) refl
   where
@@ -85,7 +85,7 @@ pub ended : (a b : ℕ) (rest : List ℕ) (found : Option (ℕ × List ℕ)) →
     → Some (record { start = a; end = b }) ≡ ends_at a found
 ended a b rest found is none = sym (ap (ends_at a) is ∙ ap (λ cs. ends_at a (Some (b, cs))) (chars_empty rest none))
 
--- there is no range if text comes after its end
+-- there is no range if UTF-8 text comes after its end
 pub unended : (a b : ℕ) (rest : List ℕ) (found : Option (ℕ × List ℕ)) → found ≡ Some (b, chars rest) → IsUtf8 rest
     → 0 < length rest → None ≡ ends_at a found
 unended a b rest found is utf8 some =
@@ -96,7 +96,7 @@ unended a b rest found is utf8 some =
 pub lone : (a : ℕ) (text : List ℕ) → length text ≡ 0 → Some (record { start = a; end = a }) ≡ goes_on_with a (chars text)
 lone a text none = sym (ap (goes_on_with a) (chars_empty text none))
 
--- with text after its start, a range is determined by the text after the dash, if there is a dash
+-- with UTF-8 text after its start, a range is determined by the text after the dash, if there is a dash
 pub parted : (a : ℕ) (text : List ℕ) (dash : Option (List ℕ)) → IsUtf8 text → 0 < length text
     → after_dash (chars text) ≡ dash → up_to a dash ≡ goes_on_with a (chars text)
 parted a text dash utf8 some is =
@@ -147,6 +147,6 @@ pub all_done : {X A : Type 0} (f : X → Option A) (xs : List X) (i : ℕ) (rs :
     → all_of (map f (take i xs)) ≡ Some rs → Some rs ≡ all_of (map f xs)
 all_done f xs i rs end before = sym before ∙ ap (λ ys. all_of (map f ys)) (take_all i xs end)
 
--- the bytes of a part's formatted text have its characters
+-- if the bytes of a part's formatted text are UTF-8, their characters are those of the formatted text
 pub part_chars : (part : Value) (bs : List ℕ) → IsUtf8 bs → bs ≡ encode_utf8_all (formatted_chars part) → chars bs ≡ formatted_chars part
 part_chars part bs utf8 is = sym (chars_from_encodes (formatted_chars part) bs utf8 (sym is))

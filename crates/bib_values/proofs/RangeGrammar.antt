@@ -51,12 +51,12 @@ dash_no_digit c is = grind (arith, nat_tests)
 dash_not_white : (c : ℕ) → is_dash c ≡ true → is_whitespace c ≡ false
 dash_not_white c is = grind (arith, nat_tests)
 
--- the text after a run that ends there
+-- `rest_after` returns the text after a run that ends there
 passed : (test : ℕ → Bool) (run rest : List ℕ) → list_all test run ≡ true → Halts test rest → rest_after test (run ++ rest) ≡ rest
 unfolding Halts
 passed test run rest all halts = split_after test run rest all halts.1
 
--- the run at the start of a text, if it ends there
+-- `leading_run` returns the run at the start of a text, if it ends there
 taken : (test : ℕ → Bool) (run rest : List ℕ) → list_all test run ≡ true → Halts test rest → leading_run test (run ++ rest) ≡ run
 unfolding Halts
 taken test run rest all halts = split_prefix test run rest all halts.0

@@ -76,7 +76,7 @@ known_test : (d : Definitions) (name : List ℕ) → IsKnown d name → is_known
 known_test d name (inl defined) = ap (λ o. is_some o || is_some (month name)) defined.1
 known_test d name (inr begins) = ap (λ o. is_some (d name) || is_some o) begins.1 ∙ or-true (is_some (d name))
 
--- pieces whose names are all defined have no undefined abbreviation
+-- pieces whose names are all known have no undefined abbreviation
 no_unknown : (d : Definitions) (pieces : List Piece) → ((name : List ℕ) → HoldsName pieces name → IsKnown d name)
     → unknown_names d pieces ≡ []
 no_unknown d [] known = refl

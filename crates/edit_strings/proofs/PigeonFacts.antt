@@ -112,8 +112,8 @@ used_is taken base name number small plain is =
     ap (λ n. is_month name || has_lowercase taken n)
     (sym (name_lower name (ap is_plain_name is ∙ numbered_plain base number small plain)))
 
--- if each number from 1 on below a bound makes a used name, the bound is at most the number of taken names plus 2. This holds if `base` is a
--- plain name, and the bound is less than 2^64
+-- if each number from 1 on below a bound makes a used name, the bound is at most the number of taken names plus 2. This holds if `base`
+-- is a plain name, and the bound is less than 2^64
 pub bound_taken : (taken : Taken) (base : List ℕ) (number : ℕ) → number < 2 ^ 64 → is_plain_name base ≡ true
     → AreUsedBelow taken base number → number ≤ btree_set_len taken.names + 2
 bound_taken taken base zero small plain used = omega arith

@@ -119,7 +119,7 @@ impl Entry {
         Ok(())
     }
 
-    // Returns the fields that can't be parsed, each with its error.
+    // Returns the checked fields and dates that can't be parsed, each with its error.
     pub(crate) fn malformed_fields(
         &self,
         alloc: Global,

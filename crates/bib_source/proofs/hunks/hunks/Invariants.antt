@@ -7,7 +7,8 @@ use Rattle.bib_source.proofs.CutFacts.{AreNumbersAt}
 use Rattle.bib_source.proofs.hunks.hunks.Given as goal
 
 -- If more hunks turn the remaining old lines into the remaining new ones, the hunks so far and these turn all old lines into
--- all new ones. Each hunk so far is narrow, and cut from the lines.
+-- all new ones. Each hunk so far is narrow, and cut from the lines. `old` and `new` are the line numbers at `at`. The line there, if
+-- any, is hidden unless it is the first.
 abbrev pub invariant-hunks : goal.invariant-hunks
 invariant-hunks l = record {
   make : (more : List Hunk) (rest rest' : List (List ℕ)) → Make l.old l.new more rest rest'

@@ -4,7 +4,7 @@ use Rattle.bib_collections.specs.Sorted.{IsSorted, map_of}
 use Rattle.bib_collections.specs.Names.{with_claims, claims_for}
 use Rattle.bib_collections.proofs.names.Names.claim_all.Given as goal
 
--- claiming the remaining names gives the claims of all names, and the capacity is enough for the remaining ones
+-- the pairs are sorted, claiming the remaining names gives the claims of all names, and the capacity is enough for the remaining ones
 abbrev pub invariant-names : goal.invariant-names
 invariant-names l = record {
   can_next : (goal.iterator-names).can_next l.name-iterator;

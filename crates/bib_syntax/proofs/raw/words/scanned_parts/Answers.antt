@@ -22,7 +22,7 @@ passed c = ahead_then c.parts.invariant.0 (ahead_run (run c).run)
 all : (c : After-eat_until_any) → SameBraced zero c.args.s.now c.parts.depth c.eat_until_any.new.self
 all c = braced_then c.parts.invariant.1 (braced_run _ (run c).run)
 
--- after one more character, the depth is still at most the offset
+-- after one more character, the offset is at least one more than the depth
 deeper : {u v w : Place} {n : ℕ} {k : ℕ} → n ≤ u.at → Ahead u v → CharAt v k w → n + 1 ≤ w.at
 deeper {u} {v} {w} {n} {k} depth run char =
     let width : 1 ≤ len_utf8 k = (len_utf8_bounds k).0 in

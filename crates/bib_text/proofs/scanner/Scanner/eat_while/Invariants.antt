@@ -3,7 +3,7 @@ use Rattle.std.specs.Str.{IsCharBoundary}
 use Rattle.bib_text.specs.Places.{place, AllBetween}
 use Rattle.bib_text.proofs.scanner.Scanner.eat_while.Given as goal
 
--- the test may accept each character passed so far, and `at` is a character boundary
+-- the test may accept each character passed so far, and `at` is a character boundary that isn't before `start`
 abbrev pub invariant-run : goal.invariant-run
 invariant-run g l =
     (l.start ≤ l.at)
