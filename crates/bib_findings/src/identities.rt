@@ -14,8 +14,8 @@ use bib_syntax::raw::{RawChunk, RawEntry};
 use bib_text::spanned::Spanned;
 use std::alloc::{AllocError, Global};
 
-// The ways in which a DOI that is written as a link or with a scheme begins.
-static DOI_PREFIXES: [&str; 5] = [
+/// The ways in which a DOI that is written as a link or with a scheme begins, in lowercase.
+pub static DOI_PREFIXES: [&str; 5] = [
     "https://doi.org/",
     "http://doi.org/",
     "https://dx.doi.org/",

@@ -39,7 +39,7 @@ mod nearest;
 mod outside;
 mod parent_order;
 mod people;
-mod places;
+pub mod places;
 mod references;
 mod special_characters;
 mod standard_numbers;

@@ -8,8 +8,8 @@ ghost use Rattle.bib_findings.specs.Reported.{malformed_place, year_name};
 use bib_syntax::raw::{Pair, RawEntry};
 use bib_text::spanned::{Span, Spanned};
 
-// Returns the last field of this name, in any ASCII case.
-pub(crate) fn last_named<'f, 's>(fields: &'f [Pair<'s>], name: &str) -> Option<&'f Pair<'s>>
+/// Returns the last field of this name, in any ASCII case.
+pub fn last_named<'f, 's>(fields: &'f [Pair<'s>], name: &str) -> Option<&'f Pair<'s>>
     ensures { option_map (λ f. field_of f.now) result ≡ last_named (map field_of fields.now) name.now }
 {
     fields

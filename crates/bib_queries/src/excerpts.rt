@@ -117,8 +117,8 @@ pub(crate) fn print_if(
     Ok(())
 }
 
-// Returns the keys of entries, each followed by a line feed.
-fn keys(alloc: Global, entries: &[Spanned<RawEntry<'_>>]) -> Result<String, AllocError>
+/// Returns the keys of entries, each followed by a line feed. Returns an error only if out of memory.
+pub fn key_lines(alloc: Global, entries: &[Spanned<RawEntry<'_>>]) -> Result<String, AllocError>
     ensures { IfOk result (λ printed. string_bytes printed ≡ lines_of_keys (map entry_reading_of entries.now)) }
 {
     let mut printed = String::new(alloc);
@@ -205,7 +205,7 @@ fn answer_found(
 {
     let entries = &found.raw.entries;
     match request {
-        Request::Keys => Ok(entries_answer(keys(alloc, entries)?)),
+        Request::Keys => Ok(entries_answer(key_lines(alloc, entries)?)),
         Request::Get(names) => Ok(entries_answer(get(alloc, names, text, entries)?)),
         Request::Grep(search) => Ok(entries_answer(grep(alloc, search, text, entries)?)),
         Request::Cited(keys) => cited_text(alloc, keys, text, found),

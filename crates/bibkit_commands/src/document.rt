@@ -12,10 +12,10 @@ use bib_source::decoding::decode;
 use bibkit_core::files::{FileError, Files};
 use bibkit_core::request::{Call, Request};
 use bibkit_core::run::run;
+use bibkit_settings::configuration::folder;
 use biblatex::Output;
 use std::alloc::{AllocError, Global};
 use std::collections::BTreeMap;
-use std::path::Path;
 use std::{fs, io, rt};
 
 // The maximum number of .aux files of a document.
@@ -59,14 +59,6 @@ impl<'r, 'n, 'd, R: rt::Files + Input + AllocGlobal> Files for DocumentFiles<'r,
 // Returns whether the file of a document is a control file of Biber (.bcf).
 fn is_control_file(document: &str) -> bool {
     document.ends_with(".bcf")
-}
-
-// Returns the folder of a file. It is the current folder for a name without a folder and for standard input (`-`).
-fn folder(name: &str) -> Path<'_> {
-    match Path::new(name).parent() {
-        Some(parent) if name != "-" && !parent.to_string_lossy().is_empty() => parent,
-        _ => Path::new("."),
-    }
 }
 
 // Returns whether a file with this name exists.

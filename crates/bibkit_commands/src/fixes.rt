@@ -9,6 +9,7 @@ use crate::misspellings::is_meant;
 use crate::stops::Stop;
 use bib_findings::codes::Code;
 use bib_findings::finding::Finding;
+use bib_findings::identities::DOI_PREFIXES;
 use bib_queries::names::entry_names;
 use bib_syntax::raw::{Pair, RawChunk, RawEntry};
 use bib_text::spanned::Spanned;
@@ -41,15 +42,6 @@ pub enum Change {
     /// Sets the field `doi` to this DOI.
     Doi(String),
 }
-
-// The ways in which a DOI with its address begins, in lowercase: those that likely duplicates are compared without.
-static DOI_PREFIXES: [&str; 5] = [
-    "https://doi.org/",
-    "http://doi.org/",
-    "https://dx.doi.org/",
-    "http://dx.doi.org/",
-    "doi:",
-];
 
 // Returns the part of a text between two byte offsets, or an empty text if there is no such part.
 fn part(text: &str, start: usize, end: usize) -> &str {

@@ -8,6 +8,9 @@ use Rattle.std.proofs.lemmas.Bool.Decides.{Decides-eqb, nat_tests}
 use Rattle.std.proofs.lemmas.List.{map-append, take_all, take_more}
 use Rattle.std.proofs.lemmas.List.Elements.{filter-append}
 use Rattle.std.proofs.lemmas.Slice.Eq.{ends_is}
+use Rattle.bib_syntax.specs.Reading.{FileReading}
+use Rattle.bib_entry.specs.declared.entry.Entry.{Entry}
+use Rattle.bibkit_core.specs.Conditions.{AreResolvedEntries, AreSelectedKeys, selected_keys}
 use Rattle.std.proofs.lemmas.Str.Pattern.{ends_text}
 
 -- `strip_suffix` of std returns the text before the suffix, or `None` if the text doesn't end with it
@@ -68,7 +71,12 @@ more_false (x ∷ xs) k (suc at) = more_false xs k at
 pub grown : (xs : List Bool) (n k at : ℕ) → length xs ≤ n → get_or (take n xs ++ replicate k false) at false ≡ get_or xs at false
 grown xs n k at within = more_false (take n xs) k at ∙ ap (λ l. get_or l at false) (take_all n xs within)
 
--- if one property implies another, a result whose value has the first has the second
-pub if_ok_so : {A E : Type 0} {P Q : A → Type 0} → ((a : A) → P a → Q a) → (r : Result A E) → IfOk r P → IfOk r Q
-if_ok_so so (Ok a) is = so a is
-if_ok_so so (Err e) is = tt
+-- the keys of the entries that meet conditions, if the conditions and the entries are those of a call
+pub selected_by : {conditions lent : List Selection} {says : FileReading} {keys : List (List ℕ)} {lent_entries : List Entry}
+    (entries : List Entry) → AreResolvedEntries says entries → keys ≡ selected_keys lent lent_entries → lent ≡ conditions
+    → lent_entries ≡ entries → AreSelectedKeys conditions says keys
+selected_by {conditions} {lent_entries = lent_entries} entries of_content are same same_entries = record {
+  entries = entries;
+  of_content = of_content;
+  are = are ∙ ap (λ cs. selected_keys cs lent_entries) same ∙ ap (selected_keys conditions) same_entries;
+}

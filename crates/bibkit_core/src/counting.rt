@@ -4,7 +4,6 @@ ghost use Rattle.std.specs.Prelude.{◌≡◌, [], ◌∷◌, ◌++◌, ℕ, Lis
 ghost use Rattle.std.specs.Option.{option_map};
 ghost use Rattle.std.specs.Str.{str_to_ascii_lowercase};
 ghost use Rattle.std.specs.String.{string_bytes};
-ghost use Rattle.bib_findings.specs.Entries.{last_named};
 ghost use Rattle.bib_syntax.specs.Views.{entry_reading_of, field_of, piece_of};
 ghost use Rattle.bibkit_core.specs.Stats as spec;
 ghost use Rattle.bibkit_core.specs.Stats.{none_counted};
@@ -15,6 +14,7 @@ use crate::tables::Counts;
 use crate::task::{End, Task};
 use bib_findings::finding::Finding;
 use bib_findings::findings::findings;
+use bib_findings::places::last_named;
 use bib_text::digits::are_digits;
 use biblatex::{Pair, RawBibliography, RawChunk, RawEntry, Spanned};
 use std::alloc::{AllocError, Global};
@@ -34,16 +34,6 @@ fn lowercase(alloc: Global, name: &str) -> Result<String, AllocError>
     ensures { IfOk result (λ lowered. string_bytes lowered ≡ str_to_ascii_lowercase name.now) }
 {
     name.to_ascii_lowercase(alloc)
-}
-
-// Returns the last field with this name, in any ASCII case.
-fn last_named<'f, 's>(fields: &'f [Pair<'s>], name: &str) -> Option<&'f Pair<'s>>
-    ensures { option_map (λ f. field_of f.now) result ≡ last_named (map field_of fields.now) name.now }
-{
-    fields
-        .iter()
-        .rev()
-        .find(|field| field.key.v.eq_ignore_ascii_case(name))
 }
 
 // Returns the text of a literal without the white space around it, or `None` for an abbreviation.

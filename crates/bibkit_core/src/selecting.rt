@@ -15,7 +15,7 @@ use crate::entries::is_found_with;
 use crate::request::Selected;
 use crate::skipped::Skipped;
 use crate::task::{End, Task};
-use bib_queries::excerpts::{TextAnswer, answer_of};
+use bib_queries::excerpts::{TextAnswer, answer_of, key_lines};
 use bib_queries::request::Request as Excerpts;
 use biblatex::{RawBibliography, RawEntry, RawRecovery, Spanned};
 use std::alloc::{AllocError, Global};
@@ -39,18 +39,6 @@ impl<'r, 'a> Selecting<'r, 'a> {
             skipped: Skipped::none(alloc),
         }
     }
-}
-
-// Returns the keys of entries, each followed by a line feed.
-fn key_lines(alloc: Global, entries: &[Spanned<RawEntry<'_>>]) -> Result<String, AllocError>
-    ensures { IfOk result (λ printed. string_bytes printed ≡ lines_of_keys (map entry_reading_of entries.now)) }
-{
-    let mut printed = String::new(alloc);
-    'entries: for entry in entries {
-        printed.push_str(entry.v.key.v)?;
-        printed.push('\n')?;
-    }
-    Ok(printed)
 }
 
 // Returns the keys of the entries that have one of these keys, each followed by a line feed.

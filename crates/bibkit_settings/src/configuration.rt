@@ -369,8 +369,8 @@ fn read(alloc: Global, reader: Reader, bytes: Vec<u8>) -> Result<Project, Config
     }
 }
 
-// Returns the folder of a file. It is the current folder for a name without a folder and for standard input (`-`).
-fn folder(name: &str) -> Path<'_> {
+/// Returns the folder of a file. It is the current folder for a name without a folder and for standard input (`-`).
+pub fn folder(name: &str) -> Path<'_> {
     match Path::new(name).parent() {
         Some(parent) if name != "-" && !parent.to_string_lossy().is_empty() => parent,
         _ => Path::new("."),

@@ -7,7 +7,7 @@ ghost use Rattle.biblatex_c.specs.declared.status.Status.TheVariants.{OutOfMemor
 ghost use Rattle.bibkit_convert.specs.declared.target.Target.TheVariants.{Csl, Json};
 
 use crate::buffers::end;
-use crate::reading::text_of;
+use crate::reading::bibliography_of;
 use crate::status::Status;
 use bibkit_convert::converting::{ConvertError, print_entries};
 use bibkit_convert::target::Target;
@@ -77,7 +77,7 @@ fn bibliography_as(alloc: Global, target: Target, bytes: &[u8]) -> Result<String
     ensures text { IfOk result (λ text. IsWrittenAs target bytes.now (string_bytes text)) }
     ensures fails { IfErr result (TextFails (IsNoBibliography bytes.now) bytes.now) }
 {
-    let bibliography = Bibliography::parse(alloc, text_of(bytes)?)?;
+    let bibliography = bibliography_of(alloc, bytes)?;
     entries_as(alloc, target, &bibliography)
 }
 

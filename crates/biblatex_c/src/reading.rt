@@ -1,16 +1,17 @@
 //! Calls that parse a text and write its keys, or its bibliography as BibLaTeX or BibTeX.
 
-ghost use Rattle.std.specs.Prelude.{◌≡◌, map, IfOk, IfErr};
+ghost use Rattle.std.specs.Prelude.{IfOk, IfErr};
 ghost use Rattle.std.specs.Str.{IsUtf8};
 ghost use Rattle.std.specs.String.{string_bytes};
-ghost use Rattle.biblatex.specs.Syntax.{biblatex_entry, bibtex_entry, entry_reading_of};
-ghost use Rattle.bib_queries.specs.Answers.{lines_of_keys};
+ghost use Rattle.biblatex.specs.Headline.{IsBibliographyOf};
+ghost use Rattle.biblatex.specs.Syntax.{biblatex_entry, bibtex_entry};
 ghost use Rattle.biblatex_c.specs.Calls.{AreKeysInLines, IsNoBibliography, IsNoFile, IsNumberedEnd, IsWrittenAnew, TextFails};
 
 use crate::buffers::end;
 use crate::status::Status;
-use biblatex::{Bibliography, RawBibliography, RawEntry, Spanned};
-use std::alloc::{AllocError, Global};
+use bib_queries::excerpts::key_lines;
+use biblatex::{Bibliography, RawBibliography};
+use std::alloc::Global;
 use std::str::from_utf8;
 
 // Returns the bytes as a text, or `NotUtf8`.
@@ -24,18 +25,6 @@ pub(crate) fn text_of(bytes: &[u8]) -> Result<&str, Status>
     }
 }
 
-// Returns the keys of `entries`, each followed by a line feed.
-fn key_lines(alloc: Global, entries: &[Spanned<RawEntry<'_>>]) -> Result<String, AllocError>
-    ensures { IfOk result (λ text. string_bytes text ≡ lines_of_keys (map entry_reading_of entries.now)) }
-{
-    let mut text = String::new(alloc);
-    'entries: for entry in entries {
-        text.push_str(entry.v.key.v)?;
-        text.push('\n')?;
-    }
-    Ok(text)
-}
-
 // Parses a file and returns the keys of its entries, each followed by a line feed.
 fn keys_of(alloc: Global, bytes: &[u8]) -> Result<String, Status>
     ensures keys { IfOk result (λ text. AreKeysInLines bytes.now (string_bytes text)) }
@@ -45,12 +34,21 @@ fn keys_of(alloc: Global, bytes: &[u8]) -> Result<String, Status>
     Ok(key_lines(alloc, &raw.entries)?)
 }
 
+// Parses a bibliography.
+pub(crate) fn bibliography_of(alloc: Global, bytes: &[u8]) -> Result<Bibliography, Status>
+    ensures loaded { IfOk result (IsBibliographyOf bytes.now) }
+    ensures fails { IfErr result (TextFails (IsNoBibliography bytes.now) bytes.now) }
+{
+    let bibliography = Bibliography::parse(alloc, text_of(bytes)?)?;
+    Ok(bibliography)
+}
+
 // Parses a bibliography and returns it in the types and fields of BibLaTeX.
 fn biblatex_of(alloc: Global, bytes: &[u8]) -> Result<String, Status>
     ensures text { IfOk result (λ text. IsWrittenAnew biblatex_entry bytes.now (string_bytes text)) }
     ensures fails { IfErr result (TextFails (IsNoBibliography bytes.now) bytes.now) }
 {
-    let bibliography = Bibliography::parse(alloc, text_of(bytes)?)?;
+    let bibliography = bibliography_of(alloc, bytes)?;
     Ok(bibliography.to_biblatex_string(alloc)?)
 }
 
@@ -59,7 +57,7 @@ fn bibtex_of(alloc: Global, bytes: &[u8]) -> Result<String, Status>
     ensures text { IfOk result (λ text. IsWrittenAnew bibtex_entry bytes.now (string_bytes text)) }
     ensures fails { IfErr result (TextFails (IsNoBibliography bytes.now) bytes.now) }
 {
-    let bibliography = Bibliography::parse(alloc, text_of(bytes)?)?;
+    let bibliography = bibliography_of(alloc, bytes)?;
     Ok(bibliography.to_bibtex_string(alloc)?)
 }
 

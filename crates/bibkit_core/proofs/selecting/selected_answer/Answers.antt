@@ -1,18 +1,18 @@
 use Rattle.std.proofs.Common.{◌∙◌, ap, map, subst, sym}
+use Rattle.std.proofs.lemmas.Result.{IfOk-weaker}
 use Rattle.std.specs.String.{string_bytes}
 use Rattle.bib_syntax.specs.Views.{entry_reading_of, file_of}
 use Rattle.bib_queries.specs.Answers.{lines_of_keys}
-use Rattle.bibkit_core.specs.Conditions.{entries_with, selected_keys}
+use Rattle.bibkit_core.specs.Conditions.{entries_with}
 use Rattle.bibkit_core.specs.Selecting.{AreCommonPrinted, AreKeysPrinted, ArePrintedOf}
-use Rattle.bibkit_core.proofs.ConditionFacts.{if_ok_so}
+use Rattle.bibkit_core.proofs.ConditionFacts.{selected_by}
 use Rattle.bibkit_core.proofs.selecting.selected_answer.Goals as goal
 
 pub returns-in-Some : goal.returns-in-Some
 returns-in-Some c =
-    if_ok_so
+    IfOk-weaker c.common_answer.result _ _
     (λ answer are.
     let found = c.args.found in
-    let entries = c.in_ok-entries.entries.items in
     let text = c.args.text.now in
     let printed = string_bytes answer.text in
     let keys = map (λ key. key.now) c.in_ok-keys.keys.items in
@@ -29,21 +29,16 @@ returns-in-Some c =
       skipped = found.skipped.items;
       recovery = c.requires;
       keys = keys;
-      are_selected = record {
-        entries = entries;
-        of_content = c.in_ok-entries.ensures;
-        are = c.in_ok-keys.ensures ∙ ap (λ cs. selected_keys cs c.deref-2.result.now) c.deref.ensures.value
-            ∙ ap (selected_keys c.args.selected.now.conditions.items) c.deref-2.ensures.value;
-      };
+      are_selected = selected_by c.in_ok-entries.entries.items c.in_ok-entries.ensures c.in_ok-keys.ensures c.deref.ensures.value
+          c.deref-2.ensures.value;
       are_printed = subst (λ wanted. ArePrintedOf wanted keys text printed answer.has_entry) (sym c.in-Some.is) common;
-    }) c.common_answer.result c.common_answer.ensures
+    }) c.common_answer.ensures
 
 pub returns-in-None : goal.returns-in-None
 returns-in-None c =
-    if_ok_so
+    IfOk-weaker c.keys_answer.result _ _
     (λ answer are.
     let found = c.args.found in
-    let entries = c.in_ok-entries.entries.items in
     let text = c.args.text.now in
     let printed = string_bytes answer.text in
     let keys = map (λ key. key.now) c.in_ok-keys.keys.items in
@@ -61,11 +56,7 @@ returns-in-None c =
       skipped = found.skipped.items;
       recovery = c.requires;
       keys = keys;
-      are_selected = record {
-        entries = entries;
-        of_content = c.in_ok-entries.ensures;
-        are = c.in_ok-keys.ensures ∙ ap (λ cs. selected_keys cs c.deref-2.result.now) c.deref.ensures.value
-            ∙ ap (selected_keys c.args.selected.now.conditions.items) c.deref-2.ensures.value;
-      };
+      are_selected = selected_by c.in_ok-entries.entries.items c.in_ok-entries.ensures c.in_ok-keys.ensures c.deref.ensures.value
+          c.deref-2.ensures.value;
       are_printed = subst (λ wanted. ArePrintedOf wanted keys text printed answer.has_entry) (sym c.in-None.is) listed;
-    }) c.keys_answer.result c.keys_answer.ensures
+    }) c.keys_answer.ensures
