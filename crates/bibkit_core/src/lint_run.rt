@@ -36,8 +36,7 @@ fn run_findings<F: Files, K: Sink, M: Sink>(
         ⊥ output.old output.new) }
 {
     let mut task = Linting::new(lint);
-    let status = run_task(alloc, names, &mut task, files, output, messages)?;
-    Ok(status)
+    run_task(alloc, names, &mut task, files, output, messages)
 }
 
 // Prints the selected findings of files, and the selected findings that compare the files with the citations of a document. Returns the
@@ -83,8 +82,7 @@ fn run_database<F: Files, K: Sink, M: Sink>(
         ⊥ output.old output.new) }
 {
     let mut task = Database::new(alloc, lint, document);
-    let status = run_task(alloc, names, &mut task, files, output, messages)?;
-    Ok(status)
+    run_task(alloc, names, &mut task, files, output, messages)
 }
 
 // Prints the selected findings of files as one database, and the selected findings that compare it with the citations of a document.

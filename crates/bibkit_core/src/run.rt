@@ -194,8 +194,7 @@ fn run_entries<F: Files, K: Sink, M: Sink>(
         ⊥ output.old output.new) }
 {
     let mut task = Entries::new(alloc, request);
-    let status = run_task(alloc, names, &mut task, files, output, messages)?;
-    Ok(status)
+    run_task(alloc, names, &mut task, files, output, messages)
 }
 
 // Prints entries of files that conditions select, or their keys, and returns the status.
@@ -215,8 +214,7 @@ fn run_selected<F: Files, K: Sink, M: Sink>(
         ⊥ output.old output.new) }
 {
     let mut task = Selecting::new(alloc, selected);
-    let status = run_task(alloc, names, &mut task, files, output, messages)?;
-    Ok(status)
+    run_task(alloc, names, &mut task, files, output, messages)
 }
 
 // Prints the entries of files that a document cites, everything that they refer to, transitively, and the preambles. Returns the status.

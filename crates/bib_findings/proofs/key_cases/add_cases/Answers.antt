@@ -11,18 +11,16 @@ use Rattle.bib_findings.proofs.key_cases.add_cases.Goals as goal
 pub origins-preserved : goal.origins-preserved
 origins-preserved c =
     let said = map entry_reading_of c.args.said.now in
-    let index = c.origins.index-index in
-    let origins = c.args.origins.now in
-    let earlier = entries_at said (take index origins) in
-    let one = entry_reading_of c.index-said-index.result in
-    let next : entries_at said (take (index + 1) origins) ≡ earlier ++ one ∷ [] =
-    entries_next c.args.said.now origins index c.index-said-index.result c.requires c.origins-test.true c.index-said-index.is in
+    let earlier = entries_at said (take c.origins.index-index c.args.origins.now) in
+    let next = entries_next c.args.said.now c.args.origins.now c.origins.index-index c.index-said-index.result c.requires
+    c.origins-test.true c.index-said-index.is in
     record {
       firsts =
           subst (AreFirstKeys (get_by_text c.add_case.new.firsts)) (sym next)
           (c.in_ok-add_case.ensures.firsts earlier c.origins.invariant.firsts);
       found =
-          appended_next case_after (entries_at said (take (index + 1) origins)) earlier one c.args.found.now.items c.origins.found.items
+          appended_next case_after (entries_at said (take (c.origins.index-index + 1) c.args.origins.now)) earlier
+          (entry_reading_of c.index-said-index.result) c.args.found.now.items c.origins.found.items
           c.add_case.new.found.items next c.origins.invariant.found
           (c.in_ok-add_case.ensures.added earlier c.origins.invariant.firsts);
     }
