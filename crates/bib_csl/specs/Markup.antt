@@ -179,7 +179,7 @@ open_plainly names c = if c == char.open_brace then [] ∷ names else if c == ch
 unfoldable pub after_sign : Bool → List (List ℕ) → ℕ → List ℕ
 after_sign has_tags names c = if c == char.space then [] else said_plainly has_tags names c
 
--- the output for a command that has none of its own, and the character after it: the command as it is
+-- the output for a command that has none of its own, and the character after it: the command as it is, and the output for the character
 unfoldable pub said_as_it_is : Bool → List (List ℕ) → List ℕ → ℕ → List ℕ
 said_as_it_is has_tags names name c = as_command name ++ said_plainly has_tags names c
 

@@ -70,7 +70,7 @@ fn push_in_lines(lines: &mut String, word: &str) -> Result<(), AllocError>
     lines.push_str(" ")
 }
 
-// Returns words, each followed by a space, with a line feed for each word `and`.
+// Returns words without the empty ones, each followed by a space, but a line feed in place of each word `and`.
 fn words_in_lines(alloc: Global, words: &[&str]) -> Result<String, AllocError>
     ensures { IfOk result (λ lines. string_bytes lines ≡ flat_map spec.word_in_lines (map (λ word. word.now) words.now)) }
 {

@@ -40,8 +40,8 @@ use Rattle.bibkit_commands.specs.declared.edits.Mode.TheVariants.{Print, Write, 
 
 -- ---- the use of a new text
 
--- the use of a new text, by whether a diff, a check and writing are asked for. A diff takes precedence over a check, and a check over
--- writing. Without any of them, the new text is printed
+-- the use of a new text, by whether a diff, a check and writing are asked for: a diff (with a check if both are asked for), or else a
+-- check, or else writing. Without any of them, the new text is printed
 abbrev pub mode_for : Bool → Bool → Bool → Mode
 mode_for true check write = Diff check
 mode_for false true write = Check

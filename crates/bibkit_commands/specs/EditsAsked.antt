@@ -101,7 +101,8 @@ abbrev pub AreUnsetsOf : List ℕ → List (List ℕ) → Edits → Type 0
 AreUnsetsOf key names (edits.These made) = map unset_by made.items ≡ map (λ name. Some (key, name)) names
 AreUnsetsOf key names _ = ⊥
 
--- the edits of `remove`: the entries with the keys are removed, or with conditions those that meet them
+-- the edits of `remove`: one for each key. With conditions there is only one, which removes each entry whose key is that of an entry that
+-- meets all of them
 abbrev pub AreRemovalsOf : Arguments → Edits → Type 0
 AreRemovalsOf arguments (edits.These made) =
     (has_conditions arguments ≡ false) × (map removed_by made.items ≡ map Some (argument_values arguments (codes "KEYS")))

@@ -80,7 +80,7 @@ fn printed_text(alloc: Global, target: Target, text: &str) -> Result<Option<Stri
 enum Reading {
     // As a whole; the first error makes parsing fail.
     Whole,
-    // Without the parts that have errors.
+    // As far as possible, as by `Bibliography::recover`.
     Parts,
 }
 

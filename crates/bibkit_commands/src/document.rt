@@ -30,7 +30,7 @@ struct Whole {
 }
 
 // The files of the system, except that the first call for the file of the document returns its whole text. If `joined` is a text, the first
-// call for another file returns it.
+// other call returns it, even if it is again for the document.
 #[derive(Drop)]
 struct DocumentFiles<'r, 'n, 'd, R> {
     files: SystemFiles<'r, 'n, R>,

@@ -20,8 +20,8 @@ fn insert_text(alloc: Global, texts: &mut BTreeSet<String>, line: &str) -> Resul
     Ok(())
 }
 
-/// Returns the texts of the findings in the output of an earlier `lint` in lines, `FILE:LINE:COLUMN: TEXT`. The only error is out of
-/// memory.
+/// Returns for each line of `output`, an earlier output of `lint` such as `FILE:LINE:COLUMN: TEXT`, the text after the first `: `, if there
+/// is one. The only error is out of memory.
 pub fn accepted_texts(alloc: Global, output: &str) -> Result<BTreeSet<String>, AllocError>
     ensures { IfOk result (λ texts. (text : List ℕ) → contains_text texts text ≡ is_listed (spec.accepted_texts output.now) text) }
 {

@@ -131,8 +131,8 @@ fn colored_line(
     Ok(line)
 }
 
-/// Returns the line of a finding at the position `place` of the file `name`, in colours. Below it is the line of the file, which
-/// is found in `bytes`, with a mark.
+/// Returns the line of a finding at the position `place` of the file `name`, in colours. Below it is the part of the line in `bytes`
+/// around the finding, as `frame` returns it, with a mark.
 pub fn framed_finding(
     alloc: Global,
     name: &str,

@@ -159,7 +159,7 @@ name_in_signs [] = []
 name_in_signs (Plain c ∷ rest) = if is_ascii_alphabetic c then c ∷ leading_letters rest else c ∷ []
 name_in_signs (s ∷ rest) = []
 
--- the commands for letters
+-- the names of the commands for letters that become characters; those of other letters, such as `\j` and `\SS`, stay
 abbrev pub letter_names : List (List ℕ)
 letter_names =
     codes "aa" ∷ codes "AA" ∷ codes "ae" ∷ codes "AE" ∷ codes "oe" ∷ codes "OE" ∷ codes "o" ∷ codes "O" ∷ codes "l" ∷ codes "L"

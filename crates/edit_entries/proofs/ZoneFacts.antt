@@ -99,7 +99,7 @@ char_there {f} {u} {v} {c} z iu iv char =
     let width : f.move u.at + len_utf8 c ≡ f.move v.at = omega (arith, iu.moved, iv.moved) in
     subst (λ n. CharAt (there f u) c (place f.new n)) width stands
 
--- a character that ends at or before the end of the zone is at the moved place in the second text
+-- a character that begins in the zone, and ends at or before its end, is at the moved place in the second text
 pub char_there_last : {f : Frame} {u v : Place} {c : ℕ} → Zone f → Inside f u → v.at ≤ f.end → CharAt u c v
     → CharAt (there f u) c (place f.new (f.move u.at + len_utf8 c))
 char_there_last {f} {u} {v} {c} z iu end char =

@@ -100,9 +100,8 @@ fn push_before_sign(
     }
 }
 
-// Returns the text between the name and the value of a new field beside `field`. Its equals sign is in the column, if there is one, or else
-// after the white space that is before the sign of `field`. Returns ` = ` if `field` has any other character than spaces and tabs around
-// its sign.
+// Returns the text between a new field's name and value: ` = ` if anything but spaces and tabs is around the sign of `field`. Otherwise
+// spaces up to `column`, at least one, come before the sign, or without a column the white space that `field` has there.
 fn sign_in_column(
     alloc: Global,
     text: &str,

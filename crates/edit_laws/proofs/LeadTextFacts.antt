@@ -102,7 +102,7 @@ lacks_drop zero (x ∷ xs) all = all
 lacks_drop (suc n) [] all = tt
 lacks_drop (suc n) (x ∷ xs) all = lacks_drop n xs all.1
 
--- an element without commas has none with another name without commas
+-- an element without commas still has none after its name is replaced by one without commas
 pub between_lacks : (new element : List ℕ) → LacksComma new → LacksComma element → LacksComma (between_white new element)
 between_lacks new element name all =
     let first : List ℕ = take (length element - length (trim_start element)) element in

@@ -66,7 +66,7 @@ fn year_of(text: &str) -> Option<u64>
     Some(MOST + number(digits))
 }
 
-// Returns the number of a text without the white space at its ends.
+// Returns the year in a text, as `year_of` does, ignoring white space at its ends.
 pub(crate) fn year_number(text: &str) -> Option<u64>
     ensures { result ≡ spec.year_number text.now }
 {

@@ -52,7 +52,7 @@ fn push_last(
     Ok(())
 }
 
-// Adds the edit of a resolved reference.
+// Adds the edit of a resolved reference, if it is replaced or removed.
 fn push_reference(
     edits: &mut Vec<Edit>,
     alloc: Global,

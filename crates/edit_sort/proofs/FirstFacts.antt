@@ -164,7 +164,7 @@ key_at all order e i k keys within =
     sym (get_or-map (λ x. x.key.text) all k e [] (omega (arith, long, within))) ∙ ap (λ l. get_or l k []) keys
     ∙ get_or-map (λ j. j.entry.key.text) order k i [] within
 
--- if the places are those of the items in order, an entry with the key of an item has the place of that item
+-- if entries have the keys and the places of placed items (`IsPlaced`), in the same order, an entry with an item's key has its place
 pub place_again : (all all' : List EntryReading) (places : List ℕ) (order : List Item) (e : EntryReading) (i : Item)
     → keys_of all' ≡ map (λ j. j.entry.key.text) order → AllByRecursion (IsPlaced all places) order
     → Contains order i → e.key.text ≡ i.entry.key.text → entry_place all' (map (λ j. j.place) order) e ≡ i.place

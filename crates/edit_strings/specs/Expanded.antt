@@ -101,7 +101,7 @@ abbrev pub name_at : List FieldReading → ℕ → List ℕ
 name_at definitions index = slice_index_or (map (λ f. f.name.text) definitions) index []
 
 -- whether the definition at an index uses its own name, or a name that the file defines, but not before this definition. BibTeX drops
--- such a name. If it stayed in the expansion, a definition of the name between this definition and the use would count.
+-- such a name, or takes the month of its style; in the expansion, a definition of the name before the use would count.
 abbrev pub is_early : List FieldReading → ℕ → Bool
 is_early definitions index =
     list_any

@@ -4,7 +4,7 @@ use Rattle.bib_chunks.specs.Settling.{text_atoms, Continues}
 use Rattle.bib_text.proofs.TextFacts.{ahead}
 use Rattle.bib_chunks.proofs.settling.after_text.Given as goal
 
--- the text is settled exactly if the rest of it is settled after the last character
+-- after the atoms of `before`, the text continues in the same way as its unread part does after `last`, the atom before this part
 abbrev pub invariant-text : goal.invariant-text
 invariant-text l =
     (l.scanner.text ≡ l.text)

@@ -4,7 +4,8 @@ use Rattle.bibkit_core.proofs.run.run_entries.Goals as goal
 
 pub returns-clause-printed : goal.returns-clause-printed
 returns-clause-printed g c = IfOk-weaker c.run_task.result _ _
-    (λ status. printed_so (λ text p. record { task = c.new-task.result; begins = c.new-task.ensures; printed = p })) c.run_task.ensures.printed
+    (λ status. printed_so (λ text p. record { task = c.new-task.result; begins = c.new-task.ensures; printed = p }))
+    c.run_task.ensures.printed
 
 pub returns-clause-stopped : goal.returns-clause-stopped
 returns-clause-stopped g c = IfErr-weaker c.run_task.result _ _
