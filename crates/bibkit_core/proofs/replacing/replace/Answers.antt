@@ -24,7 +24,8 @@ module _ (g : Over) (c : After-remove g) (known : (g.F.Folder.disk c.args.folder
 
   removed_beside : IsMadeBeside c.args.target.now c.as_str.result.now removed_start removed_made
   removed_beside =
-      subst (λ n. IsMadeBeside c.args.target.now n removed_start removed_made) (sym c.as_str.ensures.value) (c.in_ok-name.ensures.made known)
+      subst (λ n. IsMadeBeside c.args.target.now n removed_start removed_made) (sym c.as_str.ensures.value)
+      (c.in_ok-name.ensures.made known)
 
   removed_differs : c.as_str.result.now ≢ c.args.target.now
   removed_differs = subst (λ n. n ≢ c.args.target.now) (sym c.as_str.ensures.value) c.in_ok-name.ensures.distinct
@@ -128,7 +129,9 @@ module _ (g : Over) (c : After-exchange g) (known : (g.F.Folder.disk c.args.fold
   renamed_exchange = c.exchange.ensures.exchange renamed_touches.known
 
   renamed_keeps : KeepsBut c.as_str-2.result.now c.args.target.now renamed_start renamed_end
-  renamed_keeps = kept_exchanged c.as_str-2.result.now c.args.target.now renamed_start renamed_mid renamed_end renamed_touches renamed_exchange
+  renamed_keeps =
+      kept_exchanged c.as_str-2.result.now c.args.target.now renamed_start renamed_mid renamed_end renamed_touches
+      renamed_exchange
 
 pub returns-clause-crash : goal.returns-clause-crash
 returns-clause-crash g c known =
