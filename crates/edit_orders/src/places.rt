@@ -13,6 +13,7 @@ use crate::comparing::entries_compared;
 use crate::fields::entry_value;
 use crate::order::{Order, SortBy};
 use crate::values::SortValue;
+use bib_abbreviations::definitions::definitions;
 use bib_abbreviations::reader::FieldReader;
 use bib_syntax::raw::{RawBibliography, RawEntry};
 use bib_text::items::Items;
