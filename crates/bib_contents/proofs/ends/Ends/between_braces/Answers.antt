@@ -29,7 +29,7 @@ index_mut-requires c =
     read_closed {rest = c.pop.new.self.items} c.braces.invariant c.eat_while.ensures.passed run.0 run.1
     c.in-Some.ensures c.if-brace-eq123.false
     (reversed_push c.braces.open.items c.pop.new.self.items c.in-Some-pop.begin c.in-Some-pop.ensures.items) in
-    closed.1
+    omega (arith, closed.1, c.braces.places.ok.0)
 
 pub overflow_sub-begin : goal.overflow_sub-begin
 overflow_sub-begin c =
