@@ -2,10 +2,10 @@
 
 ghost use Rattle.std.specs.Prelude.{◌≡◌, ℕ, ◌+◌, ◌≤◌, ◌⊎◌, Some, None, List, [], ◌∷◌, ◌++◌, map, length, vec_len, IsOk, OnOk, OnErr, IfOk, IfErr};
 ghost use Rattle.std.specs.Option.{option_map};
-ghost use Rattle.bib_chunks.specs.Styled.{Atom, styled};
+ghost use Rattle.bib_chunks.specs.Styled.{styled};
 ghost use Rattle.bib_abbreviations.specs.Abbreviations as abbreviations;
 ghost use Rattle.bib_abbreviations.specs.Abbreviations.{AreContents, Definitions, IsFirstError, defined_in};
-ghost use Rattle.bib_abbreviations.specs.Expanding.{known_to, progress, with_progress, part_at, chunks_between, AddsPieces, AreWithin, HasContents, IsSoundFor, IsTaken, Opens, PiecesSay, FailsWith, StopsAt};
+ghost use Rattle.bib_abbreviations.specs.Expanding.{known_to, progress, with_progress, part_at, chunks_between, AddsPieces, AppendsPiece, AreWithin, HasContents, IsSoundFor, IsTaken, Opens, FailsWith, StopsAt};
 ghost use Rattle.bib_syntax.specs.Errors.{out_of_memory};
 ghost use Rattle.bib_chunks.specs.Joined.{AreJoined, ArePlaced};
 ghost use Rattle.bib_syntax.specs.Reading.{Part, Piece};

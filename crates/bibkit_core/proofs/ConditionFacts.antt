@@ -10,6 +10,7 @@ use Rattle.std.proofs.lemmas.List.Elements.{filter-append}
 use Rattle.std.proofs.lemmas.Slice.Eq.{ends_is}
 use Rattle.bib_syntax.specs.Reading.{FileReading}
 use Rattle.bib_entry.specs.declared.entry.Entry.{Entry}
+use Rattle.bib_select.specs.declared.selection.Selection.{Selection}
 use Rattle.bibkit_core.specs.Conditions.{AreResolvedEntries, AreSelectedKeys, selected_keys}
 use Rattle.std.proofs.lemmas.Str.Pattern.{ends_text}
 

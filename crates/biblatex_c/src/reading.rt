@@ -1,6 +1,6 @@
 //! Calls that parse a text and write its keys, or its bibliography as BibLaTeX or BibTeX.
 
-ghost use Rattle.std.specs.Prelude.{IfOk, IfErr};
+ghost use Rattle.std.specs.Prelude.{◌≡◌, IfOk, IfErr};
 ghost use Rattle.std.specs.Str.{IsUtf8};
 ghost use Rattle.std.specs.String.{string_bytes};
 ghost use Rattle.biblatex.specs.Headline.{IsBibliographyOf};
