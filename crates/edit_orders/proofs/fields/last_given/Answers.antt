@@ -5,7 +5,7 @@ use Rattle.bib_syntax.specs.Views.{field_of}
 use Rattle.bib_syntax.specs.declared.raw.Pair.{Pair}
 use Rattle.bib_text.proofs.ReverseFacts.{last_of_map}
 use Rattle.edit_orders.specs.Fields.{is_field_given}
-use Rattle.edit_orders.proofs.fields.last_named.Goals as goal
+use Rattle.edit_orders.proofs.fields.last_given.Goals as goal
 
 pub returns : goal.returns
 returns c =
