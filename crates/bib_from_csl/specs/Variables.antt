@@ -172,7 +172,7 @@ field_of_date name =
 -- the field for a variable in an entry of this type, or nothing; the flag says whether the item has a title of its volume
 unfoldable pub variable_field : EntryType → Bool → List ℕ → List ℕ
 variable_field kind in_work name =
-    first_name (first_name (either_name
+    first_name (first_name (first_name
     (first_name (first_name (title_field kind in_work name) (word_field kind name)) (number_field kind name))
     (identifier_field name)) (people_field name)) (field_of_date name)
 
