@@ -165,10 +165,13 @@ returns-clause-durable g c known =
 pub returns-clause-failed : goal.returns-clause-failed
 returns-clause-failed g c known =
     let at = (goal.at.returns-clause-failed g c).After-exchange in
-    after_exchange c.exchange.result _ c.args.target.now c.args.text.now (g.F.Folder.failures c.fill.new.folder)
-    (g.F.Folder.failures c.exchange.new.folder) _ _ _
-    (either_exchanged _ c.args.target.now c.args.text.now _ _ _ (renamed_differs g at known) (renamed_touches g at known)
-    (renamed_filled g at known)) (renamed_filled g at known).full
+    let start = renamed_start g at known in
+    let mid = renamed_mid g at known in
+    let end = renamed_end g at known in
+    after_exchange c.exchange.result c.as_str-2.result.now c.args.target.now c.args.text.now (g.F.Folder.failures c.fill.new.folder)
+    (g.F.Folder.failures c.exchange.new.folder) start mid end
+    (either_exchanged c.as_str-2.result.now c.args.target.now c.args.text.now start mid end (renamed_differs g at known)
+    (renamed_touches g at known) (renamed_filled g at known)) (renamed_filled g at known).full
     (c.exchange.ensures.failed (renamed_touches g at known).known)
 
 pub returns-clause-taken : goal.returns-clause-taken
