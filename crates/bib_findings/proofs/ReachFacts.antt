@@ -6,8 +6,7 @@ use Rattle.std.proofs.lemmas.Bool.Decides.{eqb_tells}
 use Rattle.std.proofs.lemmas.List.{get_or_past, length-replicate, take_more}
 use Rattle.std.proofs.lemmas.List.Elements.{All-append, All-from_get_or, All-get_or, Contains-append_left, Contains-append_right, Contains-get_or, Contains-push, Contains-push_cases}
 use Rattle.bib_collections.specs.Graph.{Graph, IsInRange, refs_of}
-use Rattle.bib_queries.specs.Needed.{AreMarks}
-use Rattle.bib_queries.specs.Searching.{IsMarked}
+use Rattle.bib_queries.specs.Needed.{AreMarks, IsMarked}
 use Rattle.bib_queries.proofs.MarkFacts.{contains_none, mark_kept, none_marked, set_decides}
 use Rattle.bib_findings.specs.Reaching.{IsReversed, IsReached}
 

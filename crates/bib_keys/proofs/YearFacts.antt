@@ -3,13 +3,13 @@ use Rattle.std.proofs.Common.{◌≡◌, ℕ, zero, suc, ◌+◌, ◌-◌, ◌<�
 use Rattle.std.specs.Prelude.{Bool, false, IsAscii, IsCharBoundary, IsUtf8, nat_le}
 use Rattle.std.specs.Char.{is_ascii_digit}
 use Rattle.std.specs.List.{list_all}
-use Rattle.std.proofs.Math.Seq.{take-length}
 use Rattle.std.proofs.lemmas.Bool.Decides.{nat_tests}
 use Rattle.std.proofs.lemmas.List.{get_or-drop, get_or-take, length-take-le}
 use Rattle.std.proofs.lemmas.Str.{IsCharBoundary-after_ascii}
 use Rattle.std.proofs.lemmas.Str.Ascii.{IsAscii-nil, IsAscii-cons}
 use Rattle.std.proofs.lemmas.Bool.{and_parts}
 use Rattle.bib_text.proofs.DigitFacts.{digit_small}
+use Rattle.bib_text.proofs.ListFacts.{take_to_end}
 use Rattle.bib_keys.specs.Years.{begins_with_year, four_digits}
 
 -- a text that begins with four digits has at least four bytes
@@ -69,6 +69,4 @@ four_more n = omega arith
 pub begins_there : (bytes text : List ℕ) (i : ℕ) (answer value : Bool) → bytes ≡ text
     → answer ≡ begins_with_year (take (length bytes - i) (drop i bytes)) → answer ≡ value → begins_with_year (drop i text) ≡ value
 begins_there bytes text i answer value same test is =
-    let whole : take (length bytes - i) (drop i bytes) ≡ drop i bytes =
-    ap (λ n. take n (drop i bytes)) (sym (length-drop i bytes)) ∙ take-length (drop i bytes) in
-    sym (ap (λ l. begins_with_year l) whole ∙ ap (λ l. begins_with_year (drop i l)) same) ∙ sym test ∙ is
+    sym (ap (λ l. begins_with_year l) (take_to_end bytes i) ∙ ap (λ l. begins_with_year (drop i l)) same) ∙ sym test ∙ is

@@ -2,9 +2,8 @@
 use Rattle.std.proofs.Common.{◌≡◌, ℕ, Bool, true, false, List, length, get_or, replicate, sym, ap, subst, ◌∙◌, arith, ◌<◌}
 use Rattle.std.proofs.lemmas.Bool.{false≢true}
 use Rattle.std.proofs.lemmas.List.{get_or-replicate, length-replicate}
-use Rattle.bib_queries.specs.Needed.{AreMarks, IsNeeded, Node, HasName, RefersTo, is_listed}
+use Rattle.bib_queries.specs.Needed.{AreMarks, HasName, IsMarked, IsNeeded, Node, RefersTo, is_listed}
 use Rattle.bib_queries.specs.Needed.IsNeeded.{asked, reached}
-use Rattle.bib_queries.specs.Searching.{IsMarked}
 use Rattle.bib_queries.proofs.MarkFacts.{marked_below}
 use Rattle.bib_queries.proofs.SearchFacts.{named_below}
 use Rattle.bib_queries.specs.Cited.{IsCited}

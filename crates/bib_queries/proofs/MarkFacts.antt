@@ -1,14 +1,14 @@
 -- Marks, the elements with marks, and lists that are built element by element.
 use Rattle.std.proofs.Common.{◌≡◌, ◌≢◌, ◌<◌, ◌+◌, ◌||◌, ℕ, zero, suc, Bool, true, false, not, cond, List, [], ◌∷◌, ◌++◌, take, map, length, get_or, set, replicate, refl, sym, ap, subst, ◌∙◌, arith, append_assoc, append-nil, get_or-set_same, get_or-set_other, ◌⊎◌, inl, inr}
 use Rattle.std.specs.Prelude.{min}
-use Rattle.std.specs.List.{flat_map, list_any, AllByRecursion, Contains}
+use Rattle.std.specs.List.{flat_map, list_any, AllByRecursion}
 use Rattle.std.proofs.lemmas.List.{get_or_past, get_or-replicate, length-replicate, map-append, take_more}
 use Rattle.std.proofs.lemmas.List.Concat.{flat_map-append}
 use Rattle.std.proofs.lemmas.List.Sums.{sum_by-set}
 use Rattle.std.proofs.lemmas.Bool.{false≢true, cases_lt}
 use Rattle.std.proofs.lemmas.Bool.Decides.{eqb_tells}
-use Rattle.bib_queries.specs.Needed.{with_marks}
-use Rattle.bib_queries.specs.Searching.{IsMarked, unmarked_count}
+use Rattle.bib_queries.specs.Needed.{IsMarked, with_marks}
+use Rattle.bib_queries.specs.Searching.{unmarked_count}
 use Rattle.std.proofs.Math.Bool.{or-true}
 
 -- the output for an element if it has a mark, or nothing
@@ -141,6 +141,3 @@ pub marked_below : (marks : List Bool) (p : ℕ) → IsMarked marks p → p < le
 marked_below marks p h =
     elim (cases_lt p (length marks))
     [ inl t ↦ omega arith | inr t ↦ absurd (false≢true (sym (get_or_past marks p false t) ∙ h)) ]
-
-pub contains_none : {A : Type 0} (x : A) → Contains [] x → ⊥
-contains_none x h = omega (arith, h.1)

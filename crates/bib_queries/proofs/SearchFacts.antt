@@ -12,12 +12,13 @@ use Rattle.std.proofs.lemmas.List.{take_more, map-append, length-map, length-tak
 use Rattle.std.proofs.lemmas.List.Elements.{All-contains, All-weaker, All-more, All-from_get_or, Contains-get_or, Contains-push, Contains-append_left, Contains-push_cases}
 use Rattle.std.proofs.lemmas.Bool.{false≢true, cases_lt}
 use Rattle.std.proofs.lemmas.Slice.Eq.{bytes_eq-Decides}
+use Rattle.bib_text.proofs.ListFacts.{contains_nothing}
 use Rattle.bib_queries.specs.declared.names.Links.{Links}
 use Rattle.bib_queries.specs.Texts.{node_of}
-use Rattle.bib_queries.specs.Needed.{Node, node_at, HasName, RefersTo, IsNeeded, AreMarks, is_listed}
+use Rattle.bib_queries.specs.Needed.{AreMarks, HasName, IsMarked, IsNeeded, Node, RefersTo, is_listed, node_at}
 use Rattle.bib_queries.specs.Needed.IsNeeded.{asked, reached}
-use Rattle.bib_queries.specs.Searching.{AreHolders, AreHoldersIn, IsMarked, Marks, LooksUp, holders_in}
-use Rattle.bib_queries.proofs.MarkFacts.{any_push, unmarked_less, set_decides, mark_kept, none_marked, marked_below, contains_none}
+use Rattle.bib_queries.specs.Searching.{AreHolders, AreHoldersIn, Marks, LooksUp, holders_in}
+use Rattle.bib_queries.proofs.MarkFacts.{any_push, unmarked_less, set_decides, mark_kept, none_marked, marked_below}
 use Rattle.std.proofs.Math.Bool.{or-true}
 
 abbrev pub Map : Type 0
@@ -297,7 +298,7 @@ one_looked_up m mid new names one marks marks' h kept all left =
 pub holder_before : (m mid : Map) (names : List (List ℕ)) (marks : List Bool) (name : List ℕ) (i : ℕ)
     → LooksUp m names marks mid → Contains (holders_in mid name) i → Contains (holders_in m name) i
 holder_before m mid names marks name i h c =
-    ⊎_elim (λ e. subst (λ l. Contains l i) e c) (λ x. absurd (contains_none i (subst (λ l. Contains l i) x.0 c)))
+    ⊎_elim (λ e. subst (λ l. Contains l i) e c) (λ x. absurd (contains_nothing (subst (λ l. Contains l i) x.0 c)))
     (h.left name)
 
 -- the indices that lookups leave in the map are below the same bound
@@ -389,7 +390,7 @@ module _ (names : List (List ℕ)) (nodes : List Node) where
       → LooksUp m names marks' m' → IsBegun m marks → IsSearch m' marks' pending'
   search_first m m' marks marks' pending' len none marked expands h = record {
     begun = begun_more m m' marks marks' [] pending' names len marked expands h (λ name i among named. asked name among named);
-    waits = waits_more m m' marks marks' [] pending' names len marked expands h (λ i c. absurd (contains_none i c));
+    waits = waits_more m m' marks marks' [] pending' names len marked expands h (λ i c. absurd (contains_nothing c));
     found = λ name among. taken_more m m' marks marks' [] pending' names len marked expands h name among;
     closed = λ i now. ⊎_elim (λ was. absurd (none i was)) (λ x. inl x.1) (marked.only i now);
   }
@@ -427,7 +428,7 @@ module _ (names : List (List ℕ)) (nodes : List Node) where
   complete : (m : Map) (marks : List Bool) (i : ℕ) → IsSearch m marks [] → IsNeeded names nodes i → IsMarked marks i
   complete m marks i h (asked name among named) = h.found name among i named
   complete m marks i h (reached {first = first} name needed refers named) =
-      ⊎_elim (λ c. absurd (contains_none first c)) (λ all. all name refers i named) (h.closed first (complete m marks first h needed))
+      ⊎_elim (λ c. absurd (contains_nothing c)) (λ all. all name refers i named) (h.closed first (complete m marks first h needed))
 
   pub search_all : (m : Map) (marks : List Bool) → IsSearch m marks [] → AreMarks (IsNeeded names nodes) (length nodes) marks
   search_all m marks h = record {

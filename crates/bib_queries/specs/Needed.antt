@@ -31,6 +31,10 @@ pub data IsNeeded (names : List (List ℕ)) (nodes : List Node) : ℕ → Type 0
   reached : {first second : ℕ} (name : List ℕ) → IsNeeded names nodes first → RefersTo nodes first name
       → HasName nodes second name → IsNeeded names nodes second
 
+-- whether an index has a mark
+abbrev pub IsMarked : List Bool → ℕ → Type 0
+IsMarked marks index = slice_index_or marks index false ≡ true
+
 -- whether the marks say, for each index below `count`, whether the fact holds for it
 pub record AreMarks (fact : ℕ → Type 0) (count : ℕ) (marks : List Bool) : Type 0 where
   pub same_length : length marks ≡ count

@@ -1,6 +1,6 @@
 -- Machinery: words of private contracts.
 -- The search for needed nodes: the marks on the nodes found so far, and the names that are still to be looked up.
-use Rattle.std.specs.Prelude.{◌≡◌, ◌↔◌, ◌⊎◌, ◌+◌, ℕ, Bool, true, false, not, List, [], length, slice_index_or, count_by}
+use Rattle.std.specs.Prelude.{◌≡◌, ◌↔◌, ◌⊎◌, ◌+◌, ℕ, Bool, true, not, List, [], length, count_by}
 use Rattle.std.specs.List.{All, Contains}
 use Rattle.std.specs.Option.{option_map_or}
 use Rattle.std.specs.Borrow.{Bor}
@@ -8,7 +8,7 @@ use Rattle.std.specs.Global.{Vec}
 use Rattle.std.specs.BTreeMap.{BTreeMap, get_by}
 use Rattle.std.specs.Cmp.Lexicographic.{slice_cmp}
 use Rattle.std.specs.Ordering.{nat_cmp}
-use Rattle.bib_queries.specs.Needed.{Node, HasName, is_listed}
+use Rattle.bib_queries.specs.Needed.{Node, HasName, IsMarked, is_listed}
 
 -- the indices that a map has for a name; none if it lacks the name
 abbrev pub holders_in : BTreeMap (Bor (List ℕ)) (Vec ℕ) → List ℕ → List ℕ
@@ -21,10 +21,6 @@ AreHolders nodes m = (name : List ℕ) (index : ℕ) → Contains (holders_in m 
 -- whether the map contains the index for one of these names
 abbrev pub AreHoldersIn : BTreeMap (Bor (List ℕ)) (Vec ℕ) → List (List ℕ) → ℕ → Type 0
 AreHoldersIn m names index = (name : List ℕ) × (is_listed names name ≡ true) × Contains (holders_in m name) index
-
--- whether an index has a mark
-abbrev pub IsMarked : List Bool → ℕ → Type 0
-IsMarked marks index = slice_index_or marks index false ≡ true
 
 -- the number of indices without a mark
 abbrev pub unmarked_count : List Bool → ℕ

@@ -1,4 +1,4 @@
--- Machinery: words of private contracts.
+-- Meaning: words of public contracts.
 -- Sets of names.
 use Rattle.std.specs.Prelude.{ℕ, Bool, List}
 use Rattle.std.specs.Borrow.{Bor}

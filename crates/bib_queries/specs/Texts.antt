@@ -1,4 +1,4 @@
--- Machinery: words of private contracts.
+-- Meaning: words of public contracts.
 -- The names in the vectors of the code.
 use Rattle.std.specs.Prelude.{ℕ, List, map}
 use Rattle.std.specs.Borrow.{Bor}

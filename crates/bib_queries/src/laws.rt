@@ -6,8 +6,7 @@ ghost use Rattle.bib_syntax.specs.Reading.{FileReading};
 ghost use Rattle.bib_syntax.specs.declared.raw.recovery.SkippedBlock.{SkippedBlock};
 ghost use Rattle.bib_queries.specs.Cited.{IsExcerpt, used_in_entries};
 ghost use Rattle.bib_queries.specs.Names.{definition_node, entry_node};
-ghost use Rattle.bib_queries.specs.Needed.{HasName, RefersTo, is_listed, with_marks};
-ghost use Rattle.bib_queries.specs.Searching.{IsMarked};
+ghost use Rattle.bib_queries.specs.Needed.{HasName, IsMarked, RefersTo, is_listed, with_marks};
 
 /// States that, if an entry is printed, each parsed entry of the file that it refers to is printed.
 pub fn references_are_printed()

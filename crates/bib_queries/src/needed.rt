@@ -2,8 +2,8 @@
 
 ghost use Rattle.std.specs.Prelude.{◌≡◌, ◌↔◌, ◌⊎◌, ◌+◌, ◌<◌, ℕ, List, [], ◌∷◌, ◌++◌, true, false, length, map, bytes_eq, slice_index_or, if◌then◌else◌, IfOk, OnOk};
 ghost use Rattle.std.specs.List.{All, Contains};
-ghost use Rattle.bib_queries.specs.Needed.{AreMarks, HasName, IsNeeded, is_listed};
-ghost use Rattle.bib_queries.specs.Searching.{AreHolders, AreHoldersIn, IsMarked, Marks, LooksUp, holders_in, unmarked_count};
+ghost use Rattle.bib_queries.specs.Needed.{AreMarks, HasName, IsMarked, IsNeeded, is_listed};
+ghost use Rattle.bib_queries.specs.Searching.{AreHolders, AreHoldersIn, Marks, LooksUp, holders_in, unmarked_count};
 ghost use Rattle.bib_queries.specs.Texts.{node_of, text_list};
 
 use crate::names::Links;

@@ -5,7 +5,7 @@ use lib.Dec.{eqb}
 use lib.Pointwise.{pointwise}
 use Rattle.std.proofs.lemmas.Bool.{false≢true, not-false}
 use Rattle.std.proofs.lemmas.Slice.Eq.{bytes_eq-Decides}
-use Rattle.std.proofs.lemmas.List.{drop_more, map-append, take-append-drop, take_all}
+use Rattle.std.proofs.lemmas.List.{drop_more, map-append, take-append-drop}
 use Rattle.bib_source.specs.Comparison.{BeginDifferently, EndDifferently, HaveCommonEnds, line_texts}
 use Rattle.bib_source.proofs.ComparisonFacts.{no_line, texts_more}
 
@@ -55,10 +55,6 @@ texts_from lines i within = ap line_texts (drop_more lines i no_line within)
 -- the lines are those before an index and those from it on
 pub texts_cut : (lines : List (Bor (List ℕ))) (i : ℕ) → line_texts lines ≡ line_texts (take i lines) ++ line_texts (drop i lines)
 texts_cut lines i = sym (ap line_texts (take-append-drop i lines)) ∙ map-append (λ l. l.now) (take i lines) (drop i lines)
-
--- the first `length lines - i` lines from an index `i` on are all lines from this index on
-pub rest_is : (lines : List (Bor (List ℕ))) (i : ℕ) → take (length lines - i) (drop i lines) ≡ drop i lines
-rest_is lines i = take_all (length lines - i) (drop i lines) (omega (arith, length-drop i lines))
 
 -- two lists that agree in exactly the first `start` lines, and then in exactly the lines from `i` and `j` on, have these ends
 pub ends_of : (old new old_rest new_rest end : List (Bor (List ℕ))) (start i j : ℕ) → old_rest ≡ drop start old → new_rest ≡ drop start new

@@ -4,7 +4,7 @@
 
 use crate::edits::{Mode, name_in_diff, new_text, write_new, wrong_usage};
 use crate::fixes::{Change, Fix, count_of, counts_of, fixed_text, fixes};
-use crate::stops::{Stop, bytes_from, output_stop, say};
+use crate::stops::{Stop, bytes_from, print_output, say};
 use bib_findings::finding::Finding;
 use bib_findings::findings::findings;
 use bib_source::unified::unified_diff;
@@ -18,10 +18,9 @@ use bibkit_core::request::Lint;
 use bibkit_core::rules::Rule;
 use bibkit_core::task::Task;
 use bibkit_edits::edit::Edit;
-use biblatex::{Output, RawBibliography, Sink};
+use biblatex::RawBibliography;
 use std::alloc::{AllocError, Global};
 use std::collections::{BTreeMap, BTreeSet};
-use std::io;
 use std::str::from_utf8;
 
 // The maximum number of texts that are tested for new findings. If the last of them has one, no field is renamed.
@@ -196,22 +195,12 @@ fn fixed_file(alloc: Global, lint: &Lint<'_>, name: &str, bytes: &[u8]) -> Resul
     }
 }
 
-// Prints a text to standard output.
-fn print(rt: &HostRuntime, text: &str) -> Result<(), Stop> {
-    let mut output = Output::new(io::writer(rt));
-    if output.write_str(text) {
-        Ok(())
-    } else {
-        Err(output_stop(rt.alloc())?)
-    }
-}
-
 // Prints the diff from a file's bytes, which are UTF-8, to its new text.
 fn print_diff(rt: &HostRuntime, name: &str, bytes: &[u8], new: &str) -> Result<(), Stop> {
     let shown = name_in_diff(rt.alloc(), name)?;
     let old = from_utf8(bytes).unwrap_or("");
     let diff = unified_diff(rt.alloc(), &shown, old, new)?;
-    print(rt, &diff)
+    print_output(rt, &diff)
 }
 
 // Uses the new text of a file as `mode` requests.
@@ -219,7 +208,7 @@ fn use_text(rt: &HostRuntime, mode: Mode, name: &str, bytes: &[u8], new: &str) -
     match mode {
         Mode::Write => write_new(rt, name, bytes, new),
         Mode::Diff { .. } => print_diff(rt, name, bytes, new),
-        Mode::Print | Mode::Check => print(rt, new),
+        Mode::Print | Mode::Check => print_output(rt, new),
     }
 }
 

@@ -6,16 +6,14 @@ ghost use Rattle.bibkit_commands.specs.Messages.{on_file, says};
 
 use crate::edits::{Editing, Mode, write_new};
 use crate::refusals::unbalanced_quotes_line;
-use crate::stops::{Stop, bytes_of, output_stop, syntax_line};
+use crate::stops::{Stop, bytes_of, print_output, syntax_line};
 use bib_recode::decoding::{DecodeError, decode};
 use bib_recode::encoding::{Encoding, detect, marked_as};
 use bib_recode::line_ends::{LineEnds, with_line_ends};
 use bib_syntax::raw::ParseError;
-use biblatex::{Output, Sink};
 use edit_accents::recoding::{Form, recode as with_form};
 use edit_entries::document::RawDocument;
 use std::alloc::{AllocError, Global};
-use std::io;
 
 /// The encoding of a file, and how its text is written.
 #[derive(Clone, Copy)]
@@ -138,16 +136,6 @@ fn recoded(alloc: Global, recoding: &Recoding, text: String) -> Result<String, A
     }
 }
 
-// Prints a text to standard output.
-fn print(rt: &HostRuntime, text: &str) -> Result<(), Stop> {
-    let mut output = Output::new(io::writer(rt));
-    if output.write_str(text) {
-        Ok(())
-    } else {
-        Err(output_stop(rt.alloc())?)
-    }
-}
-
 /// Prints a file as UTF-8, or writes the new text into the file.
 pub fn recode(rt: &HostRuntime, editing: &Editing<'_>, recoding: &Recoding) -> Result<(), Stop> {
     let name = editing.name;
@@ -159,6 +147,6 @@ pub fn recode(rt: &HostRuntime, editing: &Editing<'_>, recoding: &Recoding) -> R
     if editing.mode == Mode::Write {
         write_new(rt, name, &bytes, &new)
     } else {
-        print(rt, &new)
+        print_output(rt, &new)
     }
 }

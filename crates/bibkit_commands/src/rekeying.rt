@@ -6,7 +6,7 @@ ghost use Rattle.bibkit_commands.specs.Messages as spec;
 ghost use Rattle.bibkit_commands.specs.Messages.{key_message};
 
 use crate::edits::{Editing, Mode, after_mark, apply, new_text};
-use crate::stops::{Stop, bytes_of, error_line, output_stop};
+use crate::stops::{Stop, bytes_of, error_line, print_output};
 use bib_entry::entry::Entry;
 use bib_keys::{KeyPattern, PatternError};
 use bib_queries::names::entry_names;
@@ -17,10 +17,9 @@ use bib_text::spanned::Spanned;
 use bib_text::text::Text;
 use bibkit_edits::edit::Edit;
 use bibkit_edits::left_notes::left_notes;
-use biblatex::{Bibliography, Output, Sink};
+use biblatex::Bibliography;
 use std::alloc::{AllocError, Global};
 use std::collections::BTreeSet;
-use std::io;
 use std::str::from_utf8;
 
 /// The pattern of keys, and the use of the keys that it makes.
@@ -256,16 +255,6 @@ fn caught_text(
     Ok(notes)
 }
 
-// Prints a text to standard output.
-fn print(rt: &HostRuntime, text: &str) -> Result<(), Stop> {
-    let mut output = Output::new(io::writer(rt));
-    if output.write_str(text) {
-        Ok(())
-    } else {
-        Err(output_stop(rt.alloc())?)
-    }
-}
-
 // Gives the entries of a file new keys as `rekeying` requests, and prints notes on references. For a check, only reports the keys that
 // would change, with status 1 if there are any.
 fn use_keys(
@@ -311,7 +300,7 @@ fn edit_keys(
     } else {
         let _new = new_text(rt.alloc(), editing.name, bytes, &edits, editing.is_last)?;
     }
-    print(rt, &map_text(rt.alloc(), entries, keys)?)
+    print_output(rt, &map_text(rt.alloc(), entries, keys)?)
 }
 
 // Returns the keys that a pattern makes for entries.

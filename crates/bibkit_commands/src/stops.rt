@@ -13,7 +13,9 @@ use bib_source::positions::Positions;
 use bib_syntax::raw::{ParseError, RawRecovery};
 use bibkit_core::files::Files;
 use bibkit_core::skipped::{skipped_lines, skipped_lines_of};
+use biblatex::{Output, Sink};
 use std::alloc::{AllocError, AllocFailed, Global};
+use std::io;
 
 /// The reason why a command on a file ends early.
 #[derive(Drop)]
@@ -103,6 +105,16 @@ pub fn output_stop(alloc: Global) -> Result<Stop, AllocError>
 {
     let said = String::from_str(alloc, "bibkit: the output can't be written\n")?;
     Ok(Stop::Said(said, 2))
+}
+
+/// Prints a text to standard output.
+pub fn print_output(rt: &HostRuntime, text: &str) -> Result<(), Stop> {
+    let mut output = Output::new(io::writer(rt));
+    if output.write_str(text) {
+        Ok(())
+    } else {
+        Err(output_stop(rt.alloc())?)
+    }
 }
 
 /// Prints the message of a stop to standard error, and returns the status.

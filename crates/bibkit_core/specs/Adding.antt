@@ -1,4 +1,4 @@
--- Machinery: words of private contracts.
+-- Meaning: words of public contracts.
 -- Appending the output for findings to the output so far.
 use Rattle.std.specs.Prelude.{◌≡◌, ℕ, List, ◌++◌, string_bytes}
 use Rattle.bib_findings.specs.Codes.{severity_of}

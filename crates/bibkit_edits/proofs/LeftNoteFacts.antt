@@ -10,7 +10,7 @@ use Rattle.bib_syntax.specs.Grammar.{IsFile}
 use Rattle.bib_syntax.specs.declared.raw.ParseError.{ParseError}
 use Rattle.bib_syntax.specs.declared.raw.ParseErrorKind.TheVariants.{OutOfMemory}
 use Rattle.edit_strings.specs.Left.{Left}
-use Rattle.edit_strings.specs.Tables.{left_of, lent_left}
+use Rattle.edit_strings.specs.Views.{left_of, lent_left}
 use Rattle.edit_strings.specs.declared.left_references.LeftReference.{LeftReference}
 use Rattle.bibkit_edits.specs.LeftNotes.{left_lines, left_note}
 

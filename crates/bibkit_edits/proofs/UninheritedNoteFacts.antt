@@ -5,7 +5,7 @@ use Rattle.std.proofs.lemmas.Grind.{flat_map-append}
 use Rattle.std.specs.List.{flat_map}
 use Rattle.bib_source.specs.Positions.{position_at}
 use Rattle.edit_resolve.specs.Uninherited.{Uninherited}
-use Rattle.edit_resolve.specs.Working.{uninherited_list, uninherited_row}
+use Rattle.edit_resolve.specs.Views.{uninherited_list, uninherited_row}
 use Rattle.edit_resolve.specs.declared.uninherited.UninheritedFields.{UninheritedFields}
 use Rattle.bibkit_edits.specs.UninheritedNotes.{uninherited_lines, uninherited_note}
 

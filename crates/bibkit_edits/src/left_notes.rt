@@ -5,7 +5,7 @@ ghost use Rattle.std.specs.List.{flat_map};
 ghost use Rattle.std.specs.String.{string_bytes};
 ghost use Rattle.bib_source.specs.Positions.{position_at};
 ghost use Rattle.edit_entries.specs.NewKeys.{key_for};
-ghost use Rattle.edit_strings.specs.Tables.{left_of, lent_left};
+ghost use Rattle.edit_strings.specs.Views.{left_of, lent_left};
 ghost use Rattle.bibkit_edits.specs.LeftNotes as spec;
 ghost use Rattle.bibkit_edits.specs.LeftNotes.{AreDocumentNotes, AreLeftNotes};
 

@@ -2,7 +2,7 @@
 
 ghost use Rattle.std.specs.Prelude.{◌≡◌, ◌++◌, IfOk, OnOk, map};
 ghost use Rattle.std.specs.String.{string_bytes};
-ghost use Rattle.edit_resolve.specs.Working.{uninherited_list, uninherited_row};
+ghost use Rattle.edit_resolve.specs.Views.{uninherited_list, uninherited_row};
 ghost use Rattle.bibkit_edits.specs.UninheritedNotes as spec;
 ghost use Rattle.bibkit_edits.specs.UninheritedNotes.{AreNotesOn, AreUninheritedNotes};
 

@@ -7,7 +7,6 @@ use Rattle.std.proofs.lemmas.Bool.{both_ways, cases_Bool, or_parts, eqb-true, eq
 use Rattle.std.proofs.lemmas.List.{get_or-drop, get_or-take, length-take-le, length-drop, length-map}
 use Rattle.std.proofs.lemmas.List.Folds.{list_any_at}
 use Rattle.std.proofs.lemmas.Map.Keys.{apart_from_distinct, IsDistinct-from_apart}
-use Rattle.std.proofs.Math.Seq.{take-length}
 use Rattle.std.proofs.lemmas.Slice.Eq.{bytes_eq-Decides}
 use Rattle.bib_text.proofs.BytesFacts.{bytes_same, bytes_turned}
 use Rattle.bib_collections.specs.Sorted.{ByText}
@@ -174,7 +173,3 @@ pub all_alone : (names : ByText ℕ) (es : List Entry) (n : ℕ) → ((i : ℕ) 
 all_alone names es n all whole =
     let size : length (keys_of es) ≡ length es = length-map es (λ x. x.key) in
     ((λ yes. distinct names (keys_of es) (λ i within. all i (omega (arith, within, size, whole)))), (λ d. refl))
-
--- the slice from an index to the end is the rest of the list from there on
-pub to_end : (es : List Entry) (n : ℕ) → take (length es - n) (drop n es) ≡ drop n es
-to_end es n = ap (λ k. take k (drop n es)) (sym (length-drop n es)) ∙ take-length (drop n es)

@@ -13,7 +13,7 @@ ghost use Rattle.edit_convert.specs.Dates as spec;
 ghost use Rattle.edit_convert.specs.Dates.{more_fields, numbered_months, side_year, to_fields};
 ghost use Rattle.edit_entries.specs.Changes.{field_text_by, more_field_texts};
 ghost use Rattle.edit_convert.specs.Notes.{has_unread_parts};
-ghost use Rattle.edit_strings.specs.Collecting.{lent_texts};
+ghost use Rattle.edit_strings.specs.Views.{lent_texts};
 ghost use Rattle.edit_convert.specs.Tables.{IsFieldInText, lent_text, names_as_written, side_as_written, sides_as_written, sign_by, white_at};
 
 use crate::new_fields::{EntryField, push_braced, push_comma, push_name};

@@ -7,7 +7,7 @@ ghost use Rattle.bib_syntax.specs.Views.{field_of, piece_of};
 ghost use Rattle.edit_entries.specs.Documents.{has_name};
 ghost use Rattle.edit_strings.specs.Collected as values;
 ghost use Rattle.edit_convert.specs.Conversions as spec;
-ghost use Rattle.edit_strings.specs.Collecting.{lent_texts};
+ghost use Rattle.edit_strings.specs.Views.{lent_texts};
 ghost use Rattle.edit_convert.specs.Tables.{lent_text, sides_as_written};
 
 use crate::dates::{Sides, date_sides};

@@ -7,7 +7,7 @@ ghost use Rattle.bib_syntax.specs.Views.{field_of};
 ghost use Rattle.bib_tables.specs.Dialects.{kind_in};
 ghost use Rattle.edit_convert.specs.Conversions as spec;
 ghost use Rattle.edit_convert.specs.Tables.{lent_names, lent_text};
-ghost use Rattle.edit_strings.specs.Collecting.{lent_texts};
+ghost use Rattle.edit_strings.specs.Views.{lent_texts};
 
 use bib_syntax::raw::{Pair, is_word};
 use bib_tables::dialects::Dialect;

@@ -8,7 +8,7 @@ pub mod ChangedFacts
 pub mod ChangesFacts
 mod CommentFacts
 pub mod CutFacts
-mod DefinitionFacts
+pub mod DefinitionFacts
 pub mod EditFacts
 pub mod ElementFacts
 pub mod ElementStandsFacts

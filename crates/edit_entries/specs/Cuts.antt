@@ -1,4 +1,4 @@
--- Machinery: words of private contracts.
+-- Meaning: words of public contracts.
 -- Byte offsets at which a text may be cut: the bounds of its entries and of their parts.
 use Rattle.std.specs.Prelude.{ℕ, ◌+◌, ◌≤◌, List, [], ◌∷◌, ⊤}
 use Rattle.std.specs.List.{AllByRecursion}

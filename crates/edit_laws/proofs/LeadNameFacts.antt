@@ -14,18 +14,11 @@ use Rattle.bib_queries.specs.Names.{aliases_of}
 use Rattle.edit_entries.specs.Documents.{first_position, is_keyed}
 use Rattle.edit_entries.specs.NewNames.{IsNewKeyTaken, has_word, new_keys, staying_names, kept_names}
 use Rattle.edit_entries.specs.References.{has_alias, has_key_word, index_in_any_case, meant_index, unless_other}
+use Rattle.edit_entries.proofs.DefinitionFacts.{lower_same, word_from}
 use Rattle.edit_laws.proofs.LeadListFacts.{IsFirst, first_facts, first_is, first_same, get_take, index_of_get, none_facts, none_is, zip_back, zip_get, zip_weaker}
 use Rattle.edit_laws.specs.Renamed.{AreEarlierRenamed}
 
 -- ---- names in any ASCII case
-
--- names that are equal in any ASCII case are equal in ASCII lowercase
-word_same : (a b : List ℕ) → is_word a b ≡ true → str_to_ascii_lowercase a ≡ str_to_ascii_lowercase b
-word_same a b is = (bytes_eq-Decides (str_to_ascii_lowercase a) (str_to_ascii_lowercase b)).0 is
-
--- names that are equal in ASCII lowercase are equal in any ASCII case
-same_word : (a b : List ℕ) → str_to_ascii_lowercase a ≡ str_to_ascii_lowercase b → is_word a b ≡ true
-same_word a b same = (bytes_eq-Decides (str_to_ascii_lowercase a) (str_to_ascii_lowercase b)).1 same
 
 -- a test fails if it implies another test that fails
 fails_too : (b other : Bool) → other ≡ false → (b ≡ true → other ≡ true) → b ≡ false
@@ -35,7 +28,7 @@ fails_too false other fails implies = refl
 -- names that aren't equal in any ASCII case aren't equal
 pub words_differ : (a b : List ℕ) → is_word a b ≡ false → bytes_eq a b ≡ false
 words_differ a b other =
-    fails_too (bytes_eq a b) (is_word a b) other (λ is. same_word a b (ap str_to_ascii_lowercase ((bytes_eq-Decides a b).0 is)))
+    fails_too (bytes_eq a b) (is_word a b) other (λ is. word_from a b (ap str_to_ascii_lowercase ((bytes_eq-Decides a b).0 is)))
 
 -- ---- names that are taken
 
@@ -202,7 +195,7 @@ module _ (es gs : List EntryReading) (keys : ℕ → Option (List ℕ)) (free : 
     no_new_word : (j : ℕ) (x : EntryReading) (key : List ℕ) → slice_get es j ≡ Some x → keys j ≡ Some key → is_word key name ≡ false
     no_new_word j x key old gets =
         fails_too (is_word key name) (is_word e.key.text key) (apart_from_kept es keys free j i x e key old gets here none)
-        (λ is. same_word e.key.text key (word_same e.key.text name word ∙ sym (word_same key name is)))
+        (λ is. word_from e.key.text key (lower_same e.key.text name word ∙ sym (lower_same key name is)))
 
     -- if the old key of an entry isn't this name, its key in the new file isn't this name either
     keyed_before : (j : ℕ) (x h : EntryReading) → slice_get es j ≡ Some x → slice_get gs j ≡ Some h → is_keyed name x ≡ false
@@ -229,7 +222,7 @@ module _ (es gs : List EntryReading) (keys : ℕ → Option (List ℕ)) (free : 
   kept_first i name none exact =
       let f = first_facts (is_keyed name) es i exact in
       let word : is_word f.element.key.text name ≡ true =
-      same_word f.element.key.text name (ap str_to_ascii_lowercase ((bytes_eq-Decides f.element.key.text name).0 f.passes)) in
+      word_from f.element.key.text name (ap str_to_ascii_lowercase ((bytes_eq-Decides f.element.key.text name).0 f.passes)) in
       let g = new_entry i f.element f.here in
       first_is (is_keyed name) gs i
       (record {

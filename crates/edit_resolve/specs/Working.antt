@@ -1,7 +1,6 @@
 -- Machinery: words of private contracts.
 -- The file, the parents, the gathered fields and the fields that entries lack, in the types of the code.
 use Rattle.std.specs.Prelude.{◌≡◌, ℕ, String, ◌<◌, ◌≤◌, Bool, if◌then◌else◌, List, [], ◌∷◌, ◌++◌, length, map, slice_index_or, Option, Some, unwrap_or}
-use Rattle.std.specs.Borrow.{Bor}
 use Rattle.std.specs.BTreeMap.{BTreeMap, get_by_text}
 use Rattle.std.specs.BTreeSet.{contains_text}
 use Rattle.std.specs.Global.{Vec}
@@ -10,7 +9,6 @@ use Rattle.std.specs.Option.{option_map, option_or}
 use Rattle.std.specs.Str.{IsCharBoundary}
 use Rattle.bib_text.specs.Enums.{value_named}
 use Rattle.bib_queries.specs.Needed.{is_listed}
-use Rattle.bib_queries.specs.Texts.{text_list}
 use Rattle.bib_syntax.specs.Reading.{EntryReading, FieldReading}
 use Rattle.bib_syntax.specs.Views.{entry_reading_of, field_of}
 use Rattle.bib_tables.specs.EntryType.{entry_type_of}
@@ -24,13 +22,11 @@ use Rattle.edit_entries.specs.References.{has_alias}
 use Rattle.edit_resolve.specs.Inheritance.{read_name, rival_names}
 use Rattle.edit_resolve.specs.Parents.{entry_at, type_of}
 use Rattle.edit_resolve.specs.Resolved.{Named, fields_along, given_fields_by, in_place, is_read_as, last_change, new_fields, offers}
-use Rattle.edit_resolve.specs.Uninherited.{Uninherited}
 use Rattle.edit_resolve.specs.declared.file.File.{File}
 use Rattle.edit_resolve.specs.declared.gathering.Named.{Named as NamedField}
 use Rattle.edit_resolve.specs.declared.gathering.Gathered.{Gathered}
 use Rattle.edit_resolve.specs.declared.parents.Parent.{Parent}
 use Rattle.edit_resolve.specs.declared.uninherited.Child.{Child}
-use Rattle.edit_resolve.specs.declared.uninherited.UninheritedFields.{UninheritedFields}
 
 -- ---- the file
 
@@ -134,16 +130,3 @@ last_or_removed text is_last new f following = if is_last then last_change text 
 -- the type of a child is that of its entry
 abbrev pub IsChild : Child → Type 0
 IsChild child = child.entry_type.now ≡ type_of (entry_reading_of child.entry.now)
-
--- the fields of a parent that a value of the code represents
-abbrev pub uninherited_row : UninheritedFields → Uninherited
-uninherited_row u = record {
-  entry = entry_reading_of u.entry.now;
-  reference = field_of u.reference.now;
-  parent = entry_reading_of u.parent.now;
-  names = text_list u.names;
-}
-
--- the fields of parents that values of the code represent
-abbrev pub uninherited_list : List UninheritedFields → List Uninherited
-uninherited_list found = map uninherited_row found

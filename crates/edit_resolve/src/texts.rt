@@ -6,7 +6,7 @@ ghost use Rattle.std.specs.String.{string_bytes};
 ghost use Rattle.bib_syntax.specs.Views.{field_of, piece_of};
 ghost use Rattle.edit_entries.specs.Changes.{more_field_texts, new_field_text, spaced_sign};
 ghost use Rattle.edit_entries.specs.Cuts.{ArePiecesCut};
-ghost use Rattle.edit_strings.specs.Tables.{lent_pieces};
+ghost use Rattle.edit_strings.specs.Views.{lent_pieces};
 ghost use Rattle.edit_resolve.specs.Resolved.{new_field};
 ghost use Rattle.edit_resolve.specs.Working.{named_of};
 

@@ -12,7 +12,8 @@ ghost use Rattle.edit_resolve.specs.Parents.{entry_at, parent_graph};
 ghost use Rattle.edit_resolve.specs.Resolved.{Named as NamedReading, ResolveIsRefused, is_read_as};
 ghost use Rattle.edit_resolve.specs.Uninherited as spec;
 ghost use Rattle.edit_resolve.specs.Uninherited.{lacking_names, linking_fields, reference_parents, uninherited_by, uninherited_in, uninherited_of};
-ghost use Rattle.edit_resolve.specs.Working.{AreAlong, HasNames, IsChild, fields_at, named_of, readings, uninherited_list};
+ghost use Rattle.edit_resolve.specs.Views.{uninherited_list};
+ghost use Rattle.edit_resolve.specs.Working.{AreAlong, HasNames, IsChild, fields_at, named_of, readings};
 
 use crate::errors::ResolveError;
 use crate::file::File;

@@ -4,6 +4,7 @@ use Rattle.std.specs.Prelude.{◌||◌}
 use Rattle.std.specs.List.{All, Contains, list_any}
 use Rattle.std.proofs.lemmas.List.Elements.{All-from_get_or, All-get_or, All-nil}
 use Rattle.std.proofs.lemmas.List.FromFn.{get_or-map-range_with_len, length-map-range_with_len}
+use Rattle.bib_text.proofs.ListFacts.{contains_nothing}
 use Rattle.bib_collections.specs.Graph.{AreOnCycles, Graph, HasNoCycle, IsInRange, Leads, Solves, more, one, refs_of}
 use Rattle.bib_collections.specs.Search.{is_marked}
 use Rattle.bib_collections.proofs.Walks.{below_from_edge, map_agree, one_solution}
@@ -62,9 +63,6 @@ longest_on_cycle : (graph : Graph) (most index : ℕ) → Leads graph index inde
 longest_on_cycle graph most index cycle =
     greatest_full (λ n. has_walk graph n index) most (walk_to_cycle graph most index index cycle cycle)
 
-no_edge : (r : ℕ) → Contains [] r → ⊥
-no_edge r edge = omega (arith, edge.1)
-
 -- ---- without the references of indices on cycles
 
 module _ (graph left : Graph) (marks : List Bool) (is_cut : AreCyclesCut graph marks left) (on : AreOnCycles graph marks) where
@@ -72,7 +70,7 @@ module _ (graph left : Graph) (marks : List Bool) (is_cut : AreCyclesCut graph m
   edge_kept a r edge = by_mark (is_marked marks a) (subst (λ l. Contains l r) (is_cut.each a) edge)
     where
       by_mark : (marked : Bool) → Contains (cond marked [] (refs_of graph a)) r → Contains (refs_of graph a) r
-      by_mark true edge' = absurd (no_edge r edge')
+      by_mark true edge' = absurd (contains_nothing edge')
       by_mark false edge' = edge'
 
   lead_kept : {a b : ℕ} → Leads left a b → Leads graph a b
@@ -88,7 +86,7 @@ module _ (graph left : Graph) (marks : List Bool) (is_cut : AreCyclesCut graph m
       let edge = first_edge leads in
       let marked : is_marked marks index ≡ true =
       (on.each index (omega (arith, within, is_cut.same_length))).1 (lead_kept leads) in
-      no_edge edge.0 (subst (λ l. Contains l edge.0) (row_at_mark index true marked) edge.1)
+      contains_nothing (subst (λ l. Contains l edge.0) (row_at_mark index true marked) edge.1)
 
   -- the references of the rest are indices
   pub in_range_left : IsInRange graph → IsInRange left

@@ -20,10 +20,6 @@ use Rattle.edit_strings.specs.Exchanged.{Exchange}
 use Rattle.edit_strings.specs.Expanded.{Index}
 use Rattle.edit_strings.specs.declared.taken.Taken.{Taken}
 
--- the texts that are borrowed
-abbrev pub lent_texts : List (Bor (List ℕ)) → List (List ℕ)
-lent_texts items = map (λ t. t.now) items
-
 -- the count that a map has for a text, and 0 for a text that isn't in it
 abbrev pub count_in : BTreeMap (Bor (List ℕ)) ℕ → List ℕ → ℕ
 count_in counts text = option_map_or (λ n. n) (get_by (λ k. slice_cmp nat_cmp text k.now) counts) 0

@@ -4,3 +4,4 @@ pub mod Exchanged
 pub mod Expanded
 pub mod Left
 pub mod Tables
+pub mod Views

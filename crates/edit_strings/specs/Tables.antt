@@ -8,18 +8,14 @@ use Rattle.std.specs.Global.{Global, Vec}
 use Rattle.std.specs.List.{AllByRecursion, flat_map}
 use Rattle.std.specs.Ordering.{nat_cmp}
 use Rattle.std.specs.Str.{str_to_ascii_lowercase}
-use Rattle.bib_text.specs.declared.spanned.Spanned.{Spanned}
 use Rattle.bib_syntax.specs.Reading.{Piece, EntryReading, FieldReading}
-use Rattle.bib_syntax.specs.Views.{entry_reading_of, field_of, piece_of}
-use Rattle.bib_syntax.specs.declared.raw.RawChunk.{RawChunk}
+use Rattle.bib_syntax.specs.Views.{piece_of}
 use Rattle.edit_entries.specs.Changes.{NewValue, value_stretch_edit}
 use Rattle.edit_entries.specs.Edits as edits
 use Rattle.edit_entries.specs.Placed.{IsPlaced}
 use Rattle.edit_entries.specs.Cuts.{IsPieceCut}
 use Rattle.edit_strings.specs.Exchanged.{Exchange}
 use Rattle.edit_strings.specs.Expanded.{Index, count_before, elements, elements_at, expansion, index_before, piece_index}
-use Rattle.edit_strings.specs.Left.{Left}
-use Rattle.edit_strings.specs.declared.left_references.LeftReference.{LeftReference}
 use Rattle.edit_strings.specs.declared.written.Indexed.{Indexed}
 
 -- the edit of a field if its value is replaced, as a list
@@ -63,10 +59,6 @@ AreIndices indices definitions count = (name : List ℕ) → lowercase_index_in 
 -- each index is less than a number
 abbrev pub IsBelow : ℕ → Index → Type 0
 IsBelow size index = (name : List ℕ) → IfSome (index name) (λ i. i < size)
-
--- the pieces that are borrowed
-abbrev pub lent_pieces : List (Bor (Spanned RawChunk)) → List Piece
-lent_pieces items = map (λ p. piece_of p.now) items
 
 -- ---- pieces with the indices of their definitions
 
@@ -143,14 +135,6 @@ entry_expansion text definitions rows e = expansion_by text rows (index_before d
 -- the expansion of each field of entries, given the rows of the definitions
 abbrev pub written_by : List FieldReading → List (List IndexedPiece) → EntryReading → FieldReading → List Piece
 written_by definitions rows e = field_expanded rows (index_before definitions (count_before definitions e))
-
--- a reference that stays, converted from the type of the code
-abbrev pub left_of : LeftReference → Left
-left_of l = record { entry = entry_reading_of l.entry.now; field = field_of l.field.now; name = l.name }
-
--- references that stay, converted from the type of the code
-abbrev pub lent_left : List LeftReference → List Left
-lent_left left = map left_of left
 
 -- a field's value lies in a text, and the literals of its expansion begin at boundaries of characters
 pub record IsExpansionCut (text : List ℕ) (rows : List (List IndexedPiece)) (index : Index) (f : FieldReading) : Type 0 where

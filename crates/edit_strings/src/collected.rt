@@ -3,7 +3,8 @@
 ghost use Rattle.std.specs.Prelude.{◌≡◌, ◌||◌, ℕ, List, IfOk, MatchBool, is_some};
 ghost use Rattle.edit_strings.specs.Collected as spec;
 ghost use Rattle.edit_strings.specs.Collected.{AreThoseThat, CanBeCollected, distinct, times_of};
-ghost use Rattle.edit_strings.specs.Collecting.{count_in, known_in, lent_texts};
+ghost use Rattle.edit_strings.specs.Collecting.{count_in, known_in};
+ghost use Rattle.edit_strings.specs.Views.{lent_texts};
 
 use crate::naming::is_longer_than_name;
 use crate::texts::count_of;

@@ -8,7 +8,7 @@ ghost use Rattle.edit_entries.specs.Cuts.{IsPieceCut};
 ghost use Rattle.edit_format.specs.Delimited.{delimited, piece_as_written};
 ghost use Rattle.edit_format.specs.declared.style.Delimiters.TheVariants.{Keep};
 ghost use Rattle.edit_strings.specs.Expanded as spec;
-ghost use Rattle.edit_strings.specs.Tables.{lent_pieces};
+ghost use Rattle.edit_strings.specs.Views.{lent_pieces};
 
 use bib_syntax::raw::RawChunk;
 use bib_text::spanned::Spanned;

@@ -8,7 +8,8 @@ ghost use Rattle.edit_entries.specs.NewKeys.{key_for, name_for};
 ghost use Rattle.edit_strings.specs.Collected.{single_text};
 ghost use Rattle.edit_strings.specs.Left as spec;
 ghost use Rattle.edit_strings.specs.Left.{AreLeft};
-ghost use Rattle.edit_strings.specs.Tables.{AreFrom, AreOrdered, AreRows, BeginBetween, IsBelow, field_expanded, lent_left, lent_pieces, lowercase_index_in, rows_of, written_by};
+ghost use Rattle.edit_strings.specs.Tables.{AreFrom, AreOrdered, AreRows, BeginBetween, IsBelow, field_expanded, lowercase_index_in, rows_of, written_by};
+ghost use Rattle.edit_strings.specs.Views.{lent_left, lent_pieces};
 
 use crate::definitions::Indices;
 use crate::expanding::add_before;

@@ -11,7 +11,8 @@ ghost use Rattle.std.specs.String.{string_bytes};
 ghost use Rattle.bib_syntax.specs.Reading.{FileReading};
 ghost use Rattle.edit_strings.specs.Collected as spec;
 ghost use Rattle.edit_strings.specs.Collected.{AreNames, is_one_in_any_case, known_name, letters_or_s, name_letters, names_of_file, number_after};
-ghost use Rattle.edit_strings.specs.Collecting.{AreBelowUsed, AreUsedBelow, GetsName, IsLeastFree, TakesName, has_lowercase, is_plain_name, is_taken, known_in, lent_texts, letter_at, met_after, string_texts};
+ghost use Rattle.edit_strings.specs.Collecting.{AreBelowUsed, AreUsedBelow, GetsName, IsLeastFree, TakesName, has_lowercase, is_plain_name, is_taken, known_in, letter_at, met_after, string_texts};
+ghost use Rattle.edit_strings.specs.Views.{lent_texts};
 
 use crate::taken::Taken;
 use bib_tables::months::Month;

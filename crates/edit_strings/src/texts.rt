@@ -5,7 +5,8 @@ ghost use Rattle.std.specs.Option.{option_map};
 ghost use Rattle.bib_syntax.specs.Views.{entry_reading_of, field_of, piece_of};
 ghost use Rattle.edit_strings.specs.Collected as spec;
 ghost use Rattle.edit_strings.specs.Collected.{times_of};
-ghost use Rattle.edit_strings.specs.Collecting.{count_in, lent_texts};
+ghost use Rattle.edit_strings.specs.Collecting.{count_in};
+ghost use Rattle.edit_strings.specs.Views.{lent_texts};
 
 use bib_syntax::raw::{Pair, RawChunk, RawEntry, is_word};
 use bib_text::spanned::Spanned;

@@ -5,7 +5,8 @@ ghost use Rattle.std.specs.List.{AllByRecursion};
 ghost use Rattle.bib_syntax.specs.Views.{field_of, piece_of};
 ghost use Rattle.edit_strings.specs.Expanded.{HasNoEarlyUse, IsExpandError};
 ghost use Rattle.edit_strings.specs.Tables as spec;
-ghost use Rattle.edit_strings.specs.Tables.{AreIndices, AreOrdered, AreRows, IsIndexBelow, lowercase_index_in, indexed_back, lent_pieces, rows_of, with_index};
+ghost use Rattle.edit_strings.specs.Tables.{AreIndices, AreOrdered, AreRows, IsIndexBelow, lowercase_index_in, indexed_back, rows_of, with_index};
+ghost use Rattle.edit_strings.specs.Views.{lent_pieces};
 
 use crate::definitions::{Indices, add_definition, defined_index, has_early_use};
 use crate::errors::ExpandError;

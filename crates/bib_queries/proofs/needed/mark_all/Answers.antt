@@ -2,7 +2,7 @@ use Rattle.std.proofs.Common.{◌<◌, ℕ, true, false, length, get_or, subst, 
 use Rattle.std.specs.List.{All}
 use Rattle.std.proofs.lemmas.List.{take_all}
 use Rattle.std.proofs.lemmas.List.Elements.{All-get_or}
-use Rattle.bib_queries.specs.Searching.{IsMarked}
+use Rattle.bib_queries.specs.Needed.{IsMarked}
 use Rattle.bib_queries.proofs.MarkFacts.{mark_kept}
 use Rattle.bib_queries.proofs.SearchFacts.{mark_next, all_next}
 use Rattle.bib_queries.proofs.needed.mark_all.Goals as goal

@@ -1,6 +1,7 @@
 use Rattle.std.proofs.Common.{◌≡◌, take, length}
 use Rattle.std.specs.List.{All, Contains}
-use Rattle.bib_queries.specs.Searching.{IsMarked, Marks}
+use Rattle.bib_queries.specs.Needed.{IsMarked}
+use Rattle.bib_queries.specs.Searching.{Marks}
 use Rattle.bib_queries.proofs.needed.mark_all.Given as goal
 
 abbrev pub invariant-indices : goal.invariant-indices

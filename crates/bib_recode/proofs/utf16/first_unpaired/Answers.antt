@@ -1,7 +1,7 @@
 use Rattle.std.proofs.lemmas.Grind.{common_steps}
-use Rattle.std.proofs.Common.{◌≡◌, ◌+◌, ◌∙◌, ap, sym, arith, drop, subst, length, false, ◌≤◌, ◌-◌, take, length-drop}
-use Rattle.std.proofs.lemmas.List.{take_all}
+use Rattle.std.proofs.Common.{◌≡◌, ◌+◌, ◌∙◌, ap, sym, arith, drop, subst, length, false, ◌≤◌, ◌-◌, take}
 use Rattle.std.specs.Char.Utf16.{has_unpaired_surrogate}
+use Rattle.bib_text.proofs.ListFacts.{take_to_end}
 use Rattle.bib_recode.specs.Units.{begins_unpaired, character_len}
 use Rattle.bib_recode.proofs.UnitFacts.{has_none, next_complete, next_within}
 use Rattle.bib_recode.proofs.utf16.first_unpaired.Goals as goal
@@ -13,9 +13,7 @@ pub units-preserved : goal.units-preserved
 units-preserved c =
     let units = c.args.units.now in
     let at = c.units.at in
-    let size = length-drop at units in
-    let whole : take (length units - at) (drop at units) ≡ drop at units =
-    take_all (length units - at) (drop at units) (omega (arith, size)) in
+    let whole = take_to_end units at in
     let next : c.character_len-at.result ≡ character_len (drop at units) = c.character_len-at.ensures ∙ ap character_len whole in
     let plain : begins_unpaired (drop at units) ≡ false =
     sym (ap begins_unpaired whole) ∙ sym c.begins_unpaired.ensures ∙ c.if-begins_unpaired.false in

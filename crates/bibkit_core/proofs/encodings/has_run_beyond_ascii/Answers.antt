@@ -1,6 +1,6 @@
-use Rattle.std.proofs.Common.{◌≡◌, ◌+◌, ◌-◌, ◌||◌, ◌∷◌, false, suc, length, take, drop, get_or, ap, sym, ◌∙◌, arith}
+use Rattle.std.proofs.Common.{◌≡◌, ◌+◌, ◌-◌, ◌||◌, ◌∷◌, false, suc, drop, get_or, ap, sym, ◌∙◌, arith}
 use Rattle.std.proofs.Math.Seq.{drop-cons}
-use Rattle.std.proofs.lemmas.List.{take_all, length-drop}
+use Rattle.bib_text.proofs.ListFacts.{take_to_end}
 use Rattle.bibkit_core.specs.Encodings.{begins_beyond_ascii, has_run_beyond_ascii}
 use Rattle.bibkit_core.proofs.encodings.has_run_beyond_ascii.Goals as goal
 
@@ -9,8 +9,7 @@ bytes-preserved c =
     let bytes = c.args.bytes.now in
     let i = c.bytes.index in
     let rest = drop (i + 1) bytes in
-    let all : take (length bytes - i) (drop i bytes) ≡ drop i bytes =
-    take_all (length bytes - i) (drop i bytes) (omega (arith, length-drop i bytes)) in
+    let all = take_to_end bytes i in
     let next : suc i ≡ i + 1 = omega arith in
     let cut : drop i bytes ≡ get_or bytes i 0 ∷ rest =
     drop-cons bytes i 0 c.bytes-test.true ∙ ap (λ n. get_or bytes i 0 ∷ drop n bytes) next in

@@ -1,6 +1,6 @@
 use Rattle.std.proofs.Common.{◌≡◌, IfOk, subst}
 use Rattle.std.specs.String.{string_bytes}
-use Rattle.edit_strings.specs.Tables.{left_of}
+use Rattle.edit_strings.specs.Views.{left_of}
 use Rattle.bibkit_edits.specs.LeftNotes.{left_note}
 use Rattle.bibkit_edits.proofs.left_notes.left_note.Goals as goal
 

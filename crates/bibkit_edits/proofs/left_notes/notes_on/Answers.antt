@@ -1,7 +1,7 @@
 use Rattle.std.proofs.Common.{◌++◌, ap, ◌∙◌}
 use Rattle.std.specs.String.{string_bytes}
 use Rattle.bib_source.specs.Positions.{position_at}
-use Rattle.edit_strings.specs.Tables.{left_of}
+use Rattle.edit_strings.specs.Views.{left_of}
 use Rattle.bibkit_edits.specs.LeftNotes.{left_note}
 use Rattle.bibkit_edits.proofs.LeftNoteFacts.{notes_more}
 use Rattle.bibkit_edits.proofs.left_notes.notes_on.Goals as goal

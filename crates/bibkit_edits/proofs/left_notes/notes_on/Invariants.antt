@@ -1,6 +1,6 @@
 use Rattle.std.proofs.Common.{◌≡◌, take}
 use Rattle.std.specs.String.{string_bytes}
-use Rattle.edit_strings.specs.Tables.{lent_left}
+use Rattle.edit_strings.specs.Views.{lent_left}
 use Rattle.bibkit_edits.specs.LeftNotes.{left_lines}
 use Rattle.bibkit_edits.proofs.left_notes.notes_on.Given as goal
 

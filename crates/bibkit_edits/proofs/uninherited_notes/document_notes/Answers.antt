@@ -5,7 +5,7 @@ use Rattle.bib_collections.specs.Graph.{IsFirstOnCycle}
 use Rattle.edit_entries.specs.Documents.{Document}
 use Rattle.edit_resolve.specs.Parents.{parent_graph}
 use Rattle.edit_resolve.specs.Resolved.{IsResolveError}
-use Rattle.edit_resolve.specs.Working.{uninherited_list}
+use Rattle.edit_resolve.specs.Views.{uninherited_list}
 use Rattle.bibkit_edits.specs.UninheritedNotes.{AreNotesOn, uninherited_lines}
 use Rattle.bibkit_edits.proofs.uninherited_notes.document_notes.Goals as goal
 

@@ -1,7 +1,7 @@
 use Rattle.std.proofs.Common.{◌++◌, ap, ◌∙◌}
 use Rattle.std.specs.String.{string_bytes}
 use Rattle.bib_source.specs.Positions.{position_at}
-use Rattle.edit_resolve.specs.Working.{uninherited_row}
+use Rattle.edit_resolve.specs.Views.{uninherited_row}
 use Rattle.bibkit_edits.specs.UninheritedNotes.{uninherited_note}
 use Rattle.bibkit_edits.proofs.UninheritedNoteFacts.{notes_more}
 use Rattle.bibkit_edits.proofs.uninherited_notes.notes_on.Goals as goal

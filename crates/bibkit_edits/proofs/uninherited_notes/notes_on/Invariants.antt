@@ -1,6 +1,6 @@
 use Rattle.std.proofs.Common.{◌≡◌, take}
 use Rattle.std.specs.String.{string_bytes}
-use Rattle.edit_resolve.specs.Working.{uninherited_list}
+use Rattle.edit_resolve.specs.Views.{uninherited_list}
 use Rattle.bibkit_edits.specs.UninheritedNotes.{uninherited_lines}
 use Rattle.bibkit_edits.proofs.uninherited_notes.notes_on.Given as goal
 

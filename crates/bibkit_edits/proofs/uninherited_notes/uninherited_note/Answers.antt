@@ -1,7 +1,7 @@
 use Rattle.std.proofs.Common.{◌≡◌, ◌++◌, ◌∙◌, codes, IfOk, ap, map, subst}
 use Rattle.std.specs.Fmt.{decimal}
 use Rattle.std.specs.String.{string_bytes}
-use Rattle.edit_resolve.specs.Working.{uninherited_row}
+use Rattle.edit_resolve.specs.Views.{uninherited_row}
 use Rattle.bibkit_edits.specs.UninheritedNotes.{name_list}
 use Rattle.bibkit_edits.proofs.uninherited_notes.uninherited_note.Goals as goal
 

@@ -1,7 +1,8 @@
 use Rattle.std.proofs.Common.{◌+◌, ap, ◌∙◌}
 use Rattle.std.specs.Prelude.{bytes_eq}
 use Rattle.std.specs.List.{list_any}
-use Rattle.biblatex.proofs.DistinctFacts.{found_before, found_after, to_end}
+use Rattle.bib_text.proofs.ListFacts.{take_to_end}
+use Rattle.biblatex.proofs.DistinctFacts.{found_before, found_after}
 use Rattle.biblatex.proofs.settled.is_repeated.Goals as goal
 
 pub returns-then-is_key_among : goal.returns-then-is_key_among
@@ -16,4 +17,4 @@ returns-else-is_key_among c =
     (rw (c.as_str-key.ensures, ← c.index-entries-index.is) at c.is_key_among.ensures) c.if-is_key_among.false
     (rw (c.as_str-key.ensures, ← c.index-entries-index.is) at c.is_key_among-else-is_key_among.ensures
     ∙ ap (list_any (λ x. bytes_eq c.index-entries-index.result.key x.key))
-    (to_end c.args.entries.now (c.args.index + 1)))
+    (take_to_end c.args.entries.now (c.args.index + 1)))

@@ -3,7 +3,7 @@ use Rattle.std.specs.List.{AllByRecursion}
 use Rattle.std.specs.String.{string_bytes}
 use Rattle.bib_syntax.specs.Views.{piece_of}
 use Rattle.edit_entries.specs.Cuts.{IsPieceCut}
-use Rattle.edit_strings.specs.Tables.{lent_pieces}
+use Rattle.edit_strings.specs.Views.{lent_pieces}
 use Rattle.edit_accents.proofs.PieceFacts.{recoded_cut}
 use Rattle.edit_accents.proofs.recoding.value_text.Goals as goal
 

@@ -2,7 +2,7 @@ use Rattle.std.proofs.Common.{◌≡◌, drop, map}
 use Rattle.std.specs.List.{list_any}
 use Rattle.bib_syntax.specs.Views.{field_of}
 use Rattle.edit_convert.specs.Conversions.{is_field_there}
-use Rattle.edit_strings.specs.Collecting.{lent_texts}
+use Rattle.edit_strings.specs.Views.{lent_texts}
 use Rattle.edit_convert.proofs.fields.has_any.Given as goal
 
 abbrev pub invariant-names : goal.invariant-names

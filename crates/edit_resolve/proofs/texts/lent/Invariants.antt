@@ -1,6 +1,6 @@
 use Rattle.std.proofs.Common.{◌≡◌, map, take}
 use Rattle.bib_syntax.specs.Views.{piece_of}
-use Rattle.edit_strings.specs.Tables.{lent_pieces}
+use Rattle.edit_strings.specs.Views.{lent_pieces}
 use Rattle.edit_resolve.proofs.texts.lent.Given as goal
 
 abbrev pub invariant-pieces : goal.invariant-pieces

@@ -8,7 +8,8 @@ use Rattle.edit_strings.proofs.ListFacts.{flat_step}
 use Rattle.edit_resolve.specs.Parents.{entry_at, no_reading}
 use Rattle.edit_resolve.specs.Resolved.{all_fields, fields_by, is_read_as}
 use Rattle.edit_resolve.specs.Uninherited.{has_read_name, uninherited, uninherited_in}
-use Rattle.edit_resolve.specs.Working.{fields_at, named_of, readings, uninherited_list}
+use Rattle.edit_resolve.specs.Views.{uninherited_list}
+use Rattle.edit_resolve.specs.Working.{fields_at, named_of, readings}
 use Rattle.edit_resolve.proofs.UninheritedFacts.{uninherited_alike}
 use Rattle.edit_resolve.proofs.uninherited.file_fields.Goals as goal
 

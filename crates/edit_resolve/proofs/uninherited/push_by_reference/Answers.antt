@@ -7,7 +7,8 @@ use Rattle.std.proofs.lemmas.List.Elements.{All-from_recursion}
 use Rattle.bib_syntax.specs.Views.{entry_reading_of, field_of}
 use Rattle.edit_resolve.specs.Parents.{entry_at}
 use Rattle.edit_resolve.specs.Uninherited.{lacking_names, reference_parents, uninherited_of}
-use Rattle.edit_resolve.specs.Working.{fields_at, readings, uninherited_list}
+use Rattle.edit_resolve.specs.Views.{uninherited_list}
+use Rattle.edit_resolve.specs.Working.{fields_at, readings}
 use Rattle.edit_resolve.specs.declared.parents.Parent.{Parent}
 use Rattle.edit_resolve.proofs.ParentFacts.{references_within}
 use Rattle.edit_resolve.proofs.uninherited.push_by_reference.Goals as goal

@@ -2,7 +2,8 @@ use Rattle.std.specs.BTreeSet.{contains_text}
 use Rattle.bib_syntax.specs.Views.{entry_reading_of, field_of}
 use Rattle.edit_resolve.specs.Parents.{entry_at}
 use Rattle.edit_resolve.specs.Uninherited.{lacking_names, uninherited_of}
-use Rattle.edit_resolve.specs.Working.{fields_at, readings, uninherited_list}
+use Rattle.edit_resolve.specs.Views.{uninherited_list}
+use Rattle.edit_resolve.specs.Working.{fields_at, readings}
 use Rattle.edit_resolve.specs.declared.parents.Link.TheVariants.{Crossref}
 use Rattle.edit_resolve.specs.declared.parents.Parent.{Parent}
 use Rattle.edit_resolve.proofs.UninheritedFacts.{parents_more}

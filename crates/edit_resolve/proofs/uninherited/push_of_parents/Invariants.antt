@@ -4,7 +4,8 @@ use Rattle.std.specs.List.{flat_map}
 use Rattle.bib_syntax.specs.Views.{entry_reading_of, field_of}
 use Rattle.edit_resolve.specs.Parents.{entry_at}
 use Rattle.edit_resolve.specs.Uninherited.{lacking_names, uninherited_of}
-use Rattle.edit_resolve.specs.Working.{fields_at, readings, uninherited_list}
+use Rattle.edit_resolve.specs.Views.{uninherited_list}
+use Rattle.edit_resolve.specs.Working.{fields_at, readings}
 use Rattle.edit_resolve.proofs.uninherited.push_of_parents.Given as goal
 
 abbrev pub invariant-parents : goal.invariant-parents

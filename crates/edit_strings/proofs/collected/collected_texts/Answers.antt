@@ -8,7 +8,8 @@ use Rattle.bib_text.proofs.BoolFacts.{or_cond}
 use Rattle.bib_queries.specs.Needed.{is_listed}
 use Rattle.bib_queries.specs.Sets.{is_in_set}
 use Rattle.edit_strings.specs.Collected.{AreThoseThat, CanBeCollected, distinct}
-use Rattle.edit_strings.specs.Collecting.{known_in, lent_texts}
+use Rattle.edit_strings.specs.Collecting.{known_in}
+use Rattle.edit_strings.specs.Views.{lent_texts}
 use Rattle.edit_strings.proofs.DistinctFacts.{new_kept, new_left, old_stays}
 use Rattle.edit_strings.proofs.TextFacts.{listed_push, match_false, match_true, one_more}
 use Rattle.edit_strings.proofs.collected.collected_texts.Goals as goal

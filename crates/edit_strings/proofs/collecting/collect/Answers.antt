@@ -9,7 +9,8 @@ use Rattle.edit_entries.specs.Changes.{text_changed}
 use Rattle.edit_entries.specs.Documents.{Document}
 use Rattle.edit_entries.specs.LineEnds.{line_end_of}
 use Rattle.edit_strings.specs.Collected.{AreCollectedTexts, AreNames, AreThoseThat, CanBeCollected, collection, definition_lines, distinct, known_name, named_texts, with_lines}
-use Rattle.edit_strings.specs.Collecting.{known_in, lent_texts, string_texts}
+use Rattle.edit_strings.specs.Collecting.{known_in, string_texts}
+use Rattle.edit_strings.specs.Views.{lent_texts}
 use Rattle.edit_strings.specs.Exchanged.{exchanges}
 use Rattle.edit_strings.proofs.CollectFacts.{collected_alike, collected_answer, made_known}
 use Rattle.edit_strings.proofs.NamesFacts.{length-names}

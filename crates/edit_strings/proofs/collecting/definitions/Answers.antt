@@ -4,7 +4,8 @@ use Rattle.std.specs.Borrow.{Bor}
 use Rattle.std.specs.String.{string_bytes}
 use Rattle.std.proofs.lemmas.List.{get_or_default}
 use Rattle.edit_strings.specs.Collected.{string_line, definition_lines, known_name}
-use Rattle.edit_strings.specs.Collecting.{known_in, lent_texts, string_texts}
+use Rattle.edit_strings.specs.Collecting.{known_in, string_texts}
+use Rattle.edit_strings.specs.Views.{lent_texts}
 use Rattle.edit_strings.proofs.TextFacts.{lines_push, one_more, size_so_far}
 use Rattle.edit_strings.proofs.collecting.definitions.Goals as goal
 

@@ -2,7 +2,8 @@ use Rattle.std.proofs.Common.{◌≡◌, ℕ, List, take}
 use Rattle.std.specs.String.{string_bytes}
 use Rattle.bib_syntax.specs.Reading.{FileReading}
 use Rattle.edit_strings.specs.Collected.{definition_lines, known_name}
-use Rattle.edit_strings.specs.Collecting.{known_in, lent_texts, string_texts}
+use Rattle.edit_strings.specs.Collecting.{known_in, string_texts}
+use Rattle.edit_strings.specs.Views.{lent_texts}
 use Rattle.edit_strings.proofs.collecting.definitions.Given as goal
 
 abbrev pub invariant-names : goal.invariant-names

@@ -1,6 +1,7 @@
 use Rattle.std.proofs.Common.{◌≡◌, ◌++◌, drop, map}
 use Rattle.bib_syntax.specs.Views.{entry_reading_of}
-use Rattle.edit_strings.specs.Collecting.{collection_by, lent_texts, string_texts}
+use Rattle.edit_strings.specs.Collecting.{collection_by, string_texts}
+use Rattle.edit_strings.specs.Views.{lent_texts}
 use Rattle.edit_strings.specs.Tables.{entry_edits, AreAllFieldsCut, index_in}
 use Rattle.edit_entries.specs.EditList.{edit_of}
 use Rattle.edit_strings.proofs.collecting.edits.Given as goal

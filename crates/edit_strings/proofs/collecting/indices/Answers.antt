@@ -5,7 +5,7 @@ use Rattle.std.proofs.lemmas.Map.Text.{btree_map_updates_str}
 use Rattle.std.specs.Prelude.{bytes_eq}
 use Rattle.edit_entries.proofs.PositionFacts.{last_step}
 use Rattle.edit_strings.specs.Collected.{text_index}
-use Rattle.edit_strings.specs.Collecting.{lent_texts}
+use Rattle.edit_strings.specs.Views.{lent_texts}
 use Rattle.edit_strings.proofs.collecting.indices.Goals as goal
 
 pub texts-preserved : goal.texts-preserved

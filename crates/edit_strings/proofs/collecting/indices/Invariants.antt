@@ -1,6 +1,6 @@
 use Rattle.std.proofs.Common.{◌≡◌, List, ℕ, take}
 use Rattle.edit_strings.specs.Collected.{text_index}
-use Rattle.edit_strings.specs.Collecting.{lent_texts}
+use Rattle.edit_strings.specs.Views.{lent_texts}
 use Rattle.edit_strings.specs.Tables.{index_in}
 use Rattle.edit_strings.proofs.collecting.indices.Given as goal
 

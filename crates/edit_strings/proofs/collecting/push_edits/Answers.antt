@@ -1,5 +1,6 @@
 use Rattle.bib_syntax.specs.Views.{field_of}
-use Rattle.edit_strings.specs.Collecting.{collection_by, lent_texts, string_texts}
+use Rattle.edit_strings.specs.Collecting.{collection_by, string_texts}
+use Rattle.edit_strings.specs.Views.{lent_texts}
 use Rattle.edit_strings.specs.Tables.{value_edits, IsFieldCut, index_in}
 use Rattle.edit_strings.proofs.ListFacts.{all_step, flat_step}
 use Rattle.edit_strings.proofs.collecting.push_edits.Goals as goal

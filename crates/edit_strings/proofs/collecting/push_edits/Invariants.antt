@@ -1,7 +1,8 @@
 use Rattle.std.proofs.Common.{◌≡◌, ◌++◌, drop, map}
 use Rattle.std.specs.List.{AllByRecursion}
 use Rattle.bib_syntax.specs.Views.{field_of}
-use Rattle.edit_strings.specs.Collecting.{collection_by, lent_texts, string_texts}
+use Rattle.edit_strings.specs.Collecting.{collection_by, string_texts}
+use Rattle.edit_strings.specs.Views.{lent_texts}
 use Rattle.edit_strings.specs.Tables.{field_edits, IsFieldCut, index_in}
 use Rattle.edit_entries.specs.EditList.{edit_of}
 use Rattle.edit_strings.proofs.collecting.push_edits.Given as goal

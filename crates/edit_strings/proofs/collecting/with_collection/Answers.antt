@@ -7,7 +7,8 @@ use Rattle.edit_entries.specs.Edits.{edited, edited_all}
 use Rattle.edit_entries.specs.EditList.{AreEditsInOrder, edit_of}
 use Rattle.edit_entries.specs.LineEnds.{line_end_of}
 use Rattle.edit_strings.specs.Collected.{collection, definition_lines, first_entry_start}
-use Rattle.edit_strings.specs.Collecting.{lent_texts, string_texts}
+use Rattle.edit_strings.specs.Collecting.{string_texts}
+use Rattle.edit_strings.specs.Views.{lent_texts}
 use Rattle.edit_strings.specs.Exchanged.{Exchange}
 use Rattle.edit_strings.specs.Tables.{AreAllFieldsCut, entry_edits, index_in}
 use Rattle.edit_strings.proofs.CollectFacts.{all_cut, all_edits_known, index_known, lines_in_order, made_known}

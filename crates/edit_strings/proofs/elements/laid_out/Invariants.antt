@@ -5,7 +5,7 @@ use Rattle.edit_entries.specs.Cuts.{IsPieceCut}
 use Rattle.edit_format.specs.Delimited.{piece_as_written}
 use Rattle.edit_format.specs.Formatted.{value_laid_out}
 use Rattle.edit_format.specs.declared.style.Delimiters.TheVariants.{Keep}
-use Rattle.edit_strings.specs.Tables.{lent_pieces}
+use Rattle.edit_strings.specs.Views.{lent_pieces}
 use Rattle.edit_strings.proofs.elements.laid_out.Given as goal
 
 -- the text so far and that of the pieces still to append make the text of all pieces

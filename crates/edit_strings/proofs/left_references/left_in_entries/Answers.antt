@@ -4,7 +4,8 @@ use Rattle.bib_syntax.specs.Reading.{FieldReading}
 use Rattle.bib_syntax.specs.Views.{entry_reading_of, field_of}
 use Rattle.edit_entries.specs.NewKeys.{name_for}
 use Rattle.edit_strings.specs.Left.{left_in}
-use Rattle.edit_strings.specs.Tables.{AreRows, field_expanded, indexed_back, lent_left, rows_of, written_by}
+use Rattle.edit_strings.specs.Tables.{AreRows, field_expanded, indexed_back, rows_of, written_by}
+use Rattle.edit_strings.specs.Views.{lent_left}
 use Rattle.edit_strings.proofs.ListFacts.{flat_step, left}
 use Rattle.edit_strings.proofs.OrderFacts.{IsAhead, indices_step}
 use Rattle.edit_strings.proofs.IndexFacts.{indices_below}

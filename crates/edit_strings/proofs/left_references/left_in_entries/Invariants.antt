@@ -3,7 +3,8 @@ use Rattle.std.specs.List.{flat_map}
 use Rattle.bib_syntax.specs.Views.{entry_reading_of, field_of}
 use Rattle.edit_entries.specs.NewKeys.{name_for}
 use Rattle.edit_strings.specs.Left.{left_in}
-use Rattle.edit_strings.specs.Tables.{AreIndices, lent_left, rows_of, written_by}
+use Rattle.edit_strings.specs.Tables.{AreIndices, rows_of, written_by}
+use Rattle.edit_strings.specs.Views.{lent_left}
 use Rattle.edit_strings.proofs.OrderFacts.{IsAhead}
 use Rattle.edit_strings.proofs.left_references.left_in_entries.Given as goal
 

@@ -5,7 +5,8 @@ use Rattle.bib_syntax.specs.Views.{entry_reading_of, field_of}
 use Rattle.edit_entries.specs.NewKeys.{key_for, name_for}
 use Rattle.edit_entries.specs.References.{new_reference}
 use Rattle.edit_strings.specs.Left.{AreLeft, left_in}
-use Rattle.edit_strings.specs.Tables.{AreFrom, BeginBetween, lent_left, rows_of, written_by}
+use Rattle.edit_strings.specs.Tables.{AreFrom, BeginBetween, rows_of, written_by}
+use Rattle.edit_strings.specs.Views.{lent_left}
 use Rattle.edit_strings.proofs.ExpandFacts.{known_rows}
 use Rattle.edit_strings.proofs.LeftFacts.{are_left}
 use Rattle.edit_strings.proofs.OrderFacts.{document_from, file_between}

@@ -3,7 +3,8 @@ use Rattle.std.specs.List.{flat_map}
 use Rattle.bib_syntax.specs.Views.{entry_reading_of, field_of}
 use Rattle.edit_entries.specs.NewKeys.{name_for}
 use Rattle.edit_strings.specs.Left.{left_at, left_name}
-use Rattle.edit_strings.specs.Tables.{field_expanded, lent_left, lowercase_index_in, rows_of}
+use Rattle.edit_strings.specs.Tables.{field_expanded, lowercase_index_in, rows_of}
+use Rattle.edit_strings.specs.Views.{lent_left}
 use Rattle.edit_strings.proofs.left_references.push_left_in.Given as goal
 
 abbrev pub invariant-fields : goal.invariant-fields

@@ -3,7 +3,8 @@ use Rattle.std.specs.Borrow.{Bor}
 use Rattle.std.specs.Prelude.{string_bytes}
 use Rattle.std.proofs.lemmas.List.{get_or_default, map-append, take_all}
 use Rattle.edit_strings.specs.Collected.{AreNames}
-use Rattle.edit_strings.specs.Collecting.{lent_texts, string_texts}
+use Rattle.edit_strings.specs.Collecting.{string_texts}
+use Rattle.edit_strings.specs.Views.{lent_texts}
 use Rattle.edit_strings.proofs.NamesFacts.{AreNamed, gets_closed, named_more, none_closed}
 use Rattle.edit_strings.proofs.TextFacts.{one_more}
 use Rattle.edit_strings.proofs.naming.names.Goals as goal

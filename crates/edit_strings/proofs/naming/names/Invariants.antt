@@ -1,7 +1,8 @@
 use Rattle.std.proofs.Common.{◌≡◌, ℕ, List, length, take}
 use Rattle.bib_syntax.specs.Reading.{FileReading}
 use Rattle.edit_strings.specs.Collected.{is_one_in_any_case, known_name, names_of_file}
-use Rattle.edit_strings.specs.Collecting.{AreBelowUsed, is_taken, known_in, lent_texts, string_texts}
+use Rattle.edit_strings.specs.Collecting.{AreBelowUsed, is_taken, known_in, string_texts}
+use Rattle.edit_strings.specs.Views.{lent_texts}
 use Rattle.edit_strings.proofs.NamesFacts.{AreNamed}
 use Rattle.edit_strings.proofs.naming.names.Given as goal
 

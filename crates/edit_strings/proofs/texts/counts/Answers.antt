@@ -4,7 +4,7 @@ use Rattle.std.proofs.lemmas.List.{get_or_default}
 use Rattle.std.proofs.lemmas.Map.Text.{btree_map_updates_str}
 use Rattle.std.specs.Option.{option_map_or}
 use Rattle.edit_strings.specs.Collected.{times_of}
-use Rattle.edit_strings.specs.Collecting.{lent_texts}
+use Rattle.edit_strings.specs.Views.{lent_texts}
 use Rattle.edit_strings.proofs.TextFacts.{counted_more, one_more}
 use Rattle.edit_strings.proofs.texts.counts.Goals as goal
 

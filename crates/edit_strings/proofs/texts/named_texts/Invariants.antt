@@ -1,7 +1,7 @@
 use Rattle.std.proofs.Common.{◌≡◌, map, take}
 use Rattle.bib_syntax.specs.Views.{entry_reading_of}
 use Rattle.edit_strings.specs.Collected.{named_texts}
-use Rattle.edit_strings.specs.Collecting.{lent_texts}
+use Rattle.edit_strings.specs.Views.{lent_texts}
 use Rattle.edit_strings.proofs.texts.named_texts.Given as goal
 
 abbrev pub invariant-entries : goal.invariant-entries

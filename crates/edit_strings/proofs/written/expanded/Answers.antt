@@ -1,5 +1,6 @@
 use Rattle.std.proofs.Common.{◌++◌, ◌<◌, length, arith, sym, ap, ◌∙◌}
-use Rattle.edit_strings.specs.Tables.{all_visits, indexed_back, lent_pieces, rows_of, staying}
+use Rattle.edit_strings.specs.Tables.{all_visits, indexed_back, rows_of, staying}
+use Rattle.edit_strings.specs.Views.{lent_pieces}
 use Rattle.edit_strings.proofs.WrittenFacts.{top_gone}
 use Rattle.edit_strings.proofs.written.expanded.Goals as goal
 

@@ -1,6 +1,7 @@
 use Rattle.std.proofs.Common.{◌≡◌, ◌++◌, length}
 use Rattle.std.specs.List.{AllByRecursion}
-use Rattle.edit_strings.specs.Tables.{IsIndexBelow, all_visits, expanded, indexed_back, lent_pieces, rows_of}
+use Rattle.edit_strings.specs.Tables.{IsIndexBelow, all_visits, expanded, indexed_back, rows_of}
+use Rattle.edit_strings.specs.Views.{lent_pieces}
 use Rattle.edit_strings.proofs.written.expanded.Given as goal
 
 -- the pieces so far and the expansion of the stack make the whole expansion
