@@ -12,5 +12,5 @@ returns c =
     let new_rest = take (length new - start) (drop start new) in
     let i = length old_rest - c.common_end-end.result in
     ends_of old new old_rest new_rest (take (length old_rest - i) (drop i old_rest)) start i (length new_rest - c.common_end-end.result)
-    (take_to_end old start) (take_to_end new start) (take_to_end old_rest i) c.common_start-start.ensures.same c.common_start-start.ensures.longest
-    c.common_end-end.ensures.same c.common_end-end.ensures.longest
+    (take_to_end old start) (take_to_end new start) (take_to_end old_rest i)
+    c.common_start-start.ensures.same c.common_start-start.ensures.longest c.common_end-end.ensures.same c.common_end-end.ensures.longest
