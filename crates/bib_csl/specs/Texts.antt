@@ -1,6 +1,6 @@
 -- Meaning: words of public contracts.
 -- The texts of fields, plain or with HTML tags, as in CSL-JSON. A text is a list of its bytes.
-use Rattle.std.specs.Prelude.{ℕ, Bool, true, false, ◌==◌, ◌-◌, nat_lt, if◌then◌else◌, List, [], ◌∷◌, ◌++◌, length, codes, eqb, ◌&&◌, ◌||◌, Option, Some, None}
+use Rattle.std.specs.Prelude.{ℕ, Bool, true, false, ◌==◌, ◌-◌, nat_lt, if◌then◌else◌, List, [], ◌∷◌, ◌++◌, bytes_eq, length, codes, eqb, ◌&&◌, ◌||◌, Option, Some, None}
 use Rattle.std.specs.FinMap as by_name
 use Rattle.std.specs.List.{ends_with, flat_map, list_any}
 use Rattle.std.specs.Str.{chars}
@@ -123,3 +123,10 @@ listed_after before (part ∷ parts) = listed_after (joined (codes "; ") before 
 unfoldable pub listed_field : Option Value → List ℕ
 listed_field None = []
 listed_field (Some chunks) = listed_after [] (and_list chunks)
+
+-- the text for BibLaTeX's keys in the field `series`, or any other text as it is
+unfoldable pub series_named : List ℕ → List ℕ
+series_named text =
+    if bytes_eq text (codes "newseries") then codes "new series"
+    else if bytes_eq text (codes "oldseries") then codes "old series"
+    else text

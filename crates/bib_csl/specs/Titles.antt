@@ -1,13 +1,13 @@
 -- Meaning: words of public contracts.
 -- The titles of an item, of its container and of its event.
-use Rattle.std.specs.Prelude.{ℕ, true, ◌||◌, ◌==◌, if◌then◌else◌, List, [], ◌++◌, length, codes, bytes_eq}
+use Rattle.std.specs.Prelude.{ℕ, true, ◌||◌, ◌==◌, if◌then◌else◌, List, [], ◌++◌, length, codes}
 use Rattle.bib_entry.specs.declared.entry.Entry.{Entry}
 use Rattle.bib_entry.specs.Fields.{field_or}
 use Rattle.bib_csl.specs.declared.item.Field.{Field}
 use Rattle.bib_csl.specs.declared.variables.ItemType.{ItemType}
 use Rattle.bib_csl.specs.declared.variables.Variable.TheVariants.{Title, TitleShort, VolumeTitle, ContainerTitle, ContainerTitleShort, CollectionTitle, OriginalTitle, Event, EventTitle, EventPlace}
 use Rattle.bib_csl.specs.Fields.{given}
-use Rattle.bib_csl.specs.Texts.{marked_field, title_text, rich_text, either, joined_by_mark}
+use Rattle.bib_csl.specs.Texts.{marked_field, title_text, rich_text, either, joined_by_mark, series_named}
 use Rattle.bib_csl.specs.Types.{is_article, is_in_book, is_volume}
 
 -- a title with its subtitle and its addition, which are in the fields `subtitle` and `addon`
@@ -69,13 +69,6 @@ title_fields kind entry =
     (given TitleShort (title_text entry (codes "shorttitle")) ++
     (given VolumeTitle (volume_title kind entry) ++
     given OriginalTitle (title_text entry (codes "origtitle"))))
-
--- the text for BibLaTeX's keys in the field `series`, or any other text as it is
-unfoldable pub series_named : List ℕ → List ℕ
-series_named text =
-    if bytes_eq text (codes "newseries") then codes "new series"
-    else if bytes_eq text (codes "oldseries") then codes "old series"
-    else text
 
 -- the title of the series
 unfoldable pub series_title : Entry → List ℕ

@@ -4,7 +4,7 @@ ghost use Rattle.std.specs.Prelude.{◌≡◌, [], codes, eqb, IfOk};
 ghost use Rattle.std.specs.List.{ends_with};
 ghost use Rattle.std.specs.Option.{option_copied};
 ghost use Rattle.bib_entry.specs.Fields.{field_or};
-ghost use Rattle.bib_csl.specs.Texts.{field, shown_field, title_text, rich_text, rich_text_or, either, joined, joined_by_mark, ends_with_mark, ends_with_mark_before, listed_after, listed_field};
+ghost use Rattle.bib_csl.specs.Texts.{field, shown_field, title_text, rich_text, rich_text_or, either, joined, joined_by_mark, ends_with_mark, ends_with_mark_before, listed_after, listed_field, series_named};
 
 use crate::markup::{marked_chunks, marked_field};
 use crate::standing::shown;
@@ -198,4 +198,16 @@ pub fn list_text_or(
     ensures { IfOk result (λ shown. shown ≡ listed_field (field_or entry.now name.now other.now)) }
 {
     listed_field(alloc, field_or(entry, name, other))
+}
+
+/// Returns the text for BibLaTeX's keys in the field `series`, or any other text as it is. The only error is out of memory.
+#[tactic(auto, unfolding(crate::specs::Texts::series_named))]
+pub fn series_named(alloc: Global, text: Text) -> Result<Text, AllocError>
+    ensures { IfOk result (λ named. named ≡ series_named text) }
+{
+    match text.as_str() {
+        "newseries" => Text::from_str(alloc, "new series"),
+        "oldseries" => Text::from_str(alloc, "old series"),
+        _ => Ok(text),
+    }
 }

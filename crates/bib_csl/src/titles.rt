@@ -7,7 +7,7 @@ use crate::adding::{add_rich, add_title};
 use crate::fields::add_text;
 use crate::item::Field;
 use crate::markup::marked_field;
-use crate::texts::{either, field_or, joined_by_mark, title_text};
+use crate::texts::{either, field_or, joined_by_mark, series_named, title_text};
 use crate::types::{is_article, is_in_book, is_volume};
 use crate::variables::{ItemType, Variable};
 use bib_entry::entry::Entry;
@@ -119,18 +119,6 @@ fn container_title(alloc: Global, kind: ItemType, entry: &Entry) -> Result<Text,
         return Ok(journal);
     }
     Ok(either(journal, title_of_book(alloc, entry)?))
-}
-
-// Returns the text for BibLaTeX's keys in the field `series`, or any other text as it is.
-#[tactic(auto, unfolding(crate::specs::Titles::series_named))]
-fn series_named(alloc: Global, text: Text) -> Result<Text, AllocError>
-    ensures { IfOk result (λ named. named ≡ spec.series_named text) }
-{
-    match text.as_str() {
-        "newseries" => Text::from_str(alloc, "new series"),
-        "oldseries" => Text::from_str(alloc, "old series"),
-        _ => Ok(text),
-    }
 }
 
 // Returns the title of the series.

@@ -2,14 +2,13 @@
 use Rattle.std.proofs.Common.{◌≡◌, ℕ, ◌<◌, suc, Bool, true, false, cond, List, [], ◌∷◌, ◌++◌, length, refl, sym, ap, ap₂, ◌∙◌, arith}
 use Rattle.std.proofs.lemmas.List.{append-nil}
 use Rattle.std.proofs.Common.{append_assoc}
-use Rattle.std.specs.Prelude.{not, ◌&&◌, ◌||◌, ◌==◌, bytes_eq, codes, encode_utf8_all}
+use Rattle.std.specs.Prelude.{not, ◌&&◌, ◌||◌, ◌==◌, codes, encode_utf8_all}
 use Rattle.std.specs.List.{list_all, list_any, slice_split, onto_first, range_with_len}
 use Rattle.std.specs.Str.{chars, IsAscii}
 use Rattle.unicode.specs.Binary.{is_lowercase, is_uppercase}
-use Rattle.std.proofs.lemmas.Bool.{and_parts, and_from, not-true, false≢true, ne_eqb, both_ways}
+use Rattle.std.proofs.lemmas.Bool.{and_parts, and_from, or_parts, not-true, false≢true, ne_eqb, both_ways}
 use Rattle.std.proofs.lemmas.List.Folds.{list_all-append}
 use Rattle.std.proofs.lemmas.List.Splits.{slice_split-cons_no}
-use Rattle.std.proofs.lemmas.Slice.Eq.{bytes_eq-Decides}
 use Rattle.std.proofs.lemmas.Str.{chars-IsAscii, encodes-IsAscii}
 use Rattle.bib_chunks.specs.declared.chunk.Chunk.TheVariants.{Normal}
 use Rattle.bib_chunks.specs.Formatted.{flowing, space_after, is_unbroken}
@@ -26,6 +25,7 @@ use Rattle.bib_people.proofs.SurviveFacts.{some_words}
 use Rattle.bib_csl.specs.declared.item.NameParts.{NameParts}
 use Rattle.std.proofs.Math.Bool.{or-true}
 use Rattle.bib_from_csl.specs.PlainPeople.{IsPlainParts}
+use Rattle.bib_from_csl.specs.Values.{divides_lists, has_and}
 use Rattle.bib_from_csl.specs.WrittenPeople.{are_plain_words, begins_small, begins_with_small, extended_chunks, has_no_small_word, has_small_words, is_bibtex_name, is_nothing_or_words, is_one_word, is_plain_particle, is_plain_word, may_stand_in_name, particle, parts_chunks, plain_text_of, with_separator, words_in}
 
 -- ---- words
@@ -91,27 +91,35 @@ words_in_spaced : (words : List (List ℕ)) → AllWords is_name_byte words → 
 words_in_spaced [] all some = absurd (omega arith)
 words_in_spaced (word ∷ words) all some = split_spaced word words all
 
--- a word that isn't `and` by `is_word_and` differs from the text `and`
-not_and_word : (word : List ℕ) → is_word_and word ≡ false → bytes_eq word (codes "and") ≡ false
-not_and_word word other = of (bytes_eq word (codes "and")) refl where
-  of : (b : Bool) → bytes_eq word (codes "and") ≡ b → bytes_eq word (codes "and") ≡ false
-  of true is = absurd (false≢true (sym other ∙ ap is_word_and ((bytes_eq-Decides word (codes "and")).0 is)))
-  of false is = is
+-- the words of a text without the word `and`
+words_free : (text : List ℕ) (words : List (List ℕ)) → text ≡ spaced words → AllWords is_name_byte words → not (has_and text) ≡ true
+    → list_any divides_lists words ≡ false
+words_free text [] spell all free = refl
+words_free text (w ∷ ws) spell all free =
+    sym (ap (list_any divides_lists) (ap words_in spell ∙ words_in_spaced (w ∷ ws) all (omega arith)))
+    ∙ not-true (list_any divides_lists (words_in text)) free
 
 ascii_word : (word : List ℕ) → list_all is_name_byte word ≡ true → chars word ≡ word
 ascii_word word bytes = chars-IsAscii word (ascii_of is_name_byte name_small word bytes)
 
-plain_word : (word : List ℕ) → is_kept_word is_name_byte word ≡ true → is_plain_word word ≡ true
-plain_word word kept =
+plain_word : (word : List ℕ) → is_kept_word is_name_byte word ≡ true → divides_lists word ≡ false → is_plain_word word ≡ true
+plain_word word kept other =
     let k = kept_parts is_name_byte word kept in
     and_from (not (length word == 0)) _ (ap not k.some)
-    (and_from (not (bytes_eq word (codes "and"))) (list_all may_stand_in_name (chars word)) (ap not (not_and_word word k.other))
+    (and_from (not (divides_lists word)) (list_all may_stand_in_name (chars word)) (ap not other)
     (ap (list_all may_stand_in_name) (ascii_word word k.bytes) ∙ all_follow is_name_byte may_stand_in_name name_stands word k.bytes))
 
-plain_words : (words : List (List ℕ)) → AllWords is_name_byte words → 0 < length words → are_plain_words (spaced words) ≡ true
-plain_words words all some =
-    ap (list_all is_plain_word) (words_in_spaced words all some)
-    ∙ all_follow (is_kept_word is_name_byte) is_plain_word plain_word words all
+each_plain : (words : List (List ℕ)) → AllWords is_name_byte words → list_any divides_lists words ≡ false
+    → list_all is_plain_word words ≡ true
+each_plain [] all free = refl
+each_plain (w ∷ ws) all free =
+    let both = and_parts (is_kept_word is_name_byte w) (list_all (is_kept_word is_name_byte) ws) all in
+    let other = or_parts (divides_lists w) (list_any divides_lists ws) free in
+    and_from (is_plain_word w) (list_all is_plain_word ws) (plain_word w both.0 other.0) (each_plain ws both.1 other.1)
+
+plain_words : (words : List (List ℕ)) → AllWords is_name_byte words → list_any divides_lists words ≡ false → 0 < length words
+    → are_plain_words (spaced words) ≡ true
+plain_words words all free some = ap (list_all is_plain_word) (words_in_spaced words all some) ∙ each_plain words all free
 
 capital_word : (word : List ℕ) → is_kept_word is_capital_letter word ≡ true → begins_with_small word ≡ false
 capital_word [] kept = absurd (false≢true kept)
@@ -137,20 +145,23 @@ spaced_some [] all some = absurd (omega arith)
 spaced_some ([] ∷ ws) all some = absurd (false≢true all)
 spaced_some ((b ∷ bs) ∷ ws) all some = ne_eqb (suc (length (bs ++ after_words ws))) 0 (λ none. omega arith)
 
-nothing_or_plain : (words : List (List ℕ)) → AllWords is_name_byte words → is_nothing_or_words (spaced words) ≡ true
-nothing_or_plain [] all = refl
-nothing_or_plain (w ∷ ws) all = ap₂ (λ a b. a || b) (spaced_some (w ∷ ws) all (omega arith)) (plain_words (w ∷ ws) all (omega arith))
+nothing_or_plain : (words : List (List ℕ)) → AllWords is_name_byte words → list_any divides_lists words ≡ false
+    → is_nothing_or_words (spaced words) ≡ true
+nothing_or_plain [] all free = refl
+nothing_or_plain (w ∷ ws) all free =
+    ap₂ (λ a b. a || b) (spaced_some (w ∷ ws) all (omega arith)) (plain_words (w ∷ ws) all free (omega arith))
 
-plain_particle : (words : List (List ℕ)) → AllWords is_small_letter words → is_plain_particle (spaced words) ≡ true
-plain_particle [] all = refl
-plain_particle (w ∷ ws) all =
+plain_particle : (words : List (List ℕ)) → AllWords is_small_letter words → list_any divides_lists words ≡ false
+    → is_plain_particle (spaced words) ≡ true
+plain_particle [] all free = refl
+plain_particle (w ∷ ws) all free =
     let any = all_any is_small_letter (w ∷ ws) all in
     let small : has_small_words (spaced (w ∷ ws)) ≡ true =
     ap (list_all begins_with_small) (words_in_spaced (w ∷ ws) any (omega arith))
     ∙ all_follow (is_kept_word is_small_letter) begins_with_small small_word (w ∷ ws) all in
     ap₂ (λ a b. a || b) (spaced_some (w ∷ ws) any (omega arith))
     (and_from (are_plain_words (spaced (w ∷ ws))) (has_small_words (spaced (w ∷ ws)))
-    (plain_words (w ∷ ws) any (omega arith)) small)
+    (plain_words (w ∷ ws) any free (omega arith)) small)
 
 -- ---- a plain name in BibTeX's form
 
@@ -224,17 +235,29 @@ bibtex_name uses p k =
     let family = k.family.words in
     let any : AllWords is_name_byte family = all_any is_capital_letter family k.family.kept in
     let has_family = family_words uses p k in
-    let plain : are_plain_words p.family ≡ true = ap are_plain_words k.family.spell ∙ plain_words family any has_family in
+    let in_family = and_parts (not (has_and p.family)) _ k.no_and in
+    let in_given = and_parts (not (has_and p.given)) _ in_family.1 in
+    let in_suffix = and_parts (not (has_and p.suffix)) _ in_given.1 in
+    let in_prefix = and_parts (not (has_and (particle uses p))) true in_suffix.1 in
+    let plain : are_plain_words p.family ≡ true =
+    ap are_plain_words k.family.spell
+    ∙ plain_words family any (words_free p.family family k.family.spell any in_family.0) has_family in
     let large : has_no_small_word p.family ≡ true =
     ap has_no_small_word k.family.spell
     ∙ ap not
     (ap (list_any begins_with_small) (words_in_spaced family any has_family) ∙ no_small family k.family.kept) in
     let given : are_plain_words p.given ≡ true =
-    ap are_plain_words k.given_name.spell ∙ plain_words k.given_name.words k.given_name.kept (given_words uses p k) in
+    ap are_plain_words k.given_name.spell
+    ∙ plain_words k.given_name.words k.given_name.kept
+    (words_free p.given k.given_name.words k.given_name.spell k.given_name.kept in_given.0) (given_words uses p k) in
     let suffix : is_nothing_or_words p.suffix ≡ true =
-    ap is_nothing_or_words k.suffix.spell ∙ nothing_or_plain k.suffix.words k.suffix.kept in
+    ap is_nothing_or_words k.suffix.spell
+    ∙ nothing_or_plain k.suffix.words k.suffix.kept
+    (words_free p.suffix k.suffix.words k.suffix.spell k.suffix.kept in_suffix.0) in
     let prefix : is_plain_particle (particle uses p) ≡ true =
-    ap is_plain_particle k.prefix.spell ∙ plain_particle k.prefix.words k.prefix.kept in
+    ap is_plain_particle k.prefix.spell
+    ∙ plain_particle k.prefix.words k.prefix.kept
+    (words_free (particle uses p) k.prefix.words k.prefix.spell (all_any is_small_letter k.prefix.words k.prefix.kept) in_prefix.0) in
     let other : (length (particle (not uses) p) == 0) ≡ true = ap (λ t. length t == 0) k.no_other in
     and_from _ _ plain (and_from _ _ large (and_from _ _ given (and_from _ _ suffix (and_from _ _ prefix other))))
 

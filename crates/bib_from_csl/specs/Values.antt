@@ -1,9 +1,10 @@
 -- Meaning: words of public contracts.
 -- The values of fields. A value is a list of its bytes.
-use Rattle.std.specs.Prelude.{ℕ, Bool, ◌==◌, if◌then◌else◌, List, ◌++◌, codes, bytes_eq, encode_utf8}
+use Rattle.std.specs.Prelude.{ℕ, Bool, ◌==◌, if◌then◌else◌, List, ◌++◌, codes, encode_utf8}
 use Rattle.std.specs.List.{flat_map, list_any, slice_split}
 use Rattle.std.specs.Str.{chars}
 use Rattle.bib_text.specs.Characters as char
+use Rattle.bib_syntax.specs.Grammar.{is_word}
 use Rattle.bib_chunks.specs.declared.chunk.Chunk.TheVariants.{Normal}
 use Rattle.bib_chunks.specs.Values.{alone}
 use Rattle.bib_entry.specs.WrittenEntries.{value_bytes}
@@ -41,10 +42,14 @@ with_ties text = replaced tie (codes "~") (chars text)
 abbrev pub tagged_value : List ℕ → List ℕ
 tagged_value text = braced (with_ties (tagged_source text))
 
--- whether one of the words of a text is `and`; only spaces separate words
-abbrev pub has_and : List ℕ → Bool
-has_and text = list_any (bytes_eq (codes "and")) (slice_split (λ b. b == char.space) text)
+-- whether a word is `and` in any ASCII case. BibTeX and Biber divide lists of names at this word, and Biber divides other lists, too.
+abbrev pub divides_lists : List ℕ → Bool
+divides_lists word = is_word word (codes "and")
 
--- the value of a list field with this text as its only part: in another pair of braces if it contains the word `and`
+-- whether one of the words of a text is `and` in any ASCII case; only spaces separate words
+abbrev pub has_and : List ℕ → Bool
+has_and text = list_any divides_lists (slice_split (λ b. b == char.space) text)
+
+-- the value of a list field with this text as its only part: in another pair of braces if it contains the word `and` in any ASCII case
 unfoldable pub listed_value : List ℕ → List ℕ
 listed_value text = if has_and text then braced (tagged_value text) else tagged_value text

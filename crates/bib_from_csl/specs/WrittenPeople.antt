@@ -13,7 +13,7 @@ use Rattle.bib_chunks.specs.Written.{written_value}
 use Rattle.bib_csl.specs.declared.item.Name.{Name}
 use Rattle.bib_csl.specs.declared.item.Name.TheVariants.{Literal, Parts}
 use Rattle.bib_csl.specs.declared.item.NameParts.{NameParts}
-use Rattle.bib_from_csl.specs.Values.{tie, with_ties}
+use Rattle.bib_from_csl.specs.Values.{divides_lists, tie, with_ties}
 
 -- whether a character can be in a word of a name in BibTeX's format
 abbrev pub may_stand_in_name : ℕ → Bool
@@ -32,7 +32,7 @@ begins_with_small word = begins_small (chars word)
 
 -- whether a word can be in a name in BibTeX's format
 abbrev pub is_plain_word : List ℕ → Bool
-is_plain_word word = not (length word == 0) && (not (bytes_eq word (codes "and")) && list_all may_stand_in_name (chars word))
+is_plain_word word = not (length word == 0) && (not (divides_lists word) && list_all may_stand_in_name (chars word))
 
 -- the words of a text that single spaces separate
 abbrev pub words_in : List ℕ → List (List ℕ)

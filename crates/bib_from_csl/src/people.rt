@@ -49,7 +49,7 @@ fn has_plain_characters(word: &str) -> bool
 fn is_plain_word(word: &str) -> bool
     ensures { result ≡ spec.is_plain_word word.now }
 {
-    !word.is_empty() && word != "and" && has_plain_characters(word)
+    !word.is_empty() && !word.eq_ignore_ascii_case("and") && has_plain_characters(word)
 }
 
 // Returns whether a text consists of such words with single spaces between them.

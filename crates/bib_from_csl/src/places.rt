@@ -14,42 +14,83 @@ enum Bracket {
     Curly,
 }
 
-// The state after some tokens: the open brackets, and whether the value at the top has ended.
+// The state after some tokens: the open brackets, whether a key waits for its value, and whether the value at the top has ended.
 #[derive(Drop)]
 struct Nesting {
     open: Vec<Bracket>,
+    awaits_value: bool,
     is_over: bool,
 }
 
 impl Nesting {
+    // Returns the state before the first token.
+    fn new(alloc: Global) -> Self {
+        Nesting {
+            open: Vec::new(alloc),
+            awaits_value: false,
+            is_over: false,
+        }
+    }
+
+    // Returns whether the innermost open bracket is that of an object.
+    fn is_in_object(&self) -> bool {
+        self.open.last() == Some(&Bracket::Curly)
+    }
+
+    // Begins a value. Returns whether a value may be here: in an object only after a key.
+    fn begin_value(&mut self) -> bool {
+        let may_begin = self.awaits_value || !self.is_in_object();
+        self.awaits_value = false;
+        may_begin
+    }
+
     // Ends a value.
     fn end_value(&mut self) {
         self.is_over = self.open.is_empty();
     }
 
-    // Ends an array or an object. Returns whether the innermost open bracket was of this kind.
-    fn close(&mut self, bracket: Bracket) -> bool {
-        let is_open = self.open.pop() == Some(bracket);
-        self.end_value();
-        is_open
+    // Begins an array or an object. Returns whether a value may be here.
+    fn begin(&mut self, bracket: Bracket) -> Result<bool, AllocError> {
+        let may_begin = self.begin_value();
+        self.open.push(bracket)?;
+        Ok(may_begin)
     }
 
-    // Records a token. Returns false for `Bad`, for a token after the value at the top, and for a key outside an object. Returns false also
-    // for a bracket that doesn't close the innermost open one. Whether keys and values alternate in an object isn't tested.
+    // Ends an array or an object. Returns whether the innermost open bracket was of this kind, and no key waits for its value.
+    fn end(&mut self, bracket: Bracket) -> bool {
+        let is_open = self.open.pop() == Some(bracket);
+        self.end_value();
+        is_open && !self.awaits_value
+    }
+
+    // Records a value without brackets. Returns whether a value may be here.
+    fn value(&mut self) -> bool {
+        let may_begin = self.begin_value();
+        self.end_value();
+        may_begin
+    }
+
+    // Records a key. Returns whether a key may be here: only in an object, and not after another key.
+    fn key(&mut self) -> bool {
+        let may_stand = self.is_in_object() && !self.awaits_value;
+        self.awaits_value = true;
+        may_stand
+    }
+
+    // Records a token. Returns false for a token that can't be here, for a token after the value at the top, and for `Bad`.
     fn pass(&mut self, token: &Token<'_>) -> Result<bool, AllocError> {
         if self.is_over {
             return Ok(false);
         }
         match token {
-            Token::BeginArray => self.open.push(Bracket::Square)?,
-            Token::BeginObject => self.open.push(Bracket::Curly)?,
-            Token::EndArray => return Ok(self.close(Bracket::Square)),
-            Token::EndObject => return Ok(self.close(Bracket::Curly)),
-            Token::Key(_) => return Ok(self.open.last() == Some(&Bracket::Curly)),
-            Token::Bad => return Ok(false),
-            Token::String(_) | Token::Number(_) | Token::Bool(_) | Token::Null => self.end_value(),
+            Token::BeginArray => self.begin(Bracket::Square),
+            Token::BeginObject => self.begin(Bracket::Curly),
+            Token::EndArray => Ok(self.end(Bracket::Square)),
+            Token::EndObject => Ok(self.end(Bracket::Curly)),
+            Token::Key(_) => Ok(self.key()),
+            Token::Bad => Ok(false),
+            Token::String(_) | Token::Number(_) | Token::Bool(_) | Token::Null => Ok(self.value()),
         }
-        Ok(true)
     }
 }
 
@@ -60,17 +101,14 @@ fn inside(place: usize, end: usize) -> usize
     place.min(end)
 }
 
-/// Returns the byte offset at which a text stops being JSON: its end if it is cut off. A missing key or value in an object and too deep
-/// nesting aren't found, so the result is a later place for them: the end of the text if it has no other fault.
+/// Returns the byte offset at which a text stops being JSON: its end if it is cut off. Too deep nesting isn't found, so the result is a
+/// later place for it: the end of the text if it has no other fault.
 pub(crate) fn place_of_fault(alloc: Global, text: &str) -> Result<usize, AllocError>
     ensures { IfOk result (λ place. place ≤ length text.now) }
 {
     let mut scratch = Scratch::new(alloc);
     let mut reader = Reader::new(text, &mut scratch)?;
-    let mut nesting = Nesting {
-        open: Vec::new(alloc),
-        is_over: false,
-    };
+    let mut nesting = Nesting::new(alloc);
     let mut place = reader.offset();
     'tokens: while let Some(token) = reader.next() {
         if matches!(token, Token::Bad) {
@@ -90,10 +128,7 @@ pub(crate) fn place_of_element(alloc: Global, text: &str, index: usize) -> Resul
 {
     let mut scratch = Scratch::new(alloc);
     let mut reader = Reader::new(text, &mut scratch)?;
-    let mut nesting = Nesting {
-        open: Vec::new(alloc),
-        is_over: false,
-    };
+    let mut nesting = Nesting::new(alloc);
     let mut place = reader.offset();
     let mut left = index;
     'tokens: while let Some(token) = reader.next() {

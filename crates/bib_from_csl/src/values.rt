@@ -87,18 +87,19 @@ pub(crate) fn tagged_value(alloc: Global, text: &str) -> Result<Text, AllocError
     braced(alloc, tied.as_str())
 }
 
-// Returns whether one of the words of a text is `and`. Only spaces separate words.
+// Returns whether one of the words of a text is `and` in any ASCII case. Only spaces separate words.
 pub(crate) fn has_and(text: &str) -> bool
     ensures { result ≡ spec.has_and text.now }
 {
     let mut found = false;
     'words: for word in text.split(' ') {
-        found = found || word == "and";
+        found = found || word.eq_ignore_ascii_case("and");
     }
     found
 }
 
-// Returns the value of a list field with this text as its only part: in another pair of braces if it contains the word `and`.
+// Returns the value of a list field with this text as its only part: in another pair of braces if it contains the word `and` in any
+// ASCII case.
 #[tactic(auto, unfolding(crate::specs::Values::listed_value))]
 pub(crate) fn listed_value(alloc: Global, text: &str) -> Result<Text, AllocError>
     ensures { IfOk result (λ value. value ≡ spec.listed_value text.now) }

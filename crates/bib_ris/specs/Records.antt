@@ -4,7 +4,7 @@ use Rattle.std.specs.Prelude.{ℕ, if◌then◌else◌, List, [], ◌++◌, code
 use Rattle.bib_csl.specs.Identifiers.{archive_text, bare_doi, url_of}
 use Rattle.bib_csl.specs.Notes.{language_of, language_value}
 use Rattle.bib_csl.specs.Publishing.{genre_of, publisher_of}
-use Rattle.bib_csl.specs.Texts.{either, field, joined_by_mark, listed_field, shown_field}
+use Rattle.bib_csl.specs.Texts.{either, field, joined_by_mark, listed_field, series_named, shown_field}
 use Rattle.bib_chunks.specs.Values.{Value}
 use Rattle.bib_entry.specs.Fields.{field_or}
 use Rattle.bib_entry.specs.declared.entry.Entry.{Entry}
@@ -80,7 +80,7 @@ unfoldable pub titles_part : Entry → List ℕ
 titles_part entry =
     given_line (codes "TI") (work_title entry)
     ++ (given_line (codes "ST") (bare_named entry (codes "shorttitle"))
-    ++ (host_part entry ++ given_line (codes "T3") (bare_named entry (codes "series"))))
+    ++ (host_part entry ++ given_line (codes "T3") (series_named (bare_named entry (codes "series")))))
 
 -- ---- numbers
 

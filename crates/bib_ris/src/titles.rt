@@ -2,12 +2,14 @@
 
 ghost use Rattle.std.specs.Prelude.{◌≡◌, ◌++◌, codes, IfOk, OnOk};
 ghost use Rattle.std.specs.String.{string_bytes};
+ghost use Rattle.bib_csl.specs.Texts.{series_named};
+ghost use Rattle.bib_ris.specs.Bare.{bare_named};
 ghost use Rattle.bib_ris.specs.Lines.{given_line};
 ghost use Rattle.bib_ris.specs.Records as spec;
 
 use crate::fields::{bare_named, bare_named_or, push_field};
 use crate::lines::push_given;
-use bib_csl::texts::{either, joined_by_mark};
+use bib_csl::texts::{either, joined_by_mark, series_named};
 use bib_entry::entry::Entry;
 use bib_text::text::Text;
 use std::alloc::{AllocError, Global};
@@ -134,6 +136,15 @@ fn push_host(out: &mut String, alloc: Global, entry: &Entry) -> Result<(), Alloc
     push_field(out, alloc, entry, "JA", "shortjournal")
 }
 
+// Appends the line of the title of the series.
+fn push_series(out: &mut String, alloc: Global, entry: &Entry) -> Result<(), AllocError>
+    ensures { OnOk result (string_bytes out.new ≡ string_bytes out.old
+        ++ given_line (codes "T3") (series_named (bare_named entry.now (codes "series")))) }
+{
+    let series = series_named(alloc, bare_named(alloc, entry, "series")?)?;
+    push_given(out, "T3", series.as_str())
+}
+
 /// Appends the lines of the title, its short form, the titles of the container of the work, and the title of the series.
 #[tactic(auto, unfolding(crate::specs::Records::titles_part))]
 pub(crate) fn push_titles(out: &mut String, alloc: Global, entry: &Entry) -> Result<(), AllocError>
@@ -142,5 +153,5 @@ pub(crate) fn push_titles(out: &mut String, alloc: Global, entry: &Entry) -> Res
     push_work_title(out, alloc, entry)?;
     push_field(out, alloc, entry, "ST", "shorttitle")?;
     push_host(out, alloc, entry)?;
-    push_field(out, alloc, entry, "T3", "series")
+    push_series(out, alloc, entry)
 }
