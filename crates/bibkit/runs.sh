@@ -1786,7 +1786,7 @@ printf '[{"id":"c","type":"thesis","publisher":"U"}]' >thesis.json
 run 'entries of BibTeX' 0 $'@phdthesis{c,\n  school = {U},\n}\n' convert --from csl --to bibtex thesis.json
 run_messages 'what no field has' 0 $'items.json: note: `a b`: `id` is changed: its field reads back as another value\nitems.json: note: `a b`: `medium` is left out: no field for it\n' convert --from csl --to biblatex items.json
 printf '[\n  {"id": "a", "type": "book"},\n  {"type": "book"}\n]\n' >noid.json
-run_messages 'an item without an id' 1 $'noid.json:3:3: error: expected a text or a number as the `id` of the item\n' convert --from csl --to biblatex noid.json
+run_messages 'an item without an id' 1 $'noid.json:3:3: error: expected a text or a number as the `citation-key`, the `id` or the `DOI` of the item\n' convert --from csl --to biblatex noid.json
 printf '[\n  {"id": "a",}\n]\n' >nojson.json
 run_messages 'a file that is no JSON' 1 $'nojson.json:2:14: error: expected JSON\n' convert --from csl --to biblatex nojson.json
 run_messages 'items that go nowhere' 2 $'bibkit: `--from csl` requires `--to biblatex` or `--to bibtex`\n' convert --from csl --to ris items.json
@@ -1794,6 +1794,18 @@ printf '[{"id":"a","type":"document"}]' >one.json
 run 'a file that is not there, and items' 2 $'@misc{a,\n}\n' convert --from csl --to biblatex nothing.json one.json
 printf '[]' >noitems.json
 run 'no items' 0 '' convert --from csl --to biblatex noitems.json
+run_messages 'no items: it says so' 0 $'noitems.json: note: no items\n' convert --from csl --to biblatex noitems.json
+# without --from, the ending of a name decides
+run 'a file of items by its ending' 0 $'@thesis{c,\n  institution = {U},\n}\n' convert --to biblatex thesis.json
+run 'a file of entries in spite of its ending' 0 '[{"id":"c","type":"thesis","publisher":"U"}]' convert --from bib --to biblatex thesis.json
+run_messages 'no entry: it says so' 0 $'thesis.json: note: no entry\n' convert --from bib --to biblatex thesis.json
+run_messages 'files of both kinds' 2 $'bibkit: files that end in `.json` can\'t be converted together with others\n' convert --to biblatex thesis.json a.bib
+printf 'Only a text.\n' >text.bib
+run_messages 'no entry to print' 0 $'bibkit: note: no entry to print\n' convert --to csl text.bib
+# one item, as doi.org returns it
+printf '{"score":1,"DOI":"10.1/x","type":"article-journal","title":"T","source":"Crossref","member":"2","ISSN":["1745-2473","1745-2481"]}' >doi.json
+run 'one item from doi.org' 0 $'@article{10.1/x,\n  doi = {10.1/x},\n  title = {T},\n  issn = {1745-2473, 1745-2481},\n}\n' convert --to biblatex doi.json
+run_messages 'what it lacks, in one line' 0 $'doi.json: note: `10.1/x`: `score`, `source`, `member` are left out: no fields for them\n' convert --to biblatex doi.json
 
 run 'no format' 2 '' convert a.bib
 run 'a wrong format' 2 '' convert --to xml a.bib

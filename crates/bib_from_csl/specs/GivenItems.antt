@@ -74,9 +74,28 @@ abbrev pub of_text : List ℕ → Option (List ℕ) → Option Given
 of_text name None = None
 of_text name (Some text) = member_with name (Some (content.Text (content_text name text))) true
 
+-- the text of an element of an array, after a comma and a space unless it is the first
+abbrev pub next_part : Bool → List ℕ → List ℕ
+next_part first text = if first then text else codes ", " ++ text
+
+-- the text of an element before those of others; `None` if one of them is neither a text nor a number
+abbrev pub before_parts : Bool → Option (List ℕ) → Option (List ℕ) → Option (List ℕ)
+before_parts first None rest = None
+before_parts first (Some text) None = None
+before_parts first (Some text) (Some rest) = Some (next_part first text ++ rest)
+
+-- the texts of elements with a comma and a space before each, but not before a first one; `None` if one is neither a text nor a number
+abbrev pub joined_from : Bool → List Json → Option (List ℕ)
+joined_from first [] = Some []
+joined_from first (j ∷ js) = before_parts first (text_in j) (joined_from false js)
+
+-- a text or a number, or the texts of an array with a comma and a space between them, as in the `ISSN` of items from doi.org
+abbrev pub text_or_texts : Json → Option (List ℕ)
+text_or_texts j = option_map_or (joined_from true) (array_elements j) (text_in j)
+
 -- a variable of a text; `None` if the value has another form
 unfoldable pub text_member : List ℕ → Json → Option Given
-text_member name j = of_text name (text_in j)
+text_member name j = of_text name (text_or_texts j)
 
 -- a member; `None` if it doesn't have the form of its variable
 unfoldable pub member_of : List ℕ → Json → Option Given
@@ -86,9 +105,14 @@ member_of name j =
     else if is_text name then text_member name j
     else member_with name None false
 
--- whether a member is `id` or `type`
-abbrev pub is_head : List ℕ → Bool
-is_head name = bytes_eq name (codes "id") || bytes_eq name (codes "type")
+-- whether a value is a text or a number that is written so
+abbrev pub has_text : List ℕ → Json → Bool
+has_text text j = option_map_or (λ found. bytes_eq found text) (text_in j) false
+
+-- whether a member is `type`, or `citation-key` or `id` with this text
+abbrev pub is_head : List ℕ → List ℕ → Json → Bool
+is_head id name j =
+    if bytes_eq name (codes "citation-key") || bytes_eq name (codes "id") then has_text id j else bytes_eq name (codes "type")
 
 -- a member before others, unless one of them has a wrong form
 abbrev pub before_fields : Option Given → Option (List Given) → Option (List Given)
@@ -96,30 +120,48 @@ before_fields None rest = None
 before_fields (Some field) None = None
 before_fields (Some field) (Some fields) = Some (field ∷ fields)
 
--- the members except `id` and `type`; `None` if one of them has a wrong form
-abbrev pub members_read : List (List ℕ × Json) → Option (List Given)
-members_read [] = Some []
-members_read (m ∷ ms) = if is_head m.0 then members_read ms else before_fields (member_of m.0 m.1) (members_read ms)
+-- the members except `type`, and except `citation-key` and `id` with this text; `None` if one of them has a wrong form
+abbrev pub members_read : List ℕ → List (List ℕ × Json) → Option (List Given)
+members_read id [] = Some []
+members_read id (m ∷ ms) = if is_head id m.0 m.1 then members_read id ms else before_fields (member_of m.0 m.1) (members_read id ms)
 
--- the item with this `id`, this type and these members, unless one of them has a wrong form
-abbrev pub item_with : List ℕ → List ℕ → Option (List Given) → ItemReading
-item_with id kind None = Unfit fault.WrongForm
-item_with id kind (Some fields) = Says (record { id = id; kind = kind; fields = fields })
+-- the item whose key comes from the member with this name and this text, with this type and these members, unless one of them has a wrong
+-- form
+abbrev pub item_with : List ℕ → List ℕ → List ℕ → Option (List Given) → ItemReading
+item_with name id kind None = Unfit fault.WrongForm
+item_with name id kind (Some fields) = Says (record { key_member = name; id = id; kind = kind; fields = fields })
 
--- the item with this `id`, this type and the members of this object
-abbrev pub item_of_members : List ℕ → List ℕ → List (List ℕ × Json) → ItemReading
-item_of_members id kind ms = item_with id kind (members_read ms)
+-- the item whose key comes from the member with this name and this text, with this type and the members of this object
+abbrev pub item_of_members : List ℕ → List ℕ → List ℕ → List (List ℕ × Json) → ItemReading
+item_of_members name id kind ms = item_with name id kind (members_read id ms)
 
--- the item of an object with these members; the last two arguments are the values of its members `id` and `type`
-abbrev pub item_of_parts : Option (List (List ℕ × Json)) → Option (List ℕ) → Option (List ℕ) → ItemReading
-item_of_parts None id kind = Unfit fault.NotAnObject
-item_of_parts (Some ms) None kind = Unfit fault.NoId
-item_of_parts (Some ms) (Some id) None = Unfit fault.NoType
-item_of_parts (Some ms) (Some id) (Some kind) = item_of_members id kind ms
+-- the item of an object with these members; the last two arguments are the text of the member with this name and the type
+abbrev pub item_of_parts : List (List ℕ × Json) → List ℕ → Option (List ℕ) → Option (List ℕ) → ItemReading
+item_of_parts ms name None kind = Unfit fault.NoId
+item_of_parts ms name (Some id) None = Unfit fault.NoType
+item_of_parts ms name (Some id) (Some kind) = item_of_members name id kind ms
+
+-- the name of the first of the members `citation-key`, `id` and `DOI` that is a text or a number
+abbrev pub key_member : Json → Option (List ℕ)
+key_member j =
+    if is_some (text_under (codes "citation-key") j) then Some (codes "citation-key")
+    else if is_some (text_under (codes "id") j) then Some (codes "id")
+    else if is_some (text_under (codes "DOI") j) then Some (codes "DOI")
+    else None
+
+-- the item of an object with these members, whose key comes from the member with this name
+abbrev pub item_keyed : Json → List (List ℕ × Json) → Option (List ℕ) → ItemReading
+item_keyed j ms None = Unfit fault.NoId
+item_keyed j ms (Some name) = item_of_parts ms name (text_under name j) (string_under (codes "type") j)
+
+-- the item of an object with these members, or the fault of a value that is none
+abbrev pub item_of_object : Json → Option (List (List ℕ × Json)) → ItemReading
+item_of_object j None = Unfit fault.NotAnObject
+item_of_object j (Some ms) = item_keyed j ms (key_member j)
 
 -- the item of an element, or the fault
 abbrev pub item_in : Json → ItemReading
-item_in j = item_of_parts (object_members j) (text_under (codes "id") j) (string_under (codes "type") j)
+item_in j = item_of_object j (object_members j)
 
 -- an item, by the index of its element, before others; the first fault counts
 abbrev pub before_items : ℕ → ItemReading → ItemsReading → ItemsReading
@@ -132,9 +174,19 @@ abbrev pub items_read_from : ℕ → List Json → ItemsReading
 items_read_from index [] = Are []
 items_read_from index (j ∷ js) = before_items index (item_in j) (items_read_from (index + 1) js)
 
--- the items of a JSON value, or the first fault
+-- an item as the only one, or the fault; a value that is no object has another fault, since it is no array either
+abbrev pub as_only : ItemReading → ItemsReading
+as_only (Says item) = Are (item ∷ [])
+as_only (Unfit fault.NotAnObject) = Refused 0 fault.NotAnArray
+as_only (Unfit other) = Refused 0 other
+
+-- the item of an object as the only item, or the fault
+abbrev pub only_item : Json → ItemsReading
+only_item j = as_only (item_in j)
+
+-- the items of a JSON value, or the first fault: an array of items, or one item
 abbrev pub items_in : Json → ItemsReading
-items_in j = option_map_or (items_read_from 0) (array_elements j) (Refused 0 fault.NotAnArray)
+items_in j = option_map_or (items_read_from 0) (array_elements j) (only_item j)
 
 -- the items in a text of CSL-JSON, or the first fault
 unfoldable pub items_read : List ℕ → ItemsReading

@@ -77,12 +77,13 @@ member_loss work id fields given = loss id given.name (loss_of work fields given
 -- the losses of `item`; `read` is the item that its entry is converted back to
 unfoldable pub item_losses : GivenItem → Item → List Loss
 item_losses item read =
-    loss item.id (codes "id") (text_loss item.id read.id) ++ (loss item.id (codes "type") (text_loss item.kind (item_type_name read.kind))
+    loss item.id item.key_member (text_loss item.id read.id)
+    ++ (loss item.id (codes "type") (text_loss item.kind (item_type_name read.kind))
     ++ flat_map (member_loss (work_for_item item) item.id read.fields) item.fields)
 
--- the losses of an item with this entry; without one, the only loss is `NoField` for the member `id`
+-- the losses of an item with this entry; without one, the only loss is `NoField` for the member that the key comes from
 abbrev pub losses_in : GivenItem → Option Entry → List Loss
-losses_in item None = loss item.id (codes "id") (Some NoField)
+losses_in item None = loss item.id item.key_member (Some NoField)
 losses_in item (Some entry) = item_losses item (item_of_entry entry)
 
 -- the first of some entries

@@ -29,18 +29,18 @@ pub struct Converted {
 pub struct Refusal {
     /// The reason.
     pub fault: Fault,
-    /// The index of the element at fault; 0 if the text isn't JSON, or is no array.
+    /// The index of the element at fault; 0 if the text isn't JSON, or is no array of items.
     pub element: usize,
-    /// The byte offset of the fault: the start of that element, or the place at which the text stops being JSON. The places of a missing
-    /// key or value in an object and of too deep nesting aren't found. For these, it is the place of a later fault, or else the end of the
-    /// text. For JSON that is no array, it is the start of the value.
+    /// The byte offset of the fault: the start of that element, or the place at which the text stops being JSON. For JSON that is no array,
+    /// it is the start of the value. The place of too deep nesting isn't found. For this fault, it is the place of a later fault, or else
+    /// the end of the text.
     pub at: usize,
 }
 
 /// The reason why a text can't be converted to entries.
 #[derive(Debug, Drop)]
 pub enum ItemsError {
-    /// An element of the text can't be converted, the text isn't a JSON array, or the entries of two items have one key.
+    /// An element of the text can't be converted, the text is neither a JSON array nor an object, or the entries of two items have one key.
     Refused(Refusal),
     /// The source of the entries can't be parsed, for this reason.
     NotRead(ParseError),
@@ -96,14 +96,23 @@ fn items_of(alloc: Global, text: &str) -> Result<ItemsReading, AllocError>
     }
 }
 
+// Returns whether a JSON text is an array.
+fn is_array(text: &str) -> bool {
+    text.trim_start().starts_with('[')
+}
+
 // Returns the byte offset of a fault.
 fn place_of(alloc: Global, text: &str, element: usize, fault: Fault) -> Result<usize, AllocError>
     ensures { IfOk result (λ place. place ≤ length text.now) }
 {
     match fault {
         Fault::NotJson => place_of_fault(alloc, text),
-        Fault::NotAnArray => Ok(text.len() - text.trim_start().len()),
-        _ => place_of_element(alloc, text, element),
+        _ => {
+            if is_array(text) {
+                return place_of_element(alloc, text, element);
+            }
+            Ok(text.len() - text.trim_start().len())
+        }
     }
 }
 
@@ -155,13 +164,14 @@ fn unread(
     Ok(ItemsError::NotRead(error))
 }
 
-/// Converts the items of a text of CSL-JSON to BibLaTeX entries, one for each item, in order. Also returns the members of items that the
-/// entries lack or change. To find them, the source of the entries is parsed, and each entry is converted back to an item. Each member
+/// Converts the items of a text of CSL-JSON to BibLaTeX entries, one for each item, in order. The text is an array of items, or one item,
+/// such as those from doi.org. Also returns the members of items that the entries lack or change. To find them, the source of the entries is parsed, and each entry is converted back to an item. Each member
 /// that isn't empty is compared with this item.
 ///
 /// # Errors
 ///
-/// `Refused` if an element of the text can't be converted, the text isn't a JSON array, or the entries of two items have one key;
+/// `Refused` if an element of the text can't be converted, the text is neither a JSON array nor an object, or the entries of two items have
+/// one key;
 /// `NotRead` if the source of the entries can't be parsed for another reason; `OutOfMemory` if memory runs out.
 pub fn entries_of(alloc: Global, json: &str) -> Result<Converted, ItemsError>
     ensures made { IfOk result (spec.AreEntriesOf json.now) }

@@ -7,11 +7,13 @@ use bib_text::text::Text;
 /// A parsed item.
 #[derive(Debug, Drop)]
 pub struct GivenItem {
-    /// The value of the member `id`.
+    /// The name of the member that the key of the entry comes from: `citation-key`, or else `id`, or else `DOI`.
+    pub key_member: Text,
+    /// The text of that member.
     pub id: Text,
     /// The value of the member `type`.
     pub kind: Text,
-    /// The other members.
+    /// The other members, including `citation-key` and `id` with another text.
     pub fields: Items<Given>,
 }
 

@@ -18,7 +18,7 @@ use std::alloc::{AllocError, Global};
 /// A member of an item that its entry lacks or changes.
 #[derive(Debug, Drop)]
 pub struct Loss {
-    /// The `id` of the item.
+    /// The text that the key of the item's entry comes from.
     pub id: Text,
     /// The name of the member.
     pub name: Text,
@@ -179,7 +179,8 @@ fn push_item(
 {
     let id = item.id.as_str();
     let work = work_of(item);
-    push_loss(alloc, losses, id, "id", change_of(id, read.id.as_str()))?;
+    let key_member = item.key_member.as_str();
+    push_loss(alloc, losses, id, key_member, change_of(id, read.id.as_str()))?;
     push_loss(
         alloc,
         losses,
@@ -190,7 +191,8 @@ fn push_item(
     push_members(alloc, losses, &work, item, read)
 }
 
-// Appends the losses of `item`. `entry` is its entry; without one, the only loss is `NoField` for the member `id`.
+// Appends the losses of `item`. `entry` is its entry; without one, the only loss is `NoField` for the member that the key
+// comes from.
 fn push_losses(
     alloc: Global,
     losses: &mut Items<Loss>,
@@ -208,7 +210,7 @@ fn push_losses(
             alloc,
             losses,
             item.id.as_str(),
-            "id",
+            item.key_member.as_str(),
             Some(LossKind::NoField),
         ),
     }

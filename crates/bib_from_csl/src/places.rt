@@ -101,8 +101,9 @@ fn inside(place: usize, end: usize) -> usize
     place.min(end)
 }
 
-/// Returns the byte offset at which a text stops being JSON: its end if it is cut off. Too deep nesting isn't found, so the result is a
-/// later place for it: the end of the text if it has no other fault.
+/// Returns the byte offset at which a text stops being JSON: its end if it is cut off. For a text without the colon after a key, or with a
+/// colon after another text, it is the start of this text. Too deep nesting isn't found, so the result is a later place for it: the end of
+/// the text if it has no other fault.
 pub(crate) fn place_of_fault(alloc: Global, text: &str) -> Result<usize, AllocError>
     ensures { IfOk result (λ place. place ≤ length text.now) }
 {

@@ -1,6 +1,6 @@
 //! Parses the objects of CSL-JSON as items.
 
-ghost use Rattle.std.specs.Prelude.{◌≡◌, ◌==◌, map, IfOk, IfSome, is_some};
+ghost use Rattle.std.specs.Prelude.{◌≡◌, ◌==◌, ◌++◌, map, true, IfOk, IfSome, OnOk, is_some};
 ghost use Rattle.std.specs.List.{before_first, after_first};
 ghost use Rattle.std.specs.Option.{option_map};
 ghost use Rattle.bib_dates.specs.Dates.{holds as has_byte};
@@ -25,15 +25,15 @@ use std::alloc::{AllocError, Global};
 pub enum Fault {
     /// The text isn't JSON, or its nesting is too deep.
     NotJson,
-    /// The text is JSON, but no array.
+    /// The text is JSON, but neither an array nor an object.
     NotAnArray,
     /// An element is no object.
     NotAnObject,
-    /// An item has no `id` that is a text or a number.
+    /// An item has none of the members `citation-key`, `id` and `DOI` that is a text or a number.
     NoId,
     /// An item has no `type` that is a text.
     NoType,
-    /// A variable of an item doesn't have the form that CSL requires: a text or a number, names, or a date.
+    /// A variable of an item has another form than a text or a number, an array of these, names, or a date.
     WrongForm,
     /// The entries of two items have one key.
     KeyTwice,
@@ -53,7 +53,7 @@ pub enum ItemReading {
 pub enum ItemsReading {
     /// The items.
     Are(Items<GivenItem>),
-    /// The index of the first element that isn't an item, or 0 if the text isn't a JSON array, and the reason.
+    /// The index of the first element that isn't an item, or 0 if the text is neither a JSON array nor an object, and the reason.
     Refused(usize, Fault),
 }
 
@@ -159,15 +159,55 @@ fn date_member(alloc: Global, name: &str, value: &Value<'_>) -> Result<Option<Gi
     }
 }
 
+// Appends the text of an element, after a comma and a space unless it is the first.
+fn push_part(joined: &mut Text, is_first: bool, text: &str) -> Result<(), AllocError>
+    ensures { OnOk result (joined.new ≡ joined.old ++ spec.next_part is_first text.now) }
+{
+    if !is_first {
+        joined.push_str(", ")?;
+    }
+    joined.push_str(text)
+}
+
+// Returns the texts of elements with a comma and a space between them, or `None` if an element is neither a text nor a number.
+fn joined_texts(alloc: Global, values: &[Value<'_>]) -> Result<Option<Text>, AllocError>
+    ensures { IfOk result (λ joined. joined ≡ spec.joined_from true (map value_view values.now)) }
+{
+    let mut joined = Text::new(alloc);
+    let mut is_first = true;
+    'elements: for value in values {
+        let Some(text) = text_in(value) else {
+            return Ok(None);
+        };
+        push_part(&mut joined, is_first, text)?;
+        is_first = false;
+    }
+    Ok(Some(joined))
+}
+
+// Returns a text or a number, or the texts of an array with a comma and a space between them, as in the `ISSN` of items from doi.org.
+// Returns `None` for another form.
+fn text_or_texts(alloc: Global, value: &Value<'_>) -> Result<Option<Text>, AllocError>
+    ensures { IfOk result (λ text. text ≡ spec.text_or_texts (value_view value.now)) }
+{
+    if let Some(values) = elements(value) {
+        return joined_texts(alloc, values);
+    }
+    match text_in(value) {
+        Some(text) => Ok(Some(Text::from_str(alloc, text)?)),
+        None => Ok(None),
+    }
+}
+
 // Returns a variable of a text, or `None` if the value has another form.
 #[tactic(auto, unfolding(crate::specs::GivenItems::text_member))]
 fn text_member(alloc: Global, name: &str, value: &Value<'_>) -> Result<Option<Given>, AllocError>
     ensures { IfOk result (λ member. member ≡ spec.text_member name.now (value_view value.now)) }
 {
-    let Some(text) = text_in(value) else {
+    let Some(text) = text_or_texts(alloc, value)? else {
         return Ok(None);
     };
-    let text = content_text(alloc, name, text)?;
+    let text = content_text(alloc, name, text.as_str())?;
     given(alloc, name, Some(Content::Text(text)), true)
 }
 
@@ -188,24 +228,39 @@ fn member_of(alloc: Global, name: &str, value: &Value<'_>) -> Result<Option<Give
     given(alloc, name, None, false)
 }
 
-// Returns whether a member is `id` or `type`.
-fn is_head(name: &str) -> bool
-    ensures { result ≡ spec.is_head name.now }
+// Returns whether a value is a text or a number that is written so.
+fn has_text(text: &str, value: &Value<'_>) -> bool
+    ensures { result ≡ spec.has_text text.now (value_view value.now) }
 {
-    matches!(name, "id" | "type")
+    match text_in(value) {
+        Some(found) => found == text,
+        None => false,
+    }
 }
 
-// Returns the members except `id` and `type`, or `None` if one doesn't have the form of its variable.
+// Returns whether a member is `type`, or `citation-key` or `id` with this text.
+fn is_head(id: &str, name: &str, value: &Value<'_>) -> bool
+    ensures { result ≡ spec.is_head id.now name.now (value_view value.now) }
+{
+    if matches!(name, "citation-key" | "id") {
+        return has_text(id, value);
+    }
+    name == "type"
+}
+
+// Returns the members except `type`, and except `citation-key` and `id` with this text. Returns `None` if one doesn't have the form of its
+// variable.
 fn fields_of(
     alloc: Global,
+    id: &str,
     members: &[(&str, Value<'_>)],
 ) -> Result<Option<Items<Given>>, AllocError>
-    ensures { IfOk result (λ fields. fields ≡ spec.members_read (map (λ m. (m.0.now, value_view m.1)) members.now)) }
+    ensures { IfOk result (λ fields. fields ≡ spec.members_read id.now (map (λ m. (m.0.now, value_view m.1)) members.now)) }
 {
     let mut fields = Items::new(alloc);
     'members: for member in members {
         let name = member.0;
-        if is_head(name) {
+        if is_head(id, name, &member.1) {
             continue 'members;
         }
         match member_of(alloc, name, &member.1)? {
@@ -216,23 +271,42 @@ fn fields_of(
     Ok(Some(fields))
 }
 
-// Returns the item with these members, or the fault.
+// Returns the item with these members, or the fault. `id` is the text of the member `key_member`.
 fn item_of_members(
     alloc: Global,
+    key_member: &str,
     id: &str,
     kind: &str,
     members: &[(&str, Value<'_>)],
 ) -> Result<ItemReading, AllocError>
-    ensures { IfOk result (λ reading. reading ≡ spec.item_of_members id.now kind.now (map (λ m. (m.0.now, value_view m.1)) members.now)) }
+    ensures { IfOk result (λ reading. reading ≡ spec.item_of_members key_member.now id.now kind.now
+        (map (λ m. (m.0.now, value_view m.1)) members.now)) }
 {
-    match fields_of(alloc, members)? {
+    match fields_of(alloc, id, members)? {
         Some(fields) => Ok(ItemReading::Says(GivenItem {
+            key_member: Text::from_str(alloc, key_member)?,
             id: Text::from_str(alloc, id)?,
             kind: Text::from_str(alloc, kind)?,
             fields,
         })),
         None => Ok(ItemReading::Unfit(Fault::WrongForm)),
     }
+}
+
+// Returns the name of the first of the members `citation-key`, `id` and `DOI` that is a text or a number, or `None` if none is.
+fn key_member(value: &Value<'_>) -> Option<&'static str>
+    ensures { option_map (λ name. name.now) result ≡ spec.key_member (value_view value.now) }
+{
+    if text_under(value, "citation-key").is_some() {
+        return Some("citation-key");
+    }
+    if text_under(value, "id").is_some() {
+        return Some("id");
+    }
+    if text_under(value, "DOI").is_some() {
+        return Some("DOI");
+    }
+    None
 }
 
 // Returns the item of an element, or the fault.
@@ -242,13 +316,16 @@ fn item_in(alloc: Global, value: &Value<'_>) -> Result<ItemReading, AllocError>
     let Some(members) = members(value) else {
         return Ok(ItemReading::Unfit(Fault::NotAnObject));
     };
-    let Some(id) = text_under(value, "id") else {
+    let Some(key_member) = key_member(value) else {
+        return Ok(ItemReading::Unfit(Fault::NoId));
+    };
+    let Some(id) = text_under(value, key_member) else {
         return Ok(ItemReading::Unfit(Fault::NoId));
     };
     let Some(kind) = string_under(value, "type") else {
         return Ok(ItemReading::Unfit(Fault::NoType));
     };
-    item_of_members(alloc, id, kind, members)
+    item_of_members(alloc, key_member, id, kind, members)
 }
 
 // Returns the items of elements, or the first fault.
@@ -267,12 +344,27 @@ fn items_from(alloc: Global, values: &[Value<'_>]) -> Result<ItemsReading, Alloc
     Ok(ItemsReading::Are(items))
 }
 
-/// Returns the items of a JSON value, or the first fault.
+// Returns the item of an object as the only item, or the fault.
+fn only_item(alloc: Global, value: &Value<'_>) -> Result<ItemsReading, AllocError>
+    ensures { IfOk result (λ reading. reading ≡ spec.only_item (value_view value.now)) }
+{
+    match item_in(alloc, value)? {
+        ItemReading::Says(item) => {
+            let mut items = Items::new(alloc);
+            items.push(item)?;
+            Ok(ItemsReading::Are(items))
+        }
+        ItemReading::Unfit(Fault::NotAnObject) => Ok(ItemsReading::Refused(0, Fault::NotAnArray)),
+        ItemReading::Unfit(fault) => Ok(ItemsReading::Refused(0, fault)),
+    }
+}
+
+/// Returns the items of a JSON value, or the first fault. The value is an array of items or one item.
 pub(crate) fn items_in(alloc: Global, value: &Value<'_>) -> Result<ItemsReading, AllocError>
     ensures { IfOk result (λ reading. reading ≡ spec.items_in (value_view value.now)) }
 {
     match elements(value) {
         Some(values) => items_from(alloc, values),
-        None => Ok(ItemsReading::Refused(0, Fault::NotAnArray)),
+        None => only_item(alloc, value),
     }
 }

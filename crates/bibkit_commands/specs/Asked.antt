@@ -223,6 +223,10 @@ target_for value = unwrap_or (option_and_then (value_named targets) value) Csl
 abbrev pub is_import : Arguments → Bool
 is_import arguments = option_map_or (λ name. bytes_eq name (codes "csl")) (argument_value arguments (codes "from")) false
 
+-- whether `--from` is missing, so that the ending of a file's name decides how it is read
+abbrev pub is_by_ending : Arguments → Bool
+is_by_ending arguments = is_none (argument_value arguments (codes "from"))
+
 -- whether conditions are given
 abbrev pub has_conditions : Arguments → Bool
 has_conditions arguments = not (length (argument_values arguments (codes "where")) == 0)
@@ -247,8 +251,9 @@ abbrev pub IsConvertOf : Arguments → Asked → Type 0
 IsConvertOf arguments (variant.Wrong reason) = wrong_conversion arguments ≡ Some reason.now
 IsConvertOf arguments (variant.Import dialect) =
     (wrong_conversion arguments ≡ None) × (is_import arguments ≡ true) × (dialect_asked arguments ≡ Some dialect)
-IsConvertOf arguments (variant.Rewrite dialect) =
+IsConvertOf arguments (variant.Rewrite dialect by_ending) =
     (wrong_conversion arguments ≡ None) × (is_import arguments ≡ false) × (dialect_asked arguments ≡ Some dialect)
+    × (by_ending ≡ is_by_ending arguments)
 IsConvertOf arguments (variant.Convert converting) =
     (wrong_conversion arguments ≡ None) × (dialect_asked arguments ≡ None)
     × (converting.target ≡ target_for (argument_value arguments (codes "to")))

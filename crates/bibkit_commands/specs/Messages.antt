@@ -1,6 +1,6 @@
 -- Meaning: words of public contracts.
 -- The texts of messages on standard error.
-use Rattle.std.specs.Prelude.{◌++◌, ℕ, List, codes, Option, Some, None, string_bytes}
+use Rattle.std.specs.Prelude.{◌++◌, ℕ, Bool, if◌then◌else◌, List, codes, Option, Some, None, string_bytes}
 use Rattle.std.specs.Fmt.{decimal}
 use Rattle.std.specs.IoError.{error_kind}
 use Rattle.std.specs.declared.io.ErrorKind.{ErrorKind}
@@ -92,9 +92,9 @@ text_of_note note.PartsNotRead field =
 -- the message for a text whose CSL-JSON items can't be converted
 abbrev pub fault_text : Fault → List ℕ
 fault_text fault.NotJson = codes "expected JSON"
-fault_text fault.NotAnArray = codes "expected an array of items"
+fault_text fault.NotAnArray = codes "expected an array of items, or one item"
 fault_text fault.NotAnObject = codes "expected an item, which is an object"
-fault_text fault.NoId = codes "expected a text or a number as the `id` of the item"
+fault_text fault.NoId = codes "expected a text or a number as the `citation-key`, the `id` or the `DOI` of the item"
 fault_text fault.NoType = codes "expected a text as the `type` of the item"
 fault_text fault.WrongForm = codes "a variable of the item has a form that CSL doesn't allow"
 fault_text fault.KeyTwice = codes "the item has the key of an earlier one"
@@ -104,6 +104,10 @@ abbrev pub loss_text : LossKind → List ℕ
 loss_text loss.NoField = codes "is left out: no field for it"
 loss_text loss.Changed = codes "is changed: its field reads back as another value"
 loss_text loss.Partly = codes "is kept in part: no field for the rest"
+
+-- the end of the note on one or several members of an item for which the entry has no field
+abbrev pub left_out_text : Bool → List ℕ
+left_out_text has_several = if has_several then codes "are left out: no fields for them" else loss_text loss.NoField
 
 -- ---- recode
 

@@ -63,7 +63,12 @@ pub enum Asked<'a> {
     /// Prints the entries of files that meet conditions in another format.
     Convert(Converting<'a>),
     /// Prints files with the types and fields of a dialect.
-    Rewrite(Dialect),
+    Rewrite {
+        /// The dialect.
+        dialect: Dialect,
+        /// Whether a file whose name ends in `.json` is read as CSL-JSON.
+        is_by_ending: bool,
+    },
     /// Prints the entries of the CSL-JSON items of files, with the types and fields of a dialect.
     Import(Dialect),
     /// Replaces the references `crossref` and `xdata` in files by the inherited fields.
@@ -245,6 +250,16 @@ fn is_import(matches: &ArgMatches<'_>) -> bool
     }
 }
 
+// Returns whether `--from` is missing, so that the ending of a file's name decides how it is read.
+fn is_by_ending(matches: &ArgMatches<'_>) -> bool
+    ensures { result ≡ spec.is_by_ending (arguments_of matches.now) }
+{
+    match value(matches, "from") {
+        Some(_) => false,
+        None => true,
+    }
+}
+
 // Returns the request of `convert`.
 fn convert_asked<'a>(alloc: Global, matches: &ArgMatches<'a>) -> Result<Asked<'a>, AllocError>
     ensures { IfOk result (IsConvertOf (arguments_of matches.now)) }
@@ -259,7 +274,10 @@ fn convert_asked<'a>(alloc: Global, matches: &ArgMatches<'a>) -> Result<Asked<'a
             Asked::Wrong("`--where` requires `--to csl`, `--to json` or `--to ris`")
         }
         Some(dialect) if is_import => Asked::Import(dialect),
-        Some(dialect) => Asked::Rewrite(dialect),
+        Some(dialect) => Asked::Rewrite {
+            dialect,
+            is_by_ending: is_by_ending(matches),
+        },
         None => Asked::Convert(Converting {
             target: target_named(value(matches, "to")),
             conditions,

@@ -310,6 +310,9 @@ fn convert_files(
     if progress.is_empty && !selections.is_empty() {
         return Ok(progress.status.max(1));
     }
+    if progress.is_empty && progress.status == 0 {
+        let _ = eprint!(rt; "bibkit: note: no entry to print\n");
+    }
     Ok(progress.status)
 }
 

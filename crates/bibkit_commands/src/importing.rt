@@ -21,9 +21,9 @@ fn fault_text(fault: Fault) -> &'static str
 {
     match fault {
         Fault::NotJson => "expected JSON",
-        Fault::NotAnArray => "expected an array of items",
+        Fault::NotAnArray => "expected an array of items, or one item",
         Fault::NotAnObject => "expected an item, which is an object",
-        Fault::NoId => "expected a text or a number as the `id` of the item",
+        Fault::NoId => "expected a text or a number as the `citation-key`, the `id` or the `DOI` of the item",
         Fault::NoType => "expected a text as the `type` of the item",
         Fault::WrongForm => "a variable of the item has a form that CSL doesn't allow",
         Fault::KeyTwice => "the item has the key of an earlier one",
@@ -77,16 +77,74 @@ fn loss_text(kind: LossKind) -> &'static str
     }
 }
 
-// Prints notes on the members of items that are lost or changed in the entries.
-fn say_losses(rt: &HostRuntime, name: &str, losses: &[Loss]) {
-    'losses: for loss in losses {
-        let _ = eprint!(rt;
-            "{name}: note: `{}`: `{}` {}\n",
-            loss.id.as_str(),
-            loss.name.as_str(),
-            loss_text(loss.kind)
-        );
+// Returns the text of a note on members of an item for which the entry has no field. `names` has the first name, or several names with
+// commas between them.
+fn left_out_text(has_several: bool) -> &'static str
+    ensures { result.now ≡ spec.left_out_text has_several }
+{
+    if has_several {
+        "are left out: no fields for them"
+    } else {
+        loss_text(LossKind::NoField)
     }
+}
+
+// The members of one item for which its entry has no field.
+#[derive(Drop)]
+struct LeftOut {
+    // The names, with commas between them; empty without such a member.
+    names: String,
+    // Whether there are several names.
+    has_several: bool,
+}
+
+impl LeftOut {
+    // Returns the value before the first member.
+    fn none(alloc: Global) -> Self {
+        LeftOut {
+            names: String::new(alloc),
+            has_several: false,
+        }
+    }
+
+    // Adds a member with this name.
+    fn add(&mut self, name: &str) -> Result<(), AllocError> {
+        if !self.names.is_empty() {
+            self.names.push_str(", ")?;
+            self.has_several = true;
+        }
+        self.names.push('`')?;
+        self.names.push_str(name)?;
+        self.names.push('`')?;
+        Ok(())
+    }
+
+    // Prints a note on these members of the item with this `id`, if there are any.
+    fn say(&self, rt: &HostRuntime, name: &str, id: &str) {
+        if !self.names.is_empty() {
+            let _ = eprint!(rt; "{name}: note: `{id}`: {} {}\n", self.names, left_out_text(self.has_several));
+        }
+    }
+}
+
+// Prints notes on the members of items that are lost or changed in the entries. The members without a field have one note for each item.
+fn say_losses(rt: &HostRuntime, name: &str, losses: &[Loss]) -> Result<(), AllocError> {
+    let mut left_out = LeftOut::none(rt.alloc());
+    let mut id = "";
+    'losses: for loss in losses {
+        if loss.id.as_str() != id {
+            left_out.say(rt, name, id);
+            left_out = LeftOut::none(rt.alloc());
+            id = loss.id.as_str();
+        }
+        if loss.kind == LossKind::NoField {
+            left_out.add(loss.name.as_str())?;
+        } else {
+            let _ = eprint!(rt; "{name}: note: `{id}`: `{}` {}\n", loss.name.as_str(), loss_text(loss.kind));
+        }
+    }
+    left_out.say(rt, name, id);
+    Ok(())
 }
 
 // Returns the edit that converts entries to the types and fields of a dialect.
@@ -114,7 +172,10 @@ fn import_text(
         &[edit_of(dialect)],
         is_last,
     )?;
-    say_losses(rt, name, converted.losses.as_slice());
+    if converted.text.is_empty() {
+        let _ = eprint!(rt; "{name}: note: no items\n");
+    }
+    say_losses(rt, name, converted.losses.as_slice())?;
     Ok(())
 }
 
@@ -135,6 +196,11 @@ fn import_file(rt: &HostRuntime, dialect: Dialect, name: &str, is_last: bool) ->
         Ok(text) => import_text(rt, dialect, name, text, is_last),
         Err(error) => { Err(encoding_stop(rt.alloc(), name, json, error.valid_up_to())?) }
     }
+}
+
+/// Returns whether a file is read as CSL-JSON without `--from csl`: its name ends in `.json`.
+pub fn is_items_file(name: &str) -> bool {
+    name.ends_with(".json")
 }
 
 /// Prints the entries of the items of each file in turn, with the types and fields of a dialect. Returns the greatest status.

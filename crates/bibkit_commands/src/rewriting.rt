@@ -89,6 +89,9 @@ fn document_notes(
     name: &str,
     document: &RawDocument<'_>,
 ) -> Result<String, AllocError> {
+    if document.raw().entries.is_empty() {
+        return format!(in alloc; "{name}: note: no entry\n");
+    }
     let mut positions = Positions::new(document.text());
     let mut lines = String::new(alloc);
     'notes: for note in notes(alloc, document, dialect)? {

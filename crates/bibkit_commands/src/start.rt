@@ -10,13 +10,14 @@ use crate::edits::{Mode, run_edits};
 use crate::files::SystemFiles;
 use crate::fixing::run_fix;
 use crate::formatting::run_format;
-use crate::importing::run_import;
+use crate::importing::{is_items_file, run_import};
 use crate::resolving::run_resolve;
 use crate::rewriting::run_rewrite;
 use crate::selecting::{parse_conditions, run_select};
 use crate::stops::{Stop, bytes_of, say};
 use bib_select::selection::Selection;
 use bib_source::decoding::decode;
+use bib_tables::dialects::Dialect;
 use bibkit_core::baseline::accepted_texts;
 use bibkit_core::request::{Call, Cited, Lint, Request, Selected};
 use bibkit_core::run::run;
@@ -305,6 +306,24 @@ fn refuse_words(rt: &HostRuntime, reason: &str) -> u8 {
     2
 }
 
+// Prints files with the types and fields of a dialect, and returns the status. If `is_by_ending`, the files are read as CSL-JSON if their
+// names end in `.json`; files of both kinds are refused.
+fn run_dialect(rt: &HostRuntime, dialect: Dialect, is_by_ending: bool, names: &[&str]) -> u8 {
+    let mut items = 0usize;
+    'names: for name in names {
+        if is_by_ending && is_items_file(name) {
+            items += 1;
+        }
+    }
+    if items == 0 {
+        return run_rewrite(rt, dialect, names);
+    }
+    if items < names.len() {
+        return refuse_words(rt, "files that end in `.json` can't be converted together with others");
+    }
+    run_import(rt, dialect, names)
+}
+
 // Returns the names of all codes, with a space before each and commas between them.
 fn code_list(alloc: Global) -> Result<String, AllocError> {
     let mut list = String::new(alloc);
@@ -383,7 +402,10 @@ fn answer(rt: &HostRuntime, words: Words<'_>) -> u8 {
         } => run_style(rt, settings, order, mode, &names),
         Asked::Convert(converting) => run_convert(rt, &converting, &names),
         Asked::Resolve { mode, has_notes } => run_resolve(rt, mode, has_notes, &names),
-        Asked::Rewrite(dialect) => run_rewrite(rt, dialect, &names),
+        Asked::Rewrite {
+            dialect,
+            is_by_ending,
+        } => run_dialect(rt, dialect, is_by_ending, &names),
         Asked::Import(dialect) => run_import(rt, dialect, &names),
         Asked::Cited(document) => run_cited(rt, document, &names),
         Asked::Select(selecting) => run_select(rt, &selecting, &names),

@@ -82,14 +82,15 @@ const FMT: [Argument; 13] = [
 // The text at the end of the help of `convert`.
 const CONVERT_HELP: &str = "\
 csl, json and ris print the entries of all files, or those that meet --where, with inherited fields: by the rules of BibLaTeX for csl and
-ris, and by those of `bib` for json, which has byte offsets of the file. --where requires one of these three. biblatex and bibtex change dates and the names of types and fields,
-and keep all other text. A file with errors is not printed, and its first error is reported. --from csl converts each item of CSL-JSON to an
-entry, and reports each variable that is lost or changed.
+ris, and by those of `bib` for json, which has byte offsets of the file. --where requires one of these three. biblatex and bibtex change
+dates and the names of types and fields, and keep all other text. A file with errors is not printed, and its first error is reported.
+--from csl converts each item of CSL-JSON to an entry, and reports each variable that is lost or changed. Without --from, files whose names
+end in .json are read so.
 
 Examples:
   bibkit convert --to csl refs.bib >refs.json
   bibkit convert --to bibtex refs.bib >old.bib
-  bibkit convert --from csl --to biblatex refs.json >refs.bib
+  bibkit convert --to biblatex refs.json >refs.bib
 
 Status: 0 done, 1 a file has errors or no entry meets --where, 2 wrong usage, or a file or the output failed, 3 out of memory";
 
@@ -103,7 +104,7 @@ const CONVERT: [Argument; 3] = [
     Argument {
         name: "from",
         takes: Takes::Choice(Choice::Source),
-        help: "Bibliography files or CSL-JSON [default: bib]",
+        help: "Bibliography files or CSL-JSON [default: csl for names that end in .json]",
     },
     WHERE,
 ];
