@@ -8,3 +8,4 @@ mod ReadingFacts
 mod ScanFacts
 mod TagFacts
 mod TextCuts
+mod TitleFacts

@@ -27,23 +27,30 @@ after_one before field (Some fields) = ap Some (sym (append_assoc before (field 
 
 -- a member for which `is_head` holds is skipped; the next lemmas state that any other member is added, or that the result is `None` if it
 -- has a wrong form
-pub head_passed : (id : List ℕ) (before : List Given) (m : List ℕ × Json) (ms : List (List ℕ × Json)) → is_head id m.0 m.1 ≡ true
-    → after_fields before (members_read id (m ∷ ms)) ≡ after_fields before (members_read id ms)
-head_passed id before m ms head =
-    ap (λ b. after_fields before (cond b (members_read id ms) (before_fields (member_of m.0 m.1) (members_read id ms)))) head
+pub head_passed : (keeps : Bool) (id : List ℕ) (before : List Given) (m : List ℕ × Json) (ms : List (List ℕ × Json))
+    → is_head id m.0 m.1 ≡ true
+    → after_fields before (members_read keeps id (m ∷ ms)) ≡ after_fields before (members_read keeps id ms)
+head_passed keeps id before m ms head =
+    ap
+    (λ b. after_fields before (cond b (members_read keeps id ms) (before_fields (member_of keeps m.0 m.1) (members_read keeps id ms))))
+    head
 
-pub member_passed : (id : List ℕ) (before : List Given) (m : List ℕ × Json) (ms : List (List ℕ × Json)) (field : Given)
-    → is_head id m.0 m.1 ≡ false → member_of m.0 m.1 ≡ Some field
-    → after_fields before (members_read id (m ∷ ms)) ≡ after_fields (before ++ field ∷ []) (members_read id ms)
-member_passed id before m ms field head is =
-    ap (λ b. after_fields before (cond b (members_read id ms) (before_fields (member_of m.0 m.1) (members_read id ms)))) head
-    ∙ ap (λ r. after_fields before (before_fields r (members_read id ms))) is ∙ after_one before field (members_read id ms)
+pub member_passed : (keeps : Bool) (id : List ℕ) (before : List Given) (m : List ℕ × Json) (ms : List (List ℕ × Json)) (field : Given)
+    → is_head id m.0 m.1 ≡ false → member_of keeps m.0 m.1 ≡ Some field
+    → after_fields before (members_read keeps id (m ∷ ms)) ≡ after_fields (before ++ field ∷ []) (members_read keeps id ms)
+member_passed keeps id before m ms field head is =
+    ap
+    (λ b. after_fields before (cond b (members_read keeps id ms) (before_fields (member_of keeps m.0 m.1) (members_read keeps id ms))))
+    head
+    ∙ ap (λ r. after_fields before (before_fields r (members_read keeps id ms))) is ∙ after_one before field (members_read keeps id ms)
 
-pub member_unfit : (id : List ℕ) (before : List Given) (m : List ℕ × Json) (ms : List (List ℕ × Json)) → is_head id m.0 m.1 ≡ false
-    → member_of m.0 m.1 ≡ None → after_fields before (members_read id (m ∷ ms)) ≡ None
-member_unfit id before m ms head is =
-    ap (λ b. after_fields before (cond b (members_read id ms) (before_fields (member_of m.0 m.1) (members_read id ms)))) head
-    ∙ ap (λ r. after_fields before (before_fields r (members_read id ms))) is
+pub member_unfit : (keeps : Bool) (id : List ℕ) (before : List Given) (m : List ℕ × Json) (ms : List (List ℕ × Json))
+    → is_head id m.0 m.1 ≡ false → member_of keeps m.0 m.1 ≡ None → after_fields before (members_read keeps id (m ∷ ms)) ≡ None
+member_unfit keeps id before m ms head is =
+    ap
+    (λ b. after_fields before (cond b (members_read keeps id ms) (before_fields (member_of keeps m.0 m.1) (members_read keeps id ms))))
+    head
+    ∙ ap (λ r. after_fields before (before_fields r (members_read keeps id ms))) is
 
 -- the texts of elements after others; `None` if one of them is neither a text nor a number
 abbrev pub after_parts : List ℕ → Option (List ℕ) → Option (List ℕ)

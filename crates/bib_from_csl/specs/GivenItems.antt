@@ -1,8 +1,8 @@
 -- Meaning: words of public contracts.
 -- The items in a text of CSL-JSON, or the first fault of the text.
-use Rattle.std.specs.Prelude.{ℕ, ◌+◌, Bool, true, false, ◌==◌, ◌&&◌, ◌||◌, if◌then◌else◌, List, [], ◌∷◌, codes, bytes_eq, encode_utf8_all, Option, Some, None, is_some}
+use Rattle.std.specs.Prelude.{ℕ, ◌+◌, Bool, true, false, ◌==◌, ◌&&◌, ◌||◌, if◌then◌else◌, List, [], ◌∷◌, codes, bytes_eq, encode_utf8_all, nat_eq, Option, Some, None, is_some}
 use Rattle.std.specs.Char.{is_ascii_digit}
-use Rattle.std.specs.List.{list_all, before_first, after_first}
+use Rattle.std.specs.List.{list_all, before_first, after_first, starts_with}
 use Rattle.std.specs.Option.{option_map_or}
 use Rattle.std.specs.Str.{chars}
 use Rattle.json.specs.Json.{Json, document}
@@ -20,6 +20,7 @@ use Rattle.bib_from_csl.specs.declared.reading.ItemsReading.TheVariants.{Are, Re
 use Rattle.bib_from_csl.specs.GivenDates.{date_given, is_whole_date}
 use Rattle.bib_from_csl.specs.GivenNames.{are_objects, are_whole_names, given_names}
 use Rattle.bib_from_csl.specs.Objects.{array_elements, object_members, string_under, text_in, text_under}
+use Rattle.bib_from_csl.specs.OwnTitles.{is_own_title, protected_title}
 use Rattle.bib_from_csl.specs.Values.{replaced}
 use Rattle.bib_from_csl.specs.Variables.{is_date, is_names, is_text}
 
@@ -47,10 +48,13 @@ single_page text =
     then before_first (λ b. b == char.hyphen) text
     else text
 
--- the text of a variable; page numbers are replaced by their `single_page`, with an en dash for each hyphen
-unfoldable pub content_text : List ℕ → List ℕ → List ℕ
-content_text name text =
-    if has_dashes name text then dashed_text (single_page text) else text
+-- the text of a variable; page numbers are replaced by their `single_page`, with an en dash for each hyphen. If the flag says so, words of
+-- the title with capitals keep their case
+unfoldable pub content_text : Bool → List ℕ → List ℕ → List ℕ
+content_text keeps_case name text =
+    if has_dashes name text then dashed_text (single_page text)
+    else if keeps_case && is_own_title name then protected_title text
+    else text
 
 -- a member with this content
 abbrev pub member_with : List ℕ → Option Content → Bool → Option Given
@@ -70,9 +74,9 @@ unfoldable pub date_member : List ℕ → Json → Option Given
 date_member name j = if is_some (object_members j) then of_date name (date_given j) (is_whole_date j) else None
 
 -- a variable of this text, if there is one
-abbrev pub of_text : List ℕ → Option (List ℕ) → Option Given
-of_text name None = None
-of_text name (Some text) = member_with name (Some (content.Text (content_text name text))) true
+abbrev pub of_text : Bool → List ℕ → Option (List ℕ) → Option Given
+of_text keeps_case name None = None
+of_text keeps_case name (Some text) = member_with name (Some (content.Text (content_text keeps_case name text))) true
 
 -- the text of an element of an array, after a comma and a space unless it is the first
 abbrev pub next_part : Bool → List ℕ → List ℕ
@@ -94,15 +98,15 @@ abbrev pub text_or_texts : Json → Option (List ℕ)
 text_or_texts j = option_map_or (joined_from true) (array_elements j) (text_in j)
 
 -- a variable of a text; `None` if the value has another form
-unfoldable pub text_member : List ℕ → Json → Option Given
-text_member name j = of_text name (text_or_texts j)
+unfoldable pub text_member : Bool → List ℕ → Json → Option Given
+text_member keeps_case name j = of_text keeps_case name (text_or_texts j)
 
 -- a member; `None` if it doesn't have the form of its variable
-unfoldable pub member_of : List ℕ → Json → Option Given
-member_of name j =
+unfoldable pub member_of : Bool → List ℕ → Json → Option Given
+member_of keeps_case name j =
     if is_names name then names_member name j
     else if is_date name then date_member name j
-    else if is_text name then text_member name j
+    else if is_text name then text_member keeps_case name j
     else member_with name None false
 
 -- whether a value is a text or a number that is written so
@@ -121,9 +125,11 @@ before_fields (Some field) None = None
 before_fields (Some field) (Some fields) = Some (field ∷ fields)
 
 -- the members except `type`, and except `citation-key` and `id` with this text; `None` if one of them has a wrong form
-abbrev pub members_read : List ℕ → List (List ℕ × Json) → Option (List Given)
-members_read id [] = Some []
-members_read id (m ∷ ms) = if is_head id m.0 m.1 then members_read id ms else before_fields (member_of m.0 m.1) (members_read id ms)
+abbrev pub members_read : Bool → List ℕ → List (List ℕ × Json) → Option (List Given)
+members_read keeps_case id [] = Some []
+members_read keeps_case id (m ∷ ms) =
+    if is_head id m.0 m.1 then members_read keeps_case id ms
+    else before_fields (member_of keeps_case m.0 m.1) (members_read keeps_case id ms)
 
 -- the item whose key comes from the member with this name and this text, with this type and these members, unless one of them has a wrong
 -- form
@@ -132,14 +138,18 @@ item_with name id kind None = Unfit fault.WrongForm
 item_with name id kind (Some fields) = Says (record { key_member = name; id = id; kind = kind; fields = fields })
 
 -- the item whose key comes from the member with this name and this text, with this type and the members of this object
-abbrev pub item_of_members : List ℕ → List ℕ → List ℕ → List (List ℕ × Json) → ItemReading
-item_of_members name id kind ms = item_with name id kind (members_read id ms)
+abbrev pub item_of_members : Bool → List ℕ → List ℕ → List ℕ → List (List ℕ × Json) → ItemReading
+item_of_members keeps_case name id kind ms = item_with name id kind (members_read keeps_case id ms)
+
+-- whether an object has no member `language`, or one that begins with `en`
+abbrev pub is_english : Json → Bool
+is_english j = option_map_or (λ tag. starts_with nat_eq tag (codes "en")) (text_under (codes "language") j) true
 
 -- the item of an object with these members; the last two arguments are the text of the member with this name and the type
-abbrev pub item_of_parts : List (List ℕ × Json) → List ℕ → Option (List ℕ) → Option (List ℕ) → ItemReading
-item_of_parts ms name None kind = Unfit fault.NoId
-item_of_parts ms name (Some id) None = Unfit fault.NoType
-item_of_parts ms name (Some id) (Some kind) = item_of_members name id kind ms
+abbrev pub item_of_parts : Bool → List (List ℕ × Json) → List ℕ → Option (List ℕ) → Option (List ℕ) → ItemReading
+item_of_parts keeps_case ms name None kind = Unfit fault.NoId
+item_of_parts keeps_case ms name (Some id) None = Unfit fault.NoType
+item_of_parts keeps_case ms name (Some id) (Some kind) = item_of_members keeps_case name id kind ms
 
 -- the name of the first of the members `citation-key`, `id` and `DOI` that is a text or a number
 abbrev pub key_member : Json → Option (List ℕ)
@@ -152,7 +162,7 @@ key_member j =
 -- the item of an object with these members, whose key comes from the member with this name
 abbrev pub item_keyed : Json → List (List ℕ × Json) → Option (List ℕ) → ItemReading
 item_keyed j ms None = Unfit fault.NoId
-item_keyed j ms (Some name) = item_of_parts ms name (text_under name j) (string_under (codes "type") j)
+item_keyed j ms (Some name) = item_of_parts (is_english j) ms name (text_under name j) (string_under (codes "type") j)
 
 -- the item of an object with these members, or the fault of a value that is none
 abbrev pub item_of_object : Json → Option (List (List ℕ × Json)) → ItemReading

@@ -7,6 +7,7 @@ pub mod GivenNames
 pub mod LanguageNames
 pub mod Losses
 pub mod Objects
+pub mod OwnTitles
 pub mod PlainDates
 pub mod PlainPages
 pub mod PlainPeople

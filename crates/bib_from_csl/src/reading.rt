@@ -12,6 +12,7 @@ use crate::dates::{given_date, is_whole_date};
 use crate::given::{Given, GivenItem};
 use crate::names::{are_objects, are_whole_names, given_names};
 use crate::objects::{elements, members, string_under, text_in, text_under};
+use crate::titles::{is_own_title, protected_title};
 use crate::values::replaced;
 use crate::variables::{is_date, is_names, is_text};
 use bib_csl::item::Content;
@@ -100,13 +101,22 @@ fn single_page(text: &str) -> &str
     }
 }
 
-// Returns the text of a variable. Page numbers are replaced by their `single_page`, with an en dash for each hyphen.
+// Returns the text of a variable. Page numbers are replaced by their `single_page`, with an en dash for each hyphen. If `keeps_case`, words
+// of the title with capitals keep their case.
 #[tactic(auto, unfolding(crate::specs::GivenItems::content_text))]
-fn content_text(alloc: Global, name: &str, text: &str) -> Result<Text, AllocError>
-    ensures { IfOk result (λ content. content ≡ spec.content_text name.now text.now) }
+fn content_text(
+    alloc: Global,
+    keeps_case: bool,
+    name: &str,
+    text: &str,
+) -> Result<Text, AllocError>
+    ensures { IfOk result (λ content. content ≡ spec.content_text keeps_case name.now text.now) }
 {
     if has_dashes(name, text) {
         return dashed_text(alloc, single_page(text));
+    }
+    if keeps_case && is_own_title(name) {
+        return protected_title(alloc, text);
     }
     Text::from_str(alloc, text)
 }
@@ -201,20 +211,30 @@ fn text_or_texts(alloc: Global, value: &Value<'_>) -> Result<Option<Text>, Alloc
 
 // Returns a variable of a text, or `None` if the value has another form.
 #[tactic(auto, unfolding(crate::specs::GivenItems::text_member))]
-fn text_member(alloc: Global, name: &str, value: &Value<'_>) -> Result<Option<Given>, AllocError>
-    ensures { IfOk result (λ member. member ≡ spec.text_member name.now (value_view value.now)) }
+fn text_member(
+    alloc: Global,
+    keeps_case: bool,
+    name: &str,
+    value: &Value<'_>,
+) -> Result<Option<Given>, AllocError>
+    ensures { IfOk result (λ member. member ≡ spec.text_member keeps_case name.now (value_view value.now)) }
 {
     let Some(text) = text_or_texts(alloc, value)? else {
         return Ok(None);
     };
-    let text = content_text(alloc, name, text.as_str())?;
+    let text = content_text(alloc, keeps_case, name, text.as_str())?;
     given(alloc, name, Some(Content::Text(text)), true)
 }
 
 // Returns a member, or `None` if it doesn't have the form of its variable.
 #[tactic(auto, unfolding(crate::specs::GivenItems::member_of))]
-fn member_of(alloc: Global, name: &str, value: &Value<'_>) -> Result<Option<Given>, AllocError>
-    ensures { IfOk result (λ member. member ≡ spec.member_of name.now (value_view value.now)) }
+fn member_of(
+    alloc: Global,
+    keeps_case: bool,
+    name: &str,
+    value: &Value<'_>,
+) -> Result<Option<Given>, AllocError>
+    ensures { IfOk result (λ member. member ≡ spec.member_of keeps_case name.now (value_view value.now)) }
 {
     if is_names(name) {
         return names_member(alloc, name, value);
@@ -223,7 +243,7 @@ fn member_of(alloc: Global, name: &str, value: &Value<'_>) -> Result<Option<Give
         return date_member(alloc, name, value);
     }
     if is_text(name) {
-        return text_member(alloc, name, value);
+        return text_member(alloc, keeps_case, name, value);
     }
     given(alloc, name, None, false)
 }
@@ -252,10 +272,11 @@ fn is_head(id: &str, name: &str, value: &Value<'_>) -> bool
 // variable.
 fn fields_of(
     alloc: Global,
+    keeps_case: bool,
     id: &str,
     members: &[(&str, Value<'_>)],
 ) -> Result<Option<Items<Given>>, AllocError>
-    ensures { IfOk result (λ fields. fields ≡ spec.members_read id.now (map (λ m. (m.0.now, value_view m.1)) members.now)) }
+    ensures { IfOk result (λ fields. fields ≡ spec.members_read keeps_case id.now (map (λ m. (m.0.now, value_view m.1)) members.now)) }
 {
     let mut fields = Items::new(alloc);
     'members: for member in members {
@@ -263,7 +284,7 @@ fn fields_of(
         if is_head(id, name, &member.1) {
             continue 'members;
         }
-        match member_of(alloc, name, &member.1)? {
+        match member_of(alloc, keeps_case, name, &member.1)? {
             Some(field) => fields.push(field)?,
             None => return Ok(None),
         }
@@ -274,15 +295,16 @@ fn fields_of(
 // Returns the item with these members, or the fault. `id` is the text of the member `key_member`.
 fn item_of_members(
     alloc: Global,
+    keeps_case: bool,
     key_member: &str,
     id: &str,
     kind: &str,
     members: &[(&str, Value<'_>)],
 ) -> Result<ItemReading, AllocError>
-    ensures { IfOk result (λ reading. reading ≡ spec.item_of_members key_member.now id.now kind.now
+    ensures { IfOk result (λ reading. reading ≡ spec.item_of_members keeps_case key_member.now id.now kind.now
         (map (λ m. (m.0.now, value_view m.1)) members.now)) }
 {
-    match fields_of(alloc, id, members)? {
+    match fields_of(alloc, keeps_case, id, members)? {
         Some(fields) => Ok(ItemReading::Says(GivenItem {
             key_member: Text::from_str(alloc, key_member)?,
             id: Text::from_str(alloc, id)?,
@@ -290,6 +312,16 @@ fn item_of_members(
             fields,
         })),
         None => Ok(ItemReading::Unfit(Fault::WrongForm)),
+    }
+}
+
+// Returns whether an object has no member `language`, or one that begins with `en`.
+fn is_english(value: &Value<'_>) -> bool
+    ensures { result ≡ spec.is_english (value_view value.now) }
+{
+    match text_under(value, "language") {
+        Some(tag) => tag.starts_with("en"),
+        None => true,
     }
 }
 
@@ -325,7 +357,7 @@ fn item_in(alloc: Global, value: &Value<'_>) -> Result<ItemReading, AllocError>
     let Some(kind) = string_under(value, "type") else {
         return Ok(ItemReading::Unfit(Fault::NoType));
     };
-    item_of_members(alloc, key_member, id, kind, members)
+    item_of_members(alloc, is_english(value), key_member, id, kind, members)
 }
 
 // Returns the items of elements, or the first fault.

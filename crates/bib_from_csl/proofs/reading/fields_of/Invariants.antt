@@ -6,5 +6,5 @@ use Rattle.bib_from_csl.proofs.reading.fields_of.Given as goal
 
 abbrev pub invariant-members : goal.invariant-members
 invariant-members l =
-    after_fields l.fields (members_read l.id (map (λ m. (m.0.now, value_view m.1)) (drop l.member-index l.members)))
-    ≡ members_read l.id (map (λ m. (m.0.now, value_view m.1)) l.members)
+    after_fields l.fields (members_read l.keeps_case l.id (map (λ m. (m.0.now, value_view m.1)) (drop l.member-index l.members)))
+    ≡ members_read l.keeps_case l.id (map (λ m. (m.0.now, value_view m.1)) l.members)
