@@ -82,6 +82,11 @@ fn note_line(
     )
 }
 
+// Returns whether a file has no entry, no definition of an abbreviation and no preamble.
+fn has_nothing(raw: &RawBibliography<'_>) -> bool {
+    raw.entries.is_empty() && raw.abbreviations.is_empty() && raw.preamble.is_empty()
+}
+
 // Returns the notes on the fields of a document.
 fn document_notes(
     alloc: Global,
@@ -89,7 +94,7 @@ fn document_notes(
     name: &str,
     document: &RawDocument<'_>,
 ) -> Result<String, AllocError> {
-    if document.raw().entries.is_empty() {
+    if has_nothing(document.raw()) {
         return format!(in alloc; "{name}: note: no entry\n");
     }
     let mut positions = Positions::new(document.text());
