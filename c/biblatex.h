@@ -25,9 +25,9 @@ enum biblatex_status {
     BIBLATEX_REFUSED = 3,       /* the text has an error, which biblatex_lint reports, or `format` isn't a value of enum biblatex_format */
     BIBLATEX_OUT_OF_MEMORY = 4,
     BIBLATEX_UNKNOWN_KEY = 5,   /* no entry has the key; an edit is refused with this status or one of the next eight */
-    BIBLATEX_KEY_IS_THERE = 6,  /* a new key, or a name of an added entry, is a name of an entry already */
-    BIBLATEX_NOT_A_KEY = 7,     /* BibTeX, Biber or bibtool can't read a new key or the key of an added entry */
-    BIBLATEX_NOT_A_NAME = 8,    /* a text can't be a field name */
+    BIBLATEX_KEY_IS_THERE = 6,  /* a new key, or a name of an added entry, is a key or in `ids` already, in any ASCII case */
+    BIBLATEX_NOT_A_KEY = 7,     /* the old key is empty; or a new key or the key of an added entry breaks the rules of biblatex_rename */
+    BIBLATEX_NOT_A_NAME = 8,    /* a text can't be the name of a new field */
     BIBLATEX_NOT_IN_BRACES = 9, /* the value, or a changed reference, can't be written in braces */
     BIBLATEX_DEFINITION_IS_THERE = 10, /* the text already defines an added abbreviation with another value */
     BIBLATEX_NO_FIELD_LEFT = 11, /* the entry would have no field left; bibtool doesn't read such an entry */
@@ -101,7 +101,8 @@ uint32_t biblatex_unset(const uint8_t *text, size_t length, const uint8_t *key, 
 
 /* Replaces the key of the first entry with the key `old_key` by `new_key`, also in the references to this entry, and writes the new
    text. Returns BIBLATEX_KEY_IS_THERE if another entry has the new key as its key, or an entry has it in its field `ids`, in any ASCII
-   case. Returns BIBLATEX_NOT_A_KEY if the old key is empty, or if BibTeX, Biber or bibtool can't read the new one. Returns
+   case. Returns BIBLATEX_NOT_A_KEY if the old key is empty, or if the new one breaks a rule: BibTeX, Biber and bibtool must read it,
+   and it must not contain two hyphens in a row or be *, which cites all entries. docs/BIBKIT.md lists all rules. Returns
    BIBLATEX_NOT_IN_BRACES if a reference can't be written in braces. */
 uint32_t biblatex_rename(const uint8_t *text, size_t length, const uint8_t *old_key, size_t old_key_length,
     const uint8_t *new_key, size_t new_key_length, uint8_t *out, size_t capacity, size_t *size);
@@ -112,7 +113,7 @@ uint32_t biblatex_remove(const uint8_t *text, size_t length, const uint8_t *key,
 
 /* Writes the text, and `added` after it on a new line. If the first line of the text ends with \r\n, so do the added lines.
    Returns BIBLATEX_KEY_IS_THERE if an added entry has a name of another entry, in any ASCII case. The names of an entry are its key
-   and those in its field `ids`. Returns BIBLATEX_NOT_A_KEY if BibTeX, Biber or bibtool can't read the key of an added entry.
+   and those in its field `ids`. Returns BIBLATEX_NOT_A_KEY if biblatex_rename would refuse the key of an added entry as a new key.
    Returns BIBLATEX_DEFINITION_IS_THERE if `added` gives an abbreviation of the text another value. Returns BIBLATEX_UNBALANCED_QUOTES
    also if `added` contains a quoted text with unbalanced braces. */
 uint32_t biblatex_add(const uint8_t *text, size_t length, const uint8_t *added, size_t added_length, uint8_t *out, size_t capacity,
