@@ -180,7 +180,13 @@ fn push_item(
     let id = item.id.as_str();
     let work = work_of(item);
     let key_member = item.key_member.as_str();
-    push_loss(alloc, losses, id, key_member, change_of(id, read.id.as_str()))?;
+    push_loss(
+        alloc,
+        losses,
+        id,
+        key_member,
+        change_of(id, read.id.as_str()),
+    )?;
     push_loss(
         alloc,
         losses,

@@ -104,12 +104,7 @@ fn single_page(text: &str) -> &str
 // Returns the text of a variable. Page numbers are replaced by their `single_page`, with an en dash for each hyphen. If `keeps_case`, words
 // of the title with capitals keep their case.
 #[tactic(auto, unfolding(crate::specs::GivenItems::content_text))]
-fn content_text(
-    alloc: Global,
-    keeps_case: bool,
-    name: &str,
-    text: &str,
-) -> Result<Text, AllocError>
+fn content_text(alloc: Global, keeps_case: bool, name: &str, text: &str) -> Result<Text, AllocError>
     ensures { IfOk result (λ content. content ≡ spec.content_text keeps_case name.now text.now) }
 {
     if has_dashes(name, text) {

@@ -23,7 +23,8 @@ fn fault_text(fault: Fault) -> &'static str
         Fault::NotJson => "expected JSON",
         Fault::NotAnArray => "expected an array of items, or one item",
         Fault::NotAnObject => "expected an item, which is an object",
-        Fault::NoId => "expected a text or a number as the `citation-key`, the `id` or the `DOI` of the item",
+        Fault::NoId =>
+            "expected a text or a number as the `citation-key`, the `id` or the `DOI` of the item",
         Fault::NoType => "expected a text as the `type` of the item",
         Fault::WrongForm => "a variable of the item has a form that CSL doesn't allow",
         Fault::KeyTwice => "the item has the key of an earlier one",
@@ -122,7 +123,11 @@ impl LeftOut {
     // Prints a note on these members of the item with this `id`, if there are any.
     fn say(&self, rt: &HostRuntime, name: &str, id: &str) {
         if !self.names.is_empty() {
-            let _ = eprint!(rt; "{name}: note: `{id}`: {} {}\n", self.names, left_out_text(self.has_several));
+            let _ = eprint!(rt;
+                "{name}: note: `{id}`: {} {}\n",
+                self.names,
+                left_out_text(self.has_several)
+            );
         }
     }
 }
@@ -140,7 +145,11 @@ fn say_losses(rt: &HostRuntime, name: &str, losses: &[Loss]) -> Result<(), Alloc
         if loss.kind == LossKind::NoField {
             left_out.add(loss.name.as_str())?;
         } else {
-            let _ = eprint!(rt; "{name}: note: `{id}`: `{}` {}\n", loss.name.as_str(), loss_text(loss.kind));
+            let _ = eprint!(rt;
+                "{name}: note: `{id}`: `{}` {}\n",
+                loss.name.as_str(),
+                loss_text(loss.kind)
+            );
         }
     }
     left_out.say(rt, name, id);

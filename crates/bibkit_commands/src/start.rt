@@ -319,7 +319,10 @@ fn run_dialect(rt: &HostRuntime, dialect: Dialect, is_by_ending: bool, names: &[
         return run_rewrite(rt, dialect, names);
     }
     if items < names.len() {
-        return refuse_words(rt, "files that end in `.json` can't be converted together with others");
+        return refuse_words(
+            rt,
+            "files that end in `.json` can't be converted together with others",
+        );
     }
     run_import(rt, dialect, names)
 }

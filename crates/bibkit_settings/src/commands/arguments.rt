@@ -156,7 +156,7 @@ pub fn files<'a>(alloc: Global) -> Arg<'a> {
     Arg::new(alloc, "FILE")
         .num_args(0..)
         .action(ArgAction::Append)
-        .help("Files to read; standard input for - or where there are none")
+        .help("Files to read; standard input for - or without files")
 }
 
 // Returns a positional argument.

@@ -5,9 +5,9 @@ use crate::commands::shared::{DIFF, WHERE};
 
 // The text at the end of the help of `fmt`.
 const FMT_HELP: &str = "\
-Writes each entry with its type and field names in lower case, one field per line, and values unchanged. Keeps all other text, and entries
-that contain a comment or a text whose braces don't balance. A table [fmt] in a file bibkit.toml in the folder of the first file, or in one above it, has the style
-of a project: indent, align, trailing-comma, blank-lines, delimiters, order, width and sort.
+Writes each entry with its type and field names in lowercase letters, one field per line, and values unchanged. Keeps all other text, and
+entries that contain a comment or a text whose braces don't balance. A table [fmt] in a file bibkit.toml in the folder of the first file, or
+in one above it, has the style of a project: indent, align, trailing-comma, blank-lines, delimiters, order, width and sort.
 
 Example:
   bibkit fmt --align --write refs.bib
@@ -82,10 +82,12 @@ const FMT: [Argument; 13] = [
 // The text at the end of the help of `convert`.
 const CONVERT_HELP: &str = "\
 csl, json and ris print the entries of all files, or those that meet --where, with inherited fields: by the rules of BibLaTeX for csl and
-ris, and by those of `bib` for json, which has byte offsets of the file. --where requires one of these three. biblatex and bibtex change
-dates and the names of types and fields, and keep all other text. A file with errors is not printed, and its first error is reported.
---from csl converts each item of CSL-JSON to an entry, and reports each variable that is lost or changed. Without --from, files whose names
-end in .json are read so.
+ris, and by those of `bib` for json, which has byte offsets of the file. --where requires one of these three. A file with errors is printed
+as far as it can be parsed, and each error is reported.
+
+biblatex and bibtex change dates and the names of types and fields, and keep all other text. A file with errors is not printed, and its
+first error is reported. --from csl converts each item of CSL-JSON to an entry, and reports each variable that is lost or changed. Without
+--from, files whose names end in .json are read so.
 
 Examples:
   bibkit convert --to csl refs.bib >refs.json

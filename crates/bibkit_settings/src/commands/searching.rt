@@ -130,7 +130,7 @@ Examples:
   bibkit select --where 'author ~ Knuth' --where 'not has doi' --keys refs.bib
   bibkit select --where 'type = article' --complete refs.bib | bibkit convert --to csl
 
-Status: 0 done, 1 no entry meets the conditions, 2 wrong usage, or a file or the output failed, 3 out of memory";
+Status: 0 done, 1 no entry meets the conditions or a block is skipped, 2 wrong usage, or a file or the output failed, 3 out of memory";
 
 // The arguments of `select`.
 const SELECT: [Argument; 3] = [
@@ -179,13 +179,13 @@ pub static SEARCHING: [Row; 7] = [
     Row {
         name: "keys",
         about: "Print the key of each entry",
-        help: "`bibkit help select` has the conditions of --where.\n\nExamples:\n  bibkit keys refs.bib\n  bibkit keys --where 'year >= 2000' refs.bib\n\nStatus 1 if no entry meets the conditions",
+        help: "`bibkit help select` has the conditions of --where.\n\nExamples:\n  bibkit keys refs.bib\n  bibkit keys --where 'year >= 2000' refs.bib\n\nStatus 1 if no entry meets the conditions, or for a skipped block",
         arguments: &KEYS,
     },
     Row {
         name: "get",
         about: "Print the entries with these keys, unchanged",
-        help: "`bibkit help select` has the conditions of --where.\n\nExample:\n  bibkit get tolkien1937,knuth1984 refs.bib\n\nStatus 1 if no entry has any of the keys and meets the conditions",
+        help: "`bibkit help select` has the conditions of --where.\n\nExample:\n  bibkit get tolkien1937,knuth1984 refs.bib\n\nStatus 1 if no entry has any of the keys and meets the conditions, or for a skipped block",
         arguments: &GET,
     },
     Row {
@@ -197,13 +197,13 @@ pub static SEARCHING: [Row; 7] = [
     Row {
         name: "grep",
         about: "Print the entries with a text in a field, unchanged",
-        help: "Example:\n  bibkit grep author Knuth refs.bib\n\nStatus 1 if there is no such entry",
+        help: "Example:\n  bibkit grep author Knuth refs.bib\n\nStatus 1 if there is no such entry, or for a skipped block",
         arguments: &GREP,
     },
     Row {
         name: "cited",
         about: "Print the entries that a document cites, unchanged",
-        help: "Without FILE, reads the .bib files that the document names.\n\nExample:\n  bibkit cited thesis.bcf >cited.bib\n\nStatus 1 if no cited entry is found",
+        help: "Without FILE, reads the .bib files that the document names.\n\nExample:\n  bibkit cited thesis.bcf >cited.bib\n\nStatus 1 if no cited entry is found, or for a skipped block",
         arguments: &CITED,
     },
     Row {
