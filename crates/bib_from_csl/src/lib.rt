@@ -7,7 +7,7 @@
 #![tactic(auto)]
 
 pub mod converting;
-mod dates;
+pub mod dates;
 mod days;
 pub mod given;
 mod languages;
@@ -23,4 +23,4 @@ mod titles;
 mod types;
 mod values;
 mod variables;
-mod writing;
+pub mod writing;
