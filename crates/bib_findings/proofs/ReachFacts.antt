@@ -5,9 +5,10 @@ use Rattle.std.proofs.lemmas.Bool.{cases_lt, false≢true}
 use Rattle.std.proofs.lemmas.Bool.Decides.{eqb_tells}
 use Rattle.std.proofs.lemmas.List.{get_or_past, length-replicate, take_more}
 use Rattle.std.proofs.lemmas.List.Elements.{All-append, All-from_get_or, All-get_or, Contains-append_left, Contains-append_right, Contains-get_or, Contains-push, Contains-push_cases}
+use Rattle.bib_text.proofs.ListFacts.{contains_nothing}
 use Rattle.bib_collections.specs.Graph.{Graph, IsInRange, refs_of}
 use Rattle.bib_queries.specs.Needed.{AreMarks, IsMarked}
-use Rattle.bib_queries.proofs.MarkFacts.{contains_none, mark_kept, none_marked, set_decides}
+use Rattle.bib_queries.proofs.MarkFacts.{mark_kept, none_marked, set_decides}
 use Rattle.bib_findings.specs.Reaching.{IsReversed, IsReached}
 
 -- ---- marking the indices that are reached
@@ -112,9 +113,9 @@ module _ (graph : Graph) (starts : List ℕ) where
         (Contains-push_cases pending index i (subst (λ l. Contains l i) popped waited))
 
   complete : (marks : List Bool) (index : ℕ) → IsSearch marks [] → IsReached graph starts index → IsMarked marks index
-  complete marks index h (IsReached.start held) = ⊎_elim (λ is. is) (λ c. absurd (contains_none index c)) (h.begun index held)
+  complete marks index h (IsReached.start held) = ⊎_elim (λ is. is) (λ c. absurd (contains_nothing c)) (h.begun index held)
   complete marks index h (IsReached.next {from = from} before edge) =
-      ⊎_elim (λ is. is) (λ c. absurd (contains_none index c)) (h.closed from index (complete marks from h before) edge)
+      ⊎_elim (λ is. is) (λ c. absurd (contains_nothing c)) (h.closed from index (complete marks from h before) edge)
 
   -- if nothing is pending, exactly the indices that are reached have marks
   pub search_all : (marks : List Bool) → IsSearch marks [] → AreMarks (IsReached graph starts) (length graph) marks
@@ -129,10 +130,10 @@ module _ (graph : Graph) (starts : List ℕ) where
 refs_push : (graph : Graph) (row : List ℕ) (child parent : ℕ)
     → Contains (refs_of (graph ++ row ∷ []) child) parent ↔
     (Contains (refs_of graph child) parent ⊎ ((child ≡ length graph) × Contains row parent))
-refs_push [] row zero parent = (λ h. inr (refl, h), λ h. ⊎_elim (λ no. absurd (contains_none parent no)) (λ x. x.1) h)
+refs_push [] row zero parent = (λ h. inr (refl, h), λ h. ⊎_elim (λ no. absurd (contains_nothing no)) (λ x. x.1) h)
 refs_push [] row (suc child) parent = (
-  λ h. absurd (contains_none parent h),
-  λ h. ⊎_elim (λ no. absurd (contains_none parent no)) (λ x. absurd (omega (arith, x.0))) h,
+  λ h. absurd (contains_nothing h),
+  λ h. ⊎_elim (λ no. absurd (contains_nothing no)) (λ x. absurd (omega (arith, x.0))) h,
 )
 refs_push (first ∷ graph) row zero parent = (λ h. inl h, λ h. ⊎_elim (λ x. x) (λ x. absurd (omega (arith, x.0))) h)
 refs_push (first ∷ graph) row (suc child) parent =
@@ -163,7 +164,7 @@ reversed_push graph lists lists' row index is so more parent child =
 within_graph : (graph : Graph) (index reference : ℕ) → Contains (refs_of graph index) reference → index < length graph
 within_graph graph index reference edge = elim (cases_lt index (length graph)) [
   | inl t ↦ t
-  | inr t ↦ absurd (contains_none reference (subst (λ l. Contains l reference) (get_or_past graph index [] (omega (arith, t))) edge))
+  | inr t ↦ absurd (contains_nothing (subst (λ l. Contains l reference) (get_or_past graph index [] (omega (arith, t))) edge))
 ]
 
 -- the references of a reversed graph are in range

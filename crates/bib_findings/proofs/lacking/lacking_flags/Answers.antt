@@ -3,6 +3,7 @@ use Rattle.std.specs.List.{Contains}
 use Rattle.std.specs.Vec.{vec_len}
 use Rattle.std.proofs.lemmas.Bool.{eqb-true}
 use Rattle.std.proofs.lemmas.List.{length-map, nil_from_length}
+use Rattle.bib_text.proofs.ListFacts.{contains_nothing}
 use Rattle.bib_collections.specs.Graph.{IsInRange}
 use Rattle.bib_collections.specs.Rows.{rows}
 use Rattle.bib_collections.proofs.Rows.{length-rows}
@@ -10,7 +11,6 @@ use Rattle.bib_inheritance.specs.EntryTexts.{fields_of}
 use Rattle.bib_inheritance.specs.References.{references}
 use Rattle.bib_inheritance.specs.Resolving.{graph_by}
 use Rattle.bib_queries.specs.Needed.{AreMarks}
-use Rattle.bib_queries.proofs.MarkFacts.{contains_none}
 use Rattle.bib_syntax.specs.Views.{entry_reading_of}
 use Rattle.bib_findings.specs.Lacking.{AreLacking, is_cut_at}
 use Rattle.bib_findings.specs.Reaching.{IsReversed, IsReached}
@@ -31,7 +31,7 @@ returns-then-is_empty c =
     nil_from_length cut.items (omega (arith, eqb-true (vec_len cut) 0 (sym c.is_empty.ensures ∙ c.if-is_empty.true), cut.ok.0)) in
     rw made (none_lacking graph is_cut (length own)
     (λ index is.
-    contains_none index
+    contains_nothing
     (subst (λ l. Contains l index) empty ((c.in_ok-cut.ensures.cut skipped c.in_ok-starts.ensures index).1 is))))
 
 pub mark_reached-requires-clause-in_range : goal.mark_reached-requires-clause-in_range
