@@ -35,7 +35,7 @@ _bibkit() {
             return
             ;;
         --from)
-            local from='bib csl'
+            local from='bib csl ris'
             [ "$command" = recode ] && from='utf-8 utf-16 utf-16le utf-16be windows-1252 latin1'
             mapfile -t COMPREPLY < <(compgen -W "$from" -- "$current")
             return

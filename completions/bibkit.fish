@@ -62,7 +62,7 @@ complete -c bibkit -n '__fish_seen_subcommand_from resolve' -l not-inherited -d 
 complete -c bibkit -n '__fish_seen_subcommand_from resolve' -l write -d 'Write the new texts to the files'
 complete -c bibkit -n '__fish_seen_subcommand_from resolve' -l diff -d 'Print a diff'
 complete -c bibkit -n '__fish_seen_subcommand_from convert' -x -l to -a 'csl json ris biblatex bibtex' -d 'The format'
-complete -c bibkit -n '__fish_seen_subcommand_from convert' -x -l from -a 'bib csl' -d 'The format of the input'
+complete -c bibkit -n '__fish_seen_subcommand_from convert' -x -l from -a 'bib csl ris' -d 'The format of the input'
 complete -c bibkit -n '__fish_seen_subcommand_from lint keys get convert select edit remove' -x -l where -d 'Only entries that meet this condition'
 complete -c bibkit -n '__fish_seen_subcommand_from select' -l complete -d 'Print also what they use'
 complete -c bibkit -n '__fish_seen_subcommand_from select' -l keys -d 'Print only their keys'

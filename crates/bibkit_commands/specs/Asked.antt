@@ -13,6 +13,8 @@ use Rattle.bib_queries.specs.declared.request.Request.TheVariants as excerpt
 use Rattle.bib_tables.specs.declared.dialects.Dialect.{Dialect}
 use Rattle.bib_tables.specs.declared.dialects.Dialect.TheVariants.{Biblatex, Bibtex}
 use Rattle.bib_text.specs.Enums.{value_named}
+use Rattle.bibkit_commands.specs.declared.importing.Source.{Source}
+use Rattle.bibkit_commands.specs.declared.importing.Source.TheVariants as source
 use Rattle.bibkit_convert.specs.declared.target.Target.{Target}
 use Rattle.bibkit_convert.specs.declared.target.Target.TheVariants.{Csl, Json, Ris}
 use Rattle.bibkit_core.specs.Rules.{rule_named, rules_named}
@@ -219,9 +221,17 @@ dialect_for value = option_and_then (value_named dialects) value
 abbrev pub target_for : Option (List ℕ) → Target
 target_for value = unwrap_or (option_and_then (value_named targets) value) Csl
 
--- whether `--from` names CSL-JSON
-abbrev pub is_import : Arguments → Bool
-is_import arguments = option_map_or (λ name. bytes_eq name (codes "csl")) (argument_value arguments (codes "from")) false
+-- the formats of items and records by their names
+abbrev pub sources : List (List ℕ × Source)
+sources = (codes "csl", source.Csl) ∷ (codes "ris", source.Ris) ∷ []
+
+-- the format of items or records for a value of `--from`, if it names one
+abbrev pub source_for : Option (List ℕ) → Option Source
+source_for value = option_and_then (value_named sources) value
+
+-- the format of items or records that `--from` names, if it names one
+abbrev pub source_asked : Arguments → Option Source
+source_asked arguments = source_for (argument_value arguments (codes "from"))
 
 -- whether `--from` is missing, so that the ending of a file's name decides how it is read
 abbrev pub is_by_ending : Arguments → Bool
@@ -231,9 +241,14 @@ is_by_ending arguments = is_none (argument_value arguments (codes "from"))
 abbrev pub has_conditions : Arguments → Bool
 has_conditions arguments = not (length (argument_values arguments (codes "where")) == 0)
 
+-- the reason why a command line is refused that requests this format, and no dialect
+abbrev pub dialect_required : Source → List ℕ
+dialect_required source.Csl = codes "`--from csl` requires `--to biblatex` or `--to bibtex`"
+dialect_required source.Ris = codes "`--from ris` requires `--to biblatex` or `--to bibtex`"
+
 -- the reason why options of `convert` can't be used together: an import needs a dialect, and conditions another format
-abbrev pub conversion_refused : Bool → Option Dialect → Bool → Option (List ℕ)
-conversion_refused true None conditions = Some (codes "`--from csl` requires `--to biblatex` or `--to bibtex`")
+abbrev pub conversion_refused : Option Source → Option Dialect → Bool → Option (List ℕ)
+conversion_refused (Some source) None conditions = Some (dialect_required source)
 conversion_refused imports (Some dialect) true = Some (codes "`--where` requires `--to csl`, `--to json` or `--to ris`")
 conversion_refused _ _ _ = None
 
@@ -243,16 +258,16 @@ dialect_asked arguments = dialect_for (argument_value arguments (codes "to"))
 
 -- the reason why the options of `convert` can't be used together
 abbrev pub wrong_conversion : Arguments → Option (List ℕ)
-wrong_conversion arguments = conversion_refused (is_import arguments) (dialect_asked arguments) (has_conditions arguments)
+wrong_conversion arguments = conversion_refused (source_asked arguments) (dialect_asked arguments) (has_conditions arguments)
 
 -- the request of `convert`: it is refused if its options can't be used together. If `--to` names a dialect, entries are imported from
--- CSL-JSON or files are rewritten, and otherwise the entries that meet the conditions are printed in another format
+-- items or records, or files are rewritten, and otherwise the entries that meet the conditions are printed in another format
 abbrev pub IsConvertOf : Arguments → Asked → Type 0
 IsConvertOf arguments (variant.Wrong reason) = wrong_conversion arguments ≡ Some reason.now
-IsConvertOf arguments (variant.Import dialect) =
-    (wrong_conversion arguments ≡ None) × (is_import arguments ≡ true) × (dialect_asked arguments ≡ Some dialect)
+IsConvertOf arguments (variant.Import dialect from) =
+    (wrong_conversion arguments ≡ None) × (source_asked arguments ≡ Some from) × (dialect_asked arguments ≡ Some dialect)
 IsConvertOf arguments (variant.Rewrite dialect by_ending) =
-    (wrong_conversion arguments ≡ None) × (is_import arguments ≡ false) × (dialect_asked arguments ≡ Some dialect)
+    (wrong_conversion arguments ≡ None) × (source_asked arguments ≡ None) × (dialect_asked arguments ≡ Some dialect)
     × (by_ending ≡ is_by_ending arguments)
 IsConvertOf arguments (variant.Convert converting) =
     (wrong_conversion arguments ≡ None) × (dialect_asked arguments ≡ None)

@@ -6,7 +6,7 @@ ghost use Rattle.bibkit_settings.specs.StyleSettings as style;
 ghost use Rattle.bibkit_commands.specs.Arguments.{arguments_of, argument_number, argument_value};
 ghost use Rattle.bibkit_commands.specs.Asked as spec;
 ghost use Rattle.bibkit_commands.specs.Asked.{AreStyleSettingsOf, IsAskedBy, IsConvertOf, IsFormatOf, IsGetOf, IsKeysOf};
-ghost use Rattle.bibkit_commands.specs.Asked.{IsSortOf, IsSortRefused, dialect_for, files_of, mode_asked, target_for};
+ghost use Rattle.bibkit_commands.specs.Asked.{IsSortOf, IsSortRefused, dialect_for, files_of, mode_asked, source_for, target_for};
 ghost use Rattle.bibkit_commands.specs.CommandLine.{IsCommandLineOf, IsCommandOf};
 ghost use Rattle.bibkit_commands.specs.Commands.{reading_command_named};
 ghost use Rattle.bibkit_commands.specs.EditsAsked.{IsEditingOf};
@@ -15,6 +15,7 @@ use crate::argument_values::{given_texts, has_flag, number, number_in, text, tex
 use crate::converting::Converting;
 use crate::edit_arguments::edits_of;
 use crate::edits::{Editing, Mode};
+use crate::importing::Source;
 use crate::lint_arguments::lint_asked;
 use crate::selecting::{Printed, Selecting};
 use bib_queries::request::{Request as Excerpts, Search};
@@ -66,11 +67,16 @@ pub enum Asked<'a> {
     Rewrite {
         /// The dialect.
         dialect: Dialect,
-        /// Whether a file whose name ends in `.json` is read as CSL-JSON.
+        /// Whether files whose names end in `.json` or `.ris` are read as CSL-JSON or RIS.
         is_by_ending: bool,
     },
-    /// Prints the entries of the CSL-JSON items of files, with the types and fields of a dialect.
-    Import(Dialect),
+    /// Prints the entries of the items or records of files, with the types and fields of a dialect.
+    Import {
+        /// The dialect.
+        dialect: Dialect,
+        /// The format of the files.
+        source: Source,
+    },
     /// Replaces the references `crossref` and `xdata` in files by the inherited fields.
     Resolve {
         /// The use of the new text of each file.
@@ -240,13 +246,24 @@ fn target_named(name: Option<&str>) -> Target
     }
 }
 
-// Returns whether `--from` names CSL-JSON.
-fn is_import(matches: &ArgMatches<'_>) -> bool
-    ensures { result ≡ spec.is_import (arguments_of matches.now) }
+// Returns the format of items or records with this name, or `None` for any other name and for a missing one.
+fn source_named(name: Option<&str>) -> Option<Source>
+    ensures { result ≡ source_for (option_map (λ name. name.now) name.entry) }
 {
-    match value(matches, "from") {
-        Some(name) => name == "csl",
-        None => false,
+    match name {
+        Some("csl") => Some(Source::Csl),
+        Some("ris") => Some(Source::Ris),
+        _ => None,
+    }
+}
+
+// Returns why a command line is wrong that requests this format, and no dialect.
+fn dialect_required(source: Source) -> &'static str
+    ensures { result.now ≡ spec.dialect_required source }
+{
+    match source {
+        Source::Csl => "`--from csl` requires `--to biblatex` or `--to bibtex`",
+        Source::Ris => "`--from ris` requires `--to biblatex` or `--to bibtex`",
     }
 }
 
@@ -265,20 +282,18 @@ fn convert_asked<'a>(alloc: Global, matches: &ArgMatches<'a>) -> Result<Asked<'a
     ensures { IfOk result (IsConvertOf (arguments_of matches.now)) }
 {
     let conditions = texts(alloc, matches, "where")?;
-    let is_import = is_import(matches);
-    let asked = match dialect_named(value(matches, "to")) {
-        None if is_import => {
-            Asked::Wrong("`--from csl` requires `--to biblatex` or `--to bibtex`")
-        }
-        Some(_) if !conditions.is_empty() => {
+    let source = source_named(value(matches, "from"));
+    let asked = match (dialect_named(value(matches, "to")), source) {
+        (None, Some(source)) => Asked::Wrong(dialect_required(source)),
+        (Some(_), _) if !conditions.is_empty() => {
             Asked::Wrong("`--where` requires `--to csl`, `--to json` or `--to ris`")
         }
-        Some(dialect) if is_import => Asked::Import(dialect),
-        Some(dialect) => Asked::Rewrite {
+        (Some(dialect), Some(source)) => Asked::Import { dialect, source },
+        (Some(dialect), None) => Asked::Rewrite {
             dialect,
             is_by_ending: is_by_ending(matches),
         },
-        None => Asked::Convert(Converting {
+        (None, None) => Asked::Convert(Converting {
             target: target_named(value(matches, "to")),
             conditions,
         }),

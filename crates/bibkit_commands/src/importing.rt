@@ -1,4 +1,4 @@
-//! Runs `convert --from csl`, which converts CSL-JSON items to entries.
+//! Runs `convert --from csl` and `--from ris`, which convert items of CSL-JSON and records of RIS to entries.
 
 ghost use Rattle.std.specs.Prelude.{◌≡◌, Some, IfOk, codes};
 ghost use Rattle.bib_source.specs.Positions.{position_at};
@@ -10,10 +10,42 @@ use crate::stops::{Stop, bytes_of, error_line, say};
 use bib_from_csl::converting::{Converted, ItemsError, Refusal, entries_of};
 use bib_from_csl::losses::{Loss, LossKind};
 use bib_from_csl::reading::Fault;
+use bib_from_ris::converting::{RisError, entries_of_ris};
 use bib_tables::dialects::Dialect;
 use bibkit_edits::edit::Edit;
 use std::alloc::{AllocError, Global};
 use std::str::from_utf8;
+
+/// The format of items or records that become entries.
+#[derive(Debug, Clone, Copy, PartialEq, Eq)]
+pub enum Source {
+    /// CSL-JSON.
+    Csl,
+    /// RIS.
+    Ris,
+}
+
+/// Returns the format of a file by the ending of its name: CSL-JSON for `.json`, and RIS for `.ris`. Returns `None` for any other ending.
+pub fn source_of(name: &str) -> Option<Source> {
+    if name.ends_with(".json") {
+        Some(Source::Csl)
+    } else if name.ends_with(".ris") {
+        Some(Source::Ris)
+    } else {
+        None
+    }
+}
+
+/// Returns the format by the endings of these names, if all of them have the same format.
+pub fn shared_source(names: &[&str]) -> Option<Source> {
+    let source = source_of(names.first()?)?;
+    'names: for name in names {
+        if source_of(name) != Some(source) {
+            return None;
+        }
+    }
+    Some(source)
+}
 
 // Returns the message for a fault of a text whose items can't be converted.
 fn fault_text(fault: Fault) -> &'static str
@@ -50,20 +82,46 @@ fn items_stop(
 ) -> Result<Stop, AllocError> {
     match error.unless_out_of_memory()? {
         ItemsError::Refused(refusal) => fault_stop(alloc, name, text, &refusal),
-        _ => {
-            let line = format!(in alloc;
-                "bibkit: {name}: the converted entries can't be parsed\n"
-            )?;
-            Ok(Stop::Said(line, 1))
-        }
+        _ => unread_stop(alloc, name),
     }
 }
 
-// Converts the items of a text to entries.
-fn convert_items(alloc: Global, name: &str, text: &str) -> Result<Converted, Stop> {
-    match entries_of(alloc, text) {
-        Ok(converted) => Ok(converted),
-        Err(error) => Err(items_stop(alloc, name, text, error)?),
+// Returns the message and status 1 for items or records whose entries can't be parsed.
+fn unread_stop(alloc: Global, name: &str) -> Result<Stop, AllocError> {
+    let line = format!(in alloc; "bibkit: {name}: the converted entries can't be parsed\n")?;
+    Ok(Stop::Said(line, 1))
+}
+
+// Returns the message and status 1 for an error of converting records.
+fn records_stop(alloc: Global, name: &str, error: RisError) -> Result<Stop, AllocError> {
+    match error.unless_out_of_memory()? {
+        RisError::NoRecord => {
+            let line = format!(in alloc;
+                "bibkit: {name}: expected a record, which begins with a line `TY  - TYPE`\n"
+            )?;
+            Ok(Stop::Said(line, 1))
+        }
+        RisError::KeyTwice(index) => {
+            let line = format!(in alloc;
+                "bibkit: {name}: the record with the index {index} has the key of an earlier one\n"
+            )?;
+            Ok(Stop::Said(line, 1))
+        }
+        _ => unread_stop(alloc, name),
+    }
+}
+
+// Converts the items or records of a text to entries.
+fn convert_items(alloc: Global, source: Source, name: &str, text: &str) -> Result<Converted, Stop> {
+    match source {
+        Source::Csl => match entries_of(alloc, text) {
+            Ok(converted) => Ok(converted),
+            Err(error) => Err(items_stop(alloc, name, text, error)?),
+        },
+        Source::Ris => match entries_of_ris(alloc, text) {
+            Ok(converted) => Ok(converted),
+            Err(error) => Err(records_stop(alloc, name, error)?),
+        },
     }
 }
 
@@ -120,14 +178,16 @@ impl LeftOut {
         Ok(())
     }
 
-    // Prints a note on these members of the item with this `id`, if there are any.
+    // Prints a note on these members of the item with this `id`, if there are any. Lines of RIS that are in no record have no `id`.
     fn say(&self, rt: &HostRuntime, name: &str, id: &str) {
-        if !self.names.is_empty() {
-            let _ = eprint!(rt;
-                "{name}: note: `{id}`: {} {}\n",
-                self.names,
-                left_out_text(self.has_several)
-            );
+        let said = left_out_text(self.has_several);
+        if self.names.is_empty() {
+            return;
+        }
+        if id.is_empty() {
+            let _ = eprint!(rt; "{name}: note: outside of records: {} {said}\n", self.names);
+        } else {
+            let _ = eprint!(rt; "{name}: note: `{id}`: {} {said}\n", self.names);
         }
     }
 }
@@ -164,16 +224,17 @@ fn edit_of<'a>(dialect: Dialect) -> Edit<'a> {
     }
 }
 
-// Prints the entries of the items of a text, and notes on members that are lost or changed. `is_last` says whether the process ends after
+// Prints the entries of the items or records of a text, and notes on members that are lost or changed. `is_last` says whether the process ends after
 // this text.
 fn import_text(
     rt: &HostRuntime,
     dialect: Dialect,
+    source: Source,
     name: &str,
     text: &str,
     is_last: bool,
 ) -> Result<(), Stop> {
-    let converted = convert_items(rt.alloc(), name, text)?;
+    let converted = convert_items(rt.alloc(), source, name, text)?;
     print(
         rt,
         name,
@@ -197,27 +258,28 @@ fn encoding_stop(alloc: Global, name: &str, bytes: &[u8], at: usize) -> Result<S
     Ok(Stop::Said(line, 1))
 }
 
-// Prints the entries of the items of a file. `is_last` says whether it is the last one.
-fn import_file(rt: &HostRuntime, dialect: Dialect, name: &str, is_last: bool) -> Result<(), Stop> {
+// Prints the entries of the items or records of a file. `is_last` says whether it is the last one.
+fn import_file(
+    rt: &HostRuntime,
+    dialect: Dialect,
+    source: Source,
+    name: &str,
+    is_last: bool,
+) -> Result<(), Stop> {
     let bytes = bytes_of(rt, name)?;
-    let json = after_mark(&bytes);
-    match from_utf8(json) {
-        Ok(text) => import_text(rt, dialect, name, text, is_last),
-        Err(error) => { Err(encoding_stop(rt.alloc(), name, json, error.valid_up_to())?) }
+    let unmarked = after_mark(&bytes);
+    match from_utf8(unmarked) {
+        Ok(text) => import_text(rt, dialect, source, name, text, is_last),
+        Err(error) => { Err(encoding_stop(rt.alloc(), name, unmarked, error.valid_up_to())?) }
     }
 }
 
-/// Returns whether a file is read as CSL-JSON without `--from csl`: its name ends in `.json`.
-pub fn is_items_file(name: &str) -> bool {
-    name.ends_with(".json")
-}
-
-/// Prints the entries of the items of each file in turn, with the types and fields of a dialect. Returns the greatest status.
-pub fn run_import(rt: &HostRuntime, dialect: Dialect, names: &[&str]) -> u8 {
+/// Prints the entries of the items or records of each file in turn, with the types and fields of a dialect. Returns the greatest status.
+pub fn run_import(rt: &HostRuntime, dialect: Dialect, source: Source, names: &[&str]) -> u8 {
     let mut status = 0;
     'names: for (index, name) in names.iter().enumerate() {
         let is_last = index + 1 == names.len();
-        if let Err(stop) = import_file(rt, dialect, name, is_last) {
+        if let Err(stop) = import_file(rt, dialect, source, name, is_last) {
             status = say(rt, &stop).max(status);
         }
     }

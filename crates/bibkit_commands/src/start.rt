@@ -10,7 +10,7 @@ use crate::edits::{Mode, run_edits};
 use crate::files::SystemFiles;
 use crate::fixing::run_fix;
 use crate::formatting::run_format;
-use crate::importing::{is_items_file, run_import};
+use crate::importing::{run_import, shared_source, source_of};
 use crate::resolving::run_resolve;
 use crate::rewriting::run_rewrite;
 use crate::selecting::{parse_conditions, run_select};
@@ -306,25 +306,21 @@ fn refuse_words(rt: &HostRuntime, reason: &str) -> u8 {
     2
 }
 
-// Prints files with the types and fields of a dialect, and returns the status. If `is_by_ending`, the files are read as CSL-JSON if their
-// names end in `.json`; files of both kinds are refused.
+// Prints files with the types and fields of a dialect, and returns the status. If `is_by_ending`, files whose names end in `.json` or `.ris`
+// are read as CSL-JSON or RIS; such files are refused together with others.
 fn run_dialect(rt: &HostRuntime, dialect: Dialect, is_by_ending: bool, names: &[&str]) -> u8 {
-    let mut items = 0usize;
-    'names: for name in names {
-        if is_by_ending && is_items_file(name) {
-            items += 1;
+    if is_by_ending {
+        if let Some(source) = shared_source(names) {
+            return run_import(rt, dialect, source, names);
+        }
+        if names.iter().any(|name| source_of(name).is_some()) {
+            return refuse_words(
+                rt,
+                "files that end in `.json` or `.ris` can't be converted together with others",
+            );
         }
     }
-    if items == 0 {
-        return run_rewrite(rt, dialect, names);
-    }
-    if items < names.len() {
-        return refuse_words(
-            rt,
-            "files that end in `.json` can't be converted together with others",
-        );
-    }
-    run_import(rt, dialect, names)
+    run_rewrite(rt, dialect, names)
 }
 
 // Returns the names of all codes, with a space before each and commas between them.
@@ -409,7 +405,7 @@ fn answer(rt: &HostRuntime, words: Words<'_>) -> u8 {
             dialect,
             is_by_ending,
         } => run_dialect(rt, dialect, is_by_ending, &names),
-        Asked::Import(dialect) => run_import(rt, dialect, &names),
+        Asked::Import { dialect, source } => run_import(rt, dialect, source, &names),
         Asked::Cited(document) => run_cited(rt, document, &names),
         Asked::Select(selecting) => run_select(rt, &selecting, &names),
         Asked::Entries { conditions, keys } => run_selected(rt, &conditions, keys, names),

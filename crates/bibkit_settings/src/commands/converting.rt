@@ -86,8 +86,8 @@ ris, and by those of `bib` for json, which has byte offsets of the file. --where
 as far as it can be parsed, and each error is reported.
 
 biblatex and bibtex change dates and the names of types and fields, and keep all other text. A file with errors is not printed, and its
-first error is reported. --from csl converts each item of CSL-JSON to an entry, and reports each variable that is lost or changed. Without
---from, files whose names end in .json are read so.
+first error is reported. --from csl converts each item of CSL-JSON to an entry, and --from ris each record of RIS. What is lost or changed is
+reported. Without --from, files whose names end in .json or .ris are read so.
 
 Examples:
   bibkit convert --to csl refs.bib >refs.json
@@ -106,7 +106,7 @@ const CONVERT: [Argument; 3] = [
     Argument {
         name: "from",
         takes: Takes::Choice(Choice::Source),
-        help: "Bibliography files or CSL-JSON [default: csl for names that end in .json]",
+        help: "Bibliography files, CSL-JSON or RIS [default: csl for names that end in .json, ris for .ris]",
     },
     WHERE,
 ];
