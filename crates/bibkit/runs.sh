@@ -1799,7 +1799,7 @@ run_messages 'no items: it says so' 0 $'noitems.json: note: no items\n' convert 
 run 'a file of items by its ending' 0 $'@thesis{c,\n  institution = {U},\n}\n' convert --to biblatex thesis.json
 run 'a file of entries in spite of its ending' 0 '[{"id":"c","type":"thesis","publisher":"U"}]' convert --from bib --to biblatex thesis.json
 run_messages 'no entry: it says so' 0 $'thesis.json: note: no entry\n' convert --from bib --to biblatex thesis.json
-run_messages 'files of both kinds' 2 $'bibkit: files that end in `.json` can\'t be converted together with others\n' convert --to biblatex thesis.json a.bib
+run_messages 'files of both kinds' 2 $'bibkit: files that end in `.json` or `.ris` can\'t be converted together with others\n' convert --to biblatex thesis.json a.bib
 printf 'Only a text.\n' >text.bib
 run_messages 'no entry to print' 0 $'bibkit: note: no entry to print\n' convert --to csl text.bib
 # one item, as doi.org returns it
