@@ -132,8 +132,8 @@ fn refused_at(
     })
 }
 
-// Returns the index of the second item whose entry has this key, or the number of items if there is none.
-fn index_of_second(alloc: Global, items: &[GivenItem], key: &str) -> Result<usize, AllocError> {
+/// Returns the index of the second item whose entry has this key, or the number of items if there is none.
+pub fn index_of_second(alloc: Global, items: &[GivenItem], key: &str) -> Result<usize, AllocError> {
     let mut index = 0;
     let mut is_met = false;
     'items: for item in items {

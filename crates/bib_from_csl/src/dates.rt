@@ -165,9 +165,9 @@ fn parted_date(
     })
 }
 
-// Returns the date that a text is parsed as in a date field, or else a season or a date with this text. Returns `None` if it is
-// empty.
-fn said_date(alloc: Global, text: &str) -> Result<Option<ItemDate>, AllocError>
+/// Returns the date that a text is parsed as in a date field, or else a season or a date with this text. Returns `None` if it is
+/// empty.
+pub fn said_date(alloc: Global, text: &str) -> Result<Option<ItemDate>, AllocError>
     ensures { IfOk result (λ item. item ≡ spec.said_date text.now) }
 {
     let chunks = normal(alloc, text)?;

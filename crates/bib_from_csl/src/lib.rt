@@ -7,7 +7,7 @@
 #![tactic(auto)]
 
 pub mod converting;
-mod dates;
+pub mod dates;
 mod days;
 pub mod given;
 mod languages;
@@ -22,4 +22,4 @@ mod tags;
 mod types;
 mod values;
 mod variables;
-mod writing;
+pub mod writing;

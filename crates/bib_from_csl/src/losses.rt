@@ -217,7 +217,7 @@ fn push_losses(
 }
 
 /// Returns the losses of items. Their entries are in the same order; missing ones are those of the last items.
-pub(crate) fn all_losses(
+pub fn all_losses(
     alloc: Global,
     items: &[GivenItem],
     entries: &[Entry],

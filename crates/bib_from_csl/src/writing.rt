@@ -369,7 +369,7 @@ fn push_next(alloc: Global, out: &mut Text, first: bool, item: &GivenItem) -> Re
 }
 
 // Returns the source of the entries of items.
-pub(crate) fn entries_text(alloc: Global, items: &[GivenItem]) -> Result<Text, AllocError>
+pub fn entries_text(alloc: Global, items: &[GivenItem]) -> Result<Text, AllocError>
     ensures { IfOk result (λ text. text ≡ spec.items_source items.now) }
 {
     let mut out = Text::new(alloc);
