@@ -23,6 +23,7 @@ mod items;
 mod keys;
 mod orders;
 mod recodings;
+mod records;
 mod resolutions;
 mod selections;
 mod sortings;
@@ -53,6 +54,7 @@ fn rows(alloc: Global, layer: &str, input: &str) -> Result<String, AllocError> {
         "orders" => answered::<orders::Orders>(alloc, input),
         "keys" => answered::<keys::Keys>(alloc, input),
         "recodings" => answered::<recodings::Recodings>(alloc, input),
+        "records" => answered::<records::Records>(alloc, input),
         "resolutions" => answered::<resolutions::Resolutions>(alloc, input),
         "selections" => answered::<selections::Selections>(alloc, input),
         "sortings" => answered::<sortings::Sortings>(alloc, input),

@@ -1,0 +1,10 @@
+pub mod FromRis
+pub mod Lines
+pub mod Members
+pub mod RisDates
+pub mod RisItems
+pub mod RisNames
+pub mod RisTypes
+pub mod Sections
+pub mod Tags
+pub mod Variables
