@@ -1802,6 +1802,19 @@ run_messages 'no entry: it says so' 0 $'thesis.json: note: no entry\n' convert -
 run_messages 'files of both kinds' 2 $'bibkit: files that end in `.json` or `.ris` can\'t be converted together with others\n' convert --to biblatex thesis.json a.bib
 printf 'Only a text.\n' >text.bib
 run_messages 'no entry to print' 0 $'bibkit: note: no entry to print\n' convert --to csl text.bib
+# records of RIS
+printf 'TY  - JOUR\r\nAU  - Knuth, Donald E.\r\nTI  - Literate Programming\r\nJO  - The Computer Journal\r\nPY  - 1984\r\nSP  - 97\r\nEP  - 111\r\nC1  - 12\r\nID  - k\r\nER  - \r\n' >paper.ris
+ris_entry=$'@article{k,\n  author = {Knuth, Donald E.},\n  title = {Literate Programming},\n  journaltitle = {The Computer Journal},\n  date = {1984},\n  pages = {97--111},\n}\n'
+run 'entries of records' 0 "$ris_entry" convert --from ris --to biblatex paper.ris
+run 'a file of records by its ending' 0 "$ris_entry" convert --to biblatex paper.ris
+run_messages 'a line that no field has' 0 $'paper.ris: note: `k`: `C1` is left out: no field for it\n' convert --to biblatex paper.ris
+run 'records as entries of BibTeX' 0 $'@article{k,\n  author = {Knuth, Donald E.},\n  title = {Literate Programming},\n  journal = {The Computer Journal},\n  year = {1984},\n  pages = {97--111},\n}\n' convert --to bibtex paper.ris
+run_messages 'no record' 1 $'bibkit: thesis.json: expected a record, which begins with a line `TY  - TYPE`\n' convert --from ris --to biblatex thesis.json
+printf 'TY  - BOOK\nID  - k\nER  - \nTY  - BOOK\nID  - k\nER  - \n' >twice.ris
+run_messages 'two records with one key' 1 $'bibkit: twice.ris: the record with the index 1 has the key of an earlier one\n' convert --to biblatex twice.ris
+printf 'Exported today\nTY  - BOOK\nID  - k\nER  - \n' >outside.ris
+run_messages 'a line outside of records' 0 $'outside.ris: note: outside of records: `Exported today` is left out: no field for it\n' convert --to biblatex outside.ris
+run_messages 'records that go nowhere' 2 $'bibkit: `--from ris` requires `--to biblatex` or `--to bibtex`\n' convert --from ris --to csl paper.ris
 # one item, as doi.org returns it
 printf '{"score":1,"DOI":"10.1/x","type":"article-journal","title":"T","source":"Crossref","member":"2","ISSN":["1745-2473","1745-2481"]}' >doi.json
 run 'one item from doi.org' 0 $'@article{10.1/x,\n  doi = {10.1/x},\n  title = {T},\n  issn = {1745-2473, 1745-2481},\n}\n' convert --to biblatex doi.json
