@@ -8,4 +8,3 @@ mod ReadingFacts
 mod ScanFacts
 mod TagFacts
 mod TextCuts
-mod TitleFacts
