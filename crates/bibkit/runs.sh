@@ -2435,7 +2435,7 @@ folder = tempfile.mkdtemp()
 os.symlink(program, os.path.join(folder, "bibkit"))
 failed = ran = 0
 for kind, block in re.findall(r"^```(\S*)\n(.*?)^```$", open(document, encoding="utf-8").read(), re.S | re.M):
-    name = re.match(r"(?:bib|tex|toml|json):(\S+)$", kind)
+    name = re.match(r"(?:bib|tex|toml|json|ris):(\S+)$", kind)
     if name:
         open(os.path.join(folder, name.group(1)), "w", encoding="utf-8").write(block)
     if kind != "console":
