@@ -1,6 +1,6 @@
 -- Meaning: words of public contracts.
--- The variables for the lines of a record, by their tags. The tables are those of EndNote and Zotero, and bibutils where these have none.
--- `last-page`, `day` and `id` are no variables of CSL: they are the last page, the whole date, and the key.
+-- The variables for the lines of a record, by their tags. The tables follow those of EndNote and Zotero, and bibutils where these have
+-- none. `last-page`, `day` and `id` are no variables of CSL: they are the last page, the whole date, and the key.
 use Rattle.std.specs.Prelude.{ℕ, Bool, not, ◌&&◌, ◌||◌, if◌then◌else◌, nat_lt, List, [], length, codes, bytes_eq}
 use Rattle.bib_from_csl.specs.EntryTypes.{is_among_words}
 use Rattle.bib_from_csl.specs.LanguageNames.{first_name}
