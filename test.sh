@@ -1,8 +1,8 @@
 #!/usr/bin/env bash
 # Runs the tests: test.sh [--prove]
-# Without a word it runs all tests that need no proof, in five to eight minutes: check.py with its own tests, the lists of original.py,
-# the rows and test functions of tests/, and, if the programs and the library for C are built and no source has changed since, the
-# tests of those. Its last lines say what it ran, and what it didn't.
+# Without a word it runs all tests that need no proof, in five to eight minutes: check.py with its own tests, the layout of the sources,
+# the lists of original.py, the rows and test functions of tests/, and, if the programs and the library for C are built and no source
+# has changed since, the tests of those. Its last lines say what it ran, and what it didn't.
 # With --prove it is the whole gate: it also proves every crate and tries the wrong bodies that must be refused, by `rt ci`, and
 # makes the archive of a release and tries it. A missing compiler or interpreter then fails it. The shells zsh and fish, and mypy,
 # may be missing. RT_JOBS=N uses N processors.
@@ -36,12 +36,18 @@ omit() {
     ! $is_gate || { status=1; echo "test.sh: $1 not run: $2" >&2; }
 }
 
+# Whether the sources of all crates are laid out as `rt fmt` does. `rt ci` refuses a crate otherwise.
+are_laid_out() {
+    find crates/*/src crates/*/specs crates/*/proofs -name '*.[ra]*t' -exec rattle fmt --check {} +
+}
+
 # Whether a file is built, and no source has changed since.
 is_new() {
     [ -f "$1" ] && [ -z "$(find crates/*/src crates/*/specs crates/*/proofs -name '*.[ra]*t' -newer "$1" -print -quit)" ]
 }
 
 part check.py python3 scripts/check.py
+part 'rattle fmt --check' are_laid_out
 part check_test.py python3 tests/check_test.py
 part 'the lists of original.py' python3 tests/original.py
 room=$(mktemp -d)

@@ -102,6 +102,11 @@ def is_beyond_ascii(case):
     return not case.difference.key.isascii()
 
 
+def has_equals_sign(case):
+    """Whether a key of the file contains an equals sign, which bibtool reads in no key."""
+    return any("=" in it.key for it in case.source.values())
+
+
 def is_emptied(case):
     """Whether the command removes all fields of its entry."""
     entry = case.source.get(case.command.key.lower())
@@ -144,6 +149,9 @@ REASONS = [
     Reason(FAULT, "the type of a thesis or report stays a key of BibLaTeX, which BibTeX prints", "to-bibtex", "bibtool", "kind printed"),
     Reason(RULE, "a new key that an entry has in another case is refused", "(add|rename)-case", "bibkit", "refused",
            lambda it: same_key(it) and "an entry has the name already" in it.difference.after),
+    Reason(RULE, "a new key that bibtool can't read is refused", "rename-case", "bibkit", "refused",
+           lambda it: "a new key isn't empty" in it.difference.after and "=" in it.command.key),
+    Reason(PEER, "bibtool can't read the old key, and reads the new one", "rename", "bibtool", "entry new", has_equals_sign),
     Reason(RULE, "a definition of an abbreviation that the file has with another text is refused", "add-string", "bibkit", "refused",
            lambda it: "an abbreviation is defined already" in it.difference.after),
     Reason(FAULT, "rename leaves a reference by an abbreviation", "rename", ".*", ".*", refers_by_abbreviation),

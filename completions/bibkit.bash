@@ -35,7 +35,7 @@ _bibkit() {
             return
             ;;
         --from)
-            local from='bib csl ris'
+            local from='bib csl ris json'
             [ "$command" = recode ] && from='utf-8 utf-16 utf-16le utf-16be windows-1252 latin1'
             mapfile -t COMPREPLY < <(compgen -W "$from" -- "$current")
             return
@@ -93,7 +93,7 @@ _bibkit() {
         [ "$command" = strings ] && options='--expand --collect --fields --at-least --file --write --diff --help'
         [ "$command" = fmt ] && options='--indent --align --no-align --trailing-comma --no-trailing-comma --blank-lines --delimiters --order
             --width --sort --check --write --diff --help'
-        [ "$command" = convert ] && options='--to --from --where --help'
+        [ "$command" = convert ] && options='--to --from --sentence-case --where --help'
         [ "$command" = recode ] && options='--from --line-ends --bom --accents --file --write --help'
         [ "$command" = resolve ] && options='--not-inherited --write --diff --help'
         [ "$command" = lint ] && options='--only --ignore --explain --format --fail-on --cited --unused --each --where --color --stdin-filename

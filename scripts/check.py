@@ -23,6 +23,7 @@ With --crates it prints the table of crates for docs/CONTRIBUTING.md.
 - crates.txt is in the order of the layers, and names for a crate only what its files mention.
 - docs/CONTRIBUTING.md has the table of crates that --crates prints.
 - docs/THEOREMS.md says of each word in which file of specs/ it is defined, and names only calls that the sources have.
+- docs/CSL.md has the tables of entry types, fields, CSL types, variables, and RIS types and tags of the definitions (tables.py).
 - README.md, docs/ and the indexes name no file and no crate that isn't there.
 """
 import os
@@ -32,6 +33,7 @@ import sys
 
 import out_of_memory
 import similar_names
+import tables
 
 TOP = pathlib.Path(__file__).resolve().parent.parent
 sys.path.insert(0, str(TOP / "tests"))
@@ -465,26 +467,19 @@ def check_theorems():
                 error(theorems, f"no source has {call}")
 
 
+def check_tables():
+    for path, why in tables.compare(TOP):
+        error(path, why)
+
+
 def main():
     names = edits()
-    check_indexes()
-    check_promised()
-    check_comments()
-    check_surface()
-    check_definitions()
-    check_specs()
-    check_words()
-    check_characters()
-    check_widths()
-    check_calls()
-    check_memory()
-    check_similar()
-    check_rows()
-    check_readme()
-    check_documents()
-    check_layers()
-    check_crates_table()
-    check_theorems()
+    for rule in (
+        check_indexes, check_promised, check_comments, check_surface, check_definitions, check_specs, check_words, check_characters,
+        check_widths, check_calls, check_memory, check_similar, check_rows, check_readme, check_documents, check_layers,
+        check_crates_table, check_theorems, check_tables,
+    ):
+        rule()
     for it in errors:
         print(f"check: {it}")
     print(f"check: {len(names['must-fail'])} wrong bodies for the gate and {len(names['wrong'])} others, {len(errors)} errors")

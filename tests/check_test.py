@@ -1,5 +1,5 @@
 #!/usr/bin/env python3
-"""Tests of scripts/check.py and scripts/out_of_memory.py.
+"""Tests of scripts/check.py, with the files that it imports, and of scripts/out_of_memory.py.
 
 Each rule of check.py gets a small tree in a temporary folder that keeps it, and changes of that tree, each of which it has to report.
 out_of_memory.py gets wrong bodies, each of which it has to report, and right ones, of which it may report none.
@@ -14,6 +14,7 @@ from unittest import mock
 
 sys.path.insert(0, str(pathlib.Path(__file__).resolve().parent.parent / "scripts"))
 import check
+from clauses import CRATES
 from out_of_memory import built
 
 WRONG = {
@@ -283,6 +284,11 @@ THEOREMS = {
     "| one | `a::f` | `one` |\n",
     **SPECS,
 }
+# the tables of docs/CSL.md and the definitions that they describe
+TABLES = {
+    file.relative_to(check.TOP).as_posix(): file.read_text()
+    for file in [check.TOP / "docs" / "CSL.md", *(file for crate in CRATES for file in check.CRATES.glob(f"{crate}/specs/*.antt"))]
+}
 PROMISED = {}
 for shown in [it for them in check.PROMISED.values() for it in them]:
     file, is_test, text = shown.partition(": ")
@@ -363,6 +369,13 @@ SURFACE = {
     "crates/bib_entry/src/lib.rt": KIND + GETTERS,
     "docs/DIFFERENCES.md": "",
 }
+
+
+def changed(old, new, name="docs/CSL.md"):
+    """A change of TABLES: the file with another text, which it has to have once."""
+    assert TABLES[name].count(old) == 1, old
+    return {name: TABLES[name].replace(old, new)}
+
 
 # of each rule: the function, a tree that keeps it, and changes of that tree, each with a text that all errors of it have to contain
 RULES = {
@@ -478,6 +491,27 @@ RULES = {
         ({"crates.txt": LAYERS["crates.txt"] + "c: a\n", "crates/c/src/lib.rt": "//! More. use a::b;\n"}, "its table of crates is not what"),
         ({"docs/CONTRIBUTING.md": TABLE["docs/CONTRIBUTING.md"].replace("\n\nMore", "\n| `c` | |\n\nMore")}, "its table of crates is not what"),
         ({"docs/CONTRIBUTING.md": "# Work\n"}, "its table of crates is not what"),
+    ]),
+    "docs/CSL.md has the tables of the definitions": (check.check_tables, TABLES, [
+        (changed("| booklet | pamphlet |", "| booklet | book |"), "types: `booklet` has `"),
+        (changed("| chapter | chapter-number | rich |\n", ""), "fields: `chapter` has `chapter-number` in `item_fields`, but not here"),
+        (changed("| venue | event-place | rich |", "| venue, city | event-place | rich |"), "fields: `city` has `event-place` here, but not in `item_fields`"),
+        (changed("crossref, xref, xdata", "crossref, isbn, xdata"), "fields: it drops `isbn`, which `item_fields` has"),
+        (changed("`CD-ROM`", "`CD`"), "genres: `datacd` has `"),
+        (changed("latin (la)", "latin (lat)"), "languages: `latin` has `"),
+        (changed("| `<b>..</b>` |", "| `<strong>..</strong>` |"), "commands: `\\textbf` has `"),
+        (changed("| chapter | incollection |", "| chapter | inbook |"), "types of items: `chapter` has `"),
+        (changed("type, abstract, annotation, note,", "type, abstract, note, annotation,"), "variables: `"),
+        (changed("| inreference | ENCYC |\n", ""), "types of records: `inreference` has `"),
+        (changed("AB, N1, N1, RN, KW", "AB, N1, N2, RN, KW"), "tags: `addendum` has `"),
+        (changed("GOVDOC; UNPB, MANSCPT |", "GOVDOC, MANSCPT; UNPB |"), "types of RIS: `MANSCPT` has `"),
+        (changed("ET | version for COMP, otherwise edition", "ET | edition"), "tags of RIS: `ET` has `version` in `variable_of`, but not here"),
+        (changed('codes "pubstate"', 'codes "status"', "crates/bib_from_csl/specs/Variables.antt"), "variables: `status` has `"),
+        (changed("| tag | variable |", "| tags | variables |"), "the section `Records of RIS as entries` has no table `tag | variable`"),
+        (changed("These variables change:", "These change:"), "the section `Titles in sentence case` has no sentence `These variables"),
+        (changed('if bytes_eq name (codes "artwork")', 'if starts_with name (codes "artwork")', "crates/bib_csl/specs/Types.antt"),
+         "crates/bib_csl/specs/Types.antt: `item_type_named` has a form that tables.py doesn't know: "),
+        ({"crates/bib_ris/specs/Types.antt": None}, "no definition is called `"),
     ]),
     "docs/THEOREMS.md names definitions and calls": (check.check_theorems, THEOREMS, [
         ({"docs/THEOREMS.md": THEOREMS["docs/THEOREMS.md"].replace("`IsOne`", "`IsTwo`")}, "IsTwo isn't defined in a/specs/Meanings.antt"),

@@ -162,7 +162,7 @@ run 'a part of a word is no field' 0 $'errors: 0, warnings: 0\n' lint --only mis
 run 'another code with the field' 1 "$lines_of_one"$'errors: 0, warnings: 3\n' lint --ignore empty-field:title one.bib
 printf '@article{title, author={A}, journaltitle={J}, nofields={x}}\n' >keyed.bib
 run 'a key is no field' 1 $'keyed.bib:1:10: warning: title: missing title [missing-field]\nerrors: 0, warnings: 1\n' lint --only missing-field:title keyed.bib
-run 'a field in backticks' 1 $'keyed.bib:1:47: warning: title: unknown field `nofields` [unknown-field]\nerrors: 0, warnings: 1\n' lint --only unknown-field:nofields keyed.bib
+run 'a field in backticks' 1 $'keyed.bib:1:47: warning: unknown field `nofields` [unknown-field]\nerrors: 0, warnings: 1\n' lint --only unknown-field:nofields keyed.bib
 # lines of a file that switch off codes in it
 printf '%% bibkit: off missing-field:year, missing-field:title,no-code,\n@article{test, author={A}}\n' >off.bib
 run 'codes that a file switches off' 1 $'off.bib:2:10: warning: test: missing journaltitle [missing-field]\nerrors: 0, warnings: 1\n' lint off.bib
@@ -268,7 +268,7 @@ run 'an escape sequence that is switched off' 0 $'errors: 0, warnings: 0\n' lint
 printf '@misc{a, title={\e$B4A;z\e(B \xe9}, year={2000}}\n' >escapes.bib
 run 'an escape sequence and bytes that are not UTF-8' 1 $'escapes.bib:1:28: error: not UTF-8 from here on, so the file is read as Windows-1252 [unread-bytes]\nescapes.bib:1:17: warning: an escape sequence, as in ISO-2022-JP; the characters after it aren\'t decoded [escape-sequence]\nerrors: 1, warnings: 1\n' lint --only unread-bytes,escape-sequence escapes.bib
 printf '@misc{a,\n title={\xc3\xa9}, author={\xc3\xa9 \xc3\xa9}, nofield={x}, year={2000}}\n' >columns.bib
-run 'columns are characters' 1 $'columns.bib:2:27: warning: a: unknown field `nofield` [unknown-field]\nerrors: 0, warnings: 1\n' lint columns.bib
+run 'columns are characters' 1 $'columns.bib:2:27: warning: unknown field `nofield` [unknown-field]\nerrors: 0, warnings: 1\n' lint columns.bib
 printf '@misc{a, title={A}, year={2000}, volume={12A}, owner={me}}\n' >infos.bib
 printf '@article{k, titel={A}, title={B}, titel={C}\n' >cut.bib
 run 'findings of an entry that is cut' 1 $'cut.bib:1:13: warning: k: unknown field `titel`; did you mean `title`? [unknown-field]\ncut.bib:1:35: warning: k: unknown field `titel`; did you mean `title`? [unknown-field]\ncut.bib:1:35: warning: k: field `titel` occurs again; BibTeX keeps the first, Biber the last [repeated-field]\ncut.bib:2:1: error: k: expected comma [syntax]\nerrors: 1, warnings: 3\n' lint cut.bib
@@ -585,7 +585,7 @@ printf '@misc{K, title={Four}, year={2004}}\n' >upper.bib
 run 'a key in another case in another file' 1 $'upper.bib:1:7: warning: K: key differs from `k` only in case [key-case]\nerrors: 0, warnings: 1\n' lint key1.bib upper.bib
 printf '@book{w1, author={Ann Bell}, title={T}, year={1999}}\n' >work1.bib
 printf '@book{w2, author={Ann Bell}, title={T}, year={1999}}\n' >work2.bib
-likely=$'work2.bib:1:7: warning: w2: likely the same as "w1" [likely-duplicate]\nerrors: 0, warnings: 1\n'
+likely=$'work2.bib:1:7: warning: w2: likely the same work: same title, year and people as "w1" [likely-duplicate]\nerrors: 0, warnings: 1\n'
 run 'a work in two files' 1 "$likely" lint work1.bib work2.bib
 run 'a work in two files, and the entry of the first is selected' 1 "$likely" lint --where 'key = w1' work1.bib work2.bib
 run 'a work in two files, and each file by itself' 0 "$clean" lint --each work1.bib work2.bib
@@ -608,7 +608,7 @@ kid.bib:1:41: warning: c: no entry "par" (crossref) [unknown-reference]
 errors: 0, warnings: 4
 ' lint --each kid.bib par.bib
 printf '@incollection{c, author={C}, title={T}, crossref={par}, note2={x}}\n' >kid2.bib
-run 'an entry that inherits the field of a condition from another file' 1 $'kid2.bib:1:57: warning: c: unknown field `note2` [unknown-field]\nerrors: 0, warnings: 1\n' \
+run 'an entry that inherits the field of a condition from another file' 1 $'kid2.bib:1:57: warning: unknown field `note2` [unknown-field]\nerrors: 0, warnings: 1\n' \
     lint --where 'type = incollection and year = 2000' kid2.bib par.bib
 run 'an entry that inherits nothing, because each file is by itself' 0 "$clean" lint --each --where 'type = incollection and year = 2000' kid2.bib par.bib
 printf '@collection{par, editor={E}' >cutpar.bib
@@ -642,7 +642,7 @@ run 'the text at the start of a file is not after the last entry of the file bef
 
 # positions in the second file
 printf '\xef\xbb\xbf@string{n = {N}}\r\n@misc{r,\r\n  title = {R},\r\n  note2 = n\r\n}\r\n' >crlf2.bib
-run 'positions in a second file with CR LF and a byte order mark' 1 $'crlf2.bib:2:7: warning: r: missing year [missing-field]\ncrlf2.bib:4:3: warning: r: unknown field `note2` [unknown-field]\nerrors: 0, warnings: 2\n' \
+run 'positions in a second file with CR LF and a byte order mark' 1 $'crlf2.bib:2:7: warning: r: missing year [missing-field]\ncrlf2.bib:4:3: warning: unknown field `note2` [unknown-field]\nerrors: 0, warnings: 2\n' \
     lint end2.bib crlf2.bib
 run 'a second file that is not UTF-8, and a third one' 1 $'latin.bib:1:17: error: not UTF-8 from here on, so the file is read as Windows-1252 [unread-bytes]\nlatin.bib:1:7: warning: a: missing year [missing-field]\n'"$lines_of_one"$'errors: 1, warnings: 4\n' \
     lint end2.bib latin.bib one.bib
@@ -664,13 +664,14 @@ holds 'an error after the end of the last file' prints 'errors: 0, warnings: 1'
 "$program" lint --only unread-date void.bib end2.bib >output
 holds 'an error after the end of the first file' prints 'errors: 0, warnings: 1'
 
-# fields of other programs are counted over all files
+# fields of other programs are counted in each file
 printf '@misc{f1, title={A}, year={2000}, owner={me}, groups={x}}\n' >own1.bib
 printf '@misc{f2, title={B}, year={2001}, Owner={you}, timestamp={t}}\n@misc{f3, title={C}, year={2002}, owner={me}}\n' >own2.bib
-run 'fields of other programs in two files' 0 'own1.bib:1:35: info: field owner of another program, 3 times [foreign-field]
+run 'fields of other programs in two files' 0 'own1.bib:1:35: info: field owner of another program, 1 time [foreign-field]
 own1.bib:1:47: info: field groups of another program, 1 time [foreign-field]
+own2.bib:1:35: info: field Owner of another program, 2 times [foreign-field]
 own2.bib:1:48: info: field timestamp of another program, 1 time [foreign-field]
-errors: 0, warnings: 0, info: 3
+errors: 0, warnings: 0, info: 4
 ' lint own1.bib own2.bib
 run 'fields of other programs, and each file by itself' 0 'own1.bib:1:35: info: field owner of another program, 1 time [foreign-field]
 own1.bib:1:47: info: field groups of another program, 1 time [foreign-field]
@@ -686,7 +687,7 @@ printf '\\relax\n\\citation{q}\n\\citation{nokey}\n' >cites.aux
 of_cite1=$'cite1.bib:1:7: warning: p: missing year [missing-field]\ncite1.bib:1:7: warning: p: never cited [unused-entry]\n'
 no_year=$'cite2.bib:1:7: warning: r: missing year [missing-field]\n'
 not_cited=$'cite2.bib:1:7: warning: r: never cited [unused-entry]\n'
-no_field=$'cite2.bib:1:21: warning: r: unknown field `nofield` [unknown-field]\n'
+no_field=$'cite2.bib:1:21: warning: unknown field `nofield` [unknown-field]\n'
 no_entry=$'cites.aux:3:1: error: no file has an entry "nokey" [missing-entry]\n'
 run 'citations of two files' 1 "$of_cite1$no_year$not_cited$no_field$no_entry"$'errors: 1, warnings: 5\n' lint --cited cites.aux --unused cite1.bib cite2.bib
 run 'citations, and each file by itself' 1 "$of_cite1$no_year$no_field$not_cited$no_entry"$'errors: 1, warnings: 5\n' lint --each --cited cites.aux --unused cite1.bib cite2.bib
@@ -699,7 +700,7 @@ run 'citations of two files in JSON' 1 '[
 {"file":"cite1.bib","line":1,"column":7,"end_line":1,"end_column":8,"severity":"warning","code":"unused-entry","message":"p: never cited"},
 {"file":"cite2.bib","line":1,"column":7,"end_line":1,"end_column":8,"severity":"warning","code":"missing-field","message":"r: missing year"},
 {"file":"cite2.bib","line":1,"column":7,"end_line":1,"end_column":8,"severity":"warning","code":"unused-entry","message":"r: never cited"},
-{"file":"cite2.bib","line":1,"column":21,"end_line":1,"end_column":28,"severity":"warning","code":"unknown-field","message":"r: unknown field `nofield`"},
+{"file":"cite2.bib","line":1,"column":21,"end_line":1,"end_column":28,"severity":"warning","code":"unknown-field","message":"unknown field `nofield`"},
 {"file":"cites.aux","line":3,"column":1,"end_line":3,"end_column":1,"severity":"error","code":"missing-entry","message":"no file has an entry \"nokey\""}
 ]
 ' lint --format json --cited cites.aux --unused cite1.bib cite2.bib
@@ -712,7 +713,7 @@ run 'citations of two files and of one without findings, in Checkstyle' 1 '<?xml
   <file name="cite2.bib">
     <error line="1" column="7" severity="warning" message="r: missing year" source="bibkit.missing-field"/>
     <error line="1" column="7" severity="warning" message="r: never cited" source="bibkit.unused-entry"/>
-    <error line="1" column="21" severity="warning" message="r: unknown field `nofield`" source="bibkit.unknown-field"/>
+    <error line="1" column="21" severity="warning" message="unknown field `nofield`" source="bibkit.unknown-field"/>
   </file>
   <file name="cites.aux">
     <error line="3" column="1" severity="error" message="no file has an entry &quot;nokey&quot;" source="bibkit.missing-entry"/>
@@ -1255,7 +1256,7 @@ mkdir "$(printf 'links/caf\xe9/deep')"
 printf '@article{a, nofields={x}}\n' >"$(printf 'links/caf\xe9/deep/own.bib')"
 printf 'only = ["unknown-field"]\n' >"$(printf 'links/caf\xe9/bibkit.toml')"
 (cd "$(printf 'links/caf\xe9/deep')" && "$program" lint own.bib) >output 2>messages
-count 'settings above a folder whose name is not UTF-8' $? 1 $'own.bib:1:13: warning: a: unknown field `nofields` [unknown-field]\nerrors: 0, warnings: 1\n'
+count 'settings above a folder whose name is not UTF-8' $? 1 $'own.bib:1:13: warning: unknown field `nofields` [unknown-field]\nerrors: 0, warnings: 1\n'
 rm -r "$(printf 'links/caf\xe9/deep')" "$(printf 'links/caf\xe9/bibkit.toml')"
 run_messages 'writing into a folder' 2 $'bibkit: written: it is a folder\n' remove a -f written --write
 printf '\xef\xbb\xbf@misc{a, title={A}}\r\n' >written/m.bib
@@ -1399,24 +1400,26 @@ run 'a severity and a format of settings' 0 "$(commands_of project/one.bib)"$'\n
 run 'a severity of the command line wins' 1 "$(commands_of project/one.bib)"$'\n' lint --fail-on warning project/one.bib
 # names of the project's own style
 printf '@Whatever{k, noField = {x}, title = acm}\n@other{l, nofield2 = {x}, title = ieee}\n' >project/own.bib
+printf '@misc{m, noField = {x}, nofield2 = {y}, title={T}, year={2000}}\n' >>project/own.bib
 unknown='unknown-field,unknown-type,unknown-abbreviation'
-own_fields=$'project/own.bib:1:14: warning: k: unknown field `noField` [unknown-field]\n'
-own_types=$'project/own.bib:1:2: warning: k: unknown entry type `Whatever` [unknown-type]\n'
+own_fields=$'project/own.bib:3:10: warning: unknown field `noField` [unknown-field]\n'
+own_types=$'project/own.bib:1:2: warning: unknown entry type `Whatever` [unknown-type]\n'
 own_abbreviations=$'project/own.bib:1:37: warning: unknown abbreviation "acm" [unknown-abbreviation]\n'
-others=$'project/own.bib:2:2: warning: l: unknown entry type `other` [unknown-type]\nproject/own.bib:2:11: warning: l: unknown field `nofield2` [unknown-field]\nproject/own.bib:2:35: warning: unknown abbreviation "ieee" [unknown-abbreviation]\n'
+others=$'project/own.bib:2:2: warning: unknown entry type `other` [unknown-type]\nproject/own.bib:2:35: warning: unknown abbreviation "ieee" [unknown-abbreviation]\n'
+last=$'project/own.bib:3:25: warning: unknown field `nofield2` [unknown-field]\n'
 printf '[own]\nfields = []\n' >project/bibkit.toml
-run 'unknown names' 1 "$own_types$own_fields$own_abbreviations$others"$'errors: 0, warnings: 6\n' lint --only "$unknown" project/own.bib
+run 'unknown names' 1 "$own_types$own_abbreviations$others$own_fields$last"$'errors: 0, warnings: 6\n' lint --only "$unknown" project/own.bib
 printf '[own]\nfields = ["title2", "NOFIELD"]\n' >project/bibkit.toml
-run 'own fields' 1 "$own_types$own_abbreviations$others"$'errors: 0, warnings: 5\n' lint --only "$unknown" project/own.bib
+run 'own fields' 1 "$own_types$own_abbreviations$others$last"$'errors: 0, warnings: 5\n' lint --only "$unknown" project/own.bib
 printf '[own]\ntypes = ["whatever"]\n' >project/bibkit.toml
-run 'own entry types' 1 "$own_fields$own_abbreviations$others"$'errors: 0, warnings: 5\n' lint --only "$unknown" project/own.bib
+run 'own entry types' 1 "$own_abbreviations$others$own_fields$last"$'errors: 0, warnings: 5\n' lint --only "$unknown" project/own.bib
 printf '[own]\nabbreviations = ["ACM"]\n' >project/bibkit.toml
-run 'own abbreviations' 1 "$own_types$own_fields$others"$'errors: 0, warnings: 5\n' lint --only "$unknown" project/own.bib
+run 'own abbreviations' 1 "$own_types$others$own_fields$last"$'errors: 0, warnings: 5\n' lint --only "$unknown" project/own.bib
 printf '[own]\nfields = ["whatever", "acm"]\ntypes = ["nofield", "acm"]\nabbreviations = ["whatever", "nofield"]\n' >project/bibkit.toml
-run 'own names of another kind' 1 "$own_types$own_fields$own_abbreviations$others"$'errors: 0, warnings: 6\n' lint --only "$unknown" project/own.bib
+run 'own names of another kind' 1 "$own_types$own_abbreviations$others$own_fields$last"$'errors: 0, warnings: 6\n' lint --only "$unknown" project/own.bib
 printf '[own]\nfields = ["nofield", "nofield2"]\ntypes = ["whatever", "other"]\nabbreviations = ["acm", "ieee"]\n' >project/bibkit.toml
 run 'own names of two files' 0 $'errors: 0, warnings: 0\n' lint --only "$unknown" project/own.bib one.bib
-printf '@a`b{k, title={T}, note`2={x}, note2`={x}, titel`={x}}\n' >project/backtick.bib
+printf '@a`b{k, title={T}}\n@misc{l, title={T}, year={2000}, note`2={x}, note2`={x}, titel`={x}}\n' >project/backtick.bib
 printf '[own]\nfields = ["note", "titel"]\ntypes = ["a"]\n' >project/bibkit.toml
 "$program" lint --only "$unknown" project/backtick.bib >output
 holds 'names up to a backtick are not own names' prints 'errors: 0, warnings: 4'
@@ -1634,6 +1637,15 @@ run 'items of CSL-JSON' 0 "[
 $items
 ]
 " convert --to csl convert.bib
+# titles in sentence case, as pandoc writes them
+printf '@book{l, title={{LaTeX}: A Document Preparation System}}\n@book{g, title={Das Kapital}, langid={german}}\n' >cased.bib
+run 'items with titles in sentence case' 0 '[
+{"id":"l","title":"<span class=\"nocase\">LaTeX</span>: A document preparation system","type":"book"},
+{"id":"g","language":"de","title":"Das Kapital","type":"book"}
+]
+' convert --to csl --sentence-case cased.bib
+run_messages 'records with titles in sentence case' 2 $'bibkit: `--sentence-case` requires `--to csl`\n' convert --to ris --sentence-case cased.bib
+run_messages 'a dialect with titles in sentence case' 2 $'bibkit: `--sentence-case` requires `--to csl`\n' convert --to bibtex --sentence-case cased.bib
 run 'items of two files' 0 "[
 $items,
 {\"id\":\"a\",\"title\":\"A\",\"type\":\"document\"}
@@ -1695,12 +1707,52 @@ run 'JSON of entries that meet a condition' 0 $'[\n{"fields":{"title":{"chunks":
 run 'no entry meets the condition' 1 $'[]\n' convert --to csl --where 'type = book' parents.bib
 run_messages 'a condition for BibTeX' 2 $'bibkit: `--where` requires `--to csl`, `--to json` or `--to ris`\n' convert --to bibtex --where 'type = book' parents.bib
 run_messages 'a condition that is none' 2 $'bibkit: --where `type`: expected `=` or `!=` at byte 4\n' convert --to csl --where type parents.bib
+# several files are one database: the first entry with a key counts
+printf '@misc{e, title={E}}\n' >other.bib
 run 'a file with an error, and another' 1 "[
 $item,
+{\"id\":\"e\",\"title\":\"E\",\"type\":\"document\"}
+]
+" convert --to csl broken.bib other.bib
+run_messages 'the error of a file is said' 1 $'broken.bib:3:1: error: c: expected comma [syntax]\n' convert --to csl broken.bib other.bib
+run 'one key in two files' 1 "[
 $item
 ]
-" convert --to csl broken.bib a.bib
-run_messages 'the error of a file is said' 1 $'broken.bib:3:1: error: c: expected comma [syntax]\n' convert --to csl broken.bib a.bib
+" convert --to csl a.bib a.bib
+run_messages 'one key in two files is said' 1 $'a.bib:1:1: error: duplicate key "a" [duplicate-key]\n' convert --to csl a.bib a.bib
+printf '@string{jsl = {Journal of Symbolic Logic}}\n@proceedings{p, title={P}, year=2020}\n' >first.bib
+printf '@article{x, title={X}, journal=jsl}\n@inproceedings{y, title={Y}, crossref={p}}\n' >second.bib
+parent='{"id":"p","issued":{"date-parts":[[2020]]},"title":"P","type":"book"}'
+article='{"container-title":"Journal of Symbolic Logic","id":"x","title":"X","type":"article-journal"}'
+child='{"container-title":"P","id":"y","issued":{"date-parts":[[2020]]},"title":"Y","type":"paper-conference"}'
+run 'definitions and references across files, as pandoc reads them' 0 "[
+$parent,
+$article,
+$child
+]
+" convert --to csl first.bib second.bib
+run 'a definition in a later file' 0 "[
+$article,
+$child,
+$parent
+]
+" convert --to csl second.bib first.bib
+run 'records across files' 0 $'TY  - CPAPER\nTI  - Y\nT2  - P\nBT  - P\nPY  - 2020\nID  - y\nER  - \n\n' convert --to ris --where 'key = y' first.bib second.bib
+run 'objects have byte offsets of their own file, and none for a text from another file' 0 '[
+{"fields":{"journal":{"chunks":[{"kind":"normal","text":"Journal of Symbolic Logic"}]},"title":{"chunks":[{"end":20,"kind":"normal","start":19,"text":"X"}]}},"key":"x","type":"article"}
+]
+' convert --to json --where 'type = article' first.bib second.bib
+printf '@misc{x, title={Y} year=1}\n' >cut.bib
+run 'objects whose key a cut entry of another file has' 1 '[
+{"fields":{"journal":{"chunks":[{"kind":"normal","text":"Journal of Symbolic Logic"}]},"title":{"chunks":[{"end":20,"kind":"normal","start":19,"text":"X"}]}},"key":"x","type":"article"}
+]
+' convert --to json --where 'type = article' cut.bib first.bib second.bib
+printf '@misc{u, title={U}, note={V\n' >open.bib
+run 'an entry that never ends ends with its file' 1 "[
+$item
+]
+" convert --to csl open.bib a.bib
+run_messages 'the place of an error in its file' 1 $'open.bib:1:21: error: u: incomplete field; is a brace or a quote open? [syntax]\n' convert --to csl a.bib open.bib
 cat >errors.bib <<'BIB'
 @misc{b, title={B} year=2020}
 @misc{a, title={A}, note={$x}}
@@ -1759,6 +1811,9 @@ cat >values.bib <<'BIB'
   volume = 2, edition = {Second}, keywords = {x, y}, langid = {english}, pagination = {page}, title = {$x$ {Y} z}, editor = {{A B}}, editortype = {compiler},
   eventdate = {2001/..}, urldate = {../2002}, origdate = {199X}}
 @misc{c, crossref = {b}, author = {A and B}, date = {nothing}}
+@misc{d, year = 2020, month = may, day = 7}
+@misc{e, year = {2020}, month = {Sept 3}}
+@misc{f, year = {in press}, month = 5}
 BIB
 is_by_schema() {
     python3 -W ignore -c 'import json, sys, jsonschema; jsonschema.validate(json.load(open("output")), json.load(open(sys.argv[1])))' "$schema" 2>/dev/null
@@ -1795,6 +1850,22 @@ run 'a file that is not there, and items' 2 $'@misc{a,\n}\n' convert --from csl 
 printf '[]' >noitems.json
 run 'no items' 0 '' convert --from csl --to biblatex noitems.json
 run_messages 'no items: it says so' 0 $'noitems.json: note: no items\n' convert --from csl --to biblatex noitems.json
+# the JSON of --to json
+printf '@book{k, author = {Knuth, Donald E.}, title = {The {TeX}book}, url = {https://a.b/c}, note = {$x_1$ and {Y}}, year = 1984}\n@misc{m, ids = {n, o}, crossref = {k}}\n' >known.bib
+"$program" convert --to json known.bib >known.json
+"$program" convert --to json --where 'key = k' known.bib >book.json
+run 'entries of JSON' 0 $'@book{k,\n  author = {Knuth, Donald E.},\n  note = {$x_1$ and {Y}},\n  title = {The {TeX}book},\n  url = {https://a.b/c},\n  year = {1984},\n}\n' convert --from json --to biblatex book.json
+"$program" convert --from json --to biblatex known.json >again.bib
+"$program" convert --to json again.bib >output
+"$program" convert --from json --to biblatex output >twice.bib
+holds 'entries of JSON stay the same' cmp again.bib twice.bib
+printf '{"type":"misc","key":"a","fields":{"title":{"chunks":[{"kind":"normal","text":"A  B"}]}}}' >spaces.json
+run_messages 'a text that would be parsed as another one' 1 $'spaces.json:1:1: error: `a`: `title`: the written field would be parsed as another text\n' convert --from json --to biblatex spaces.json
+printf '[{"type":"misc","key":"a","fields":{}},\n {"type":"misc","key":"a","fields":{}}]' >twins.json
+run_messages 'two entries of JSON with one key' 1 $'twins.json:2:2: error: `a`: an earlier entry has this key, or has it in `ids`\n' convert --from json --to biblatex twins.json
+printf '[{"type":"misc","key":"a","fields":{},"note":1}]' >member.json
+run_messages 'an unknown member' 1 $'member.json:1:2: error: `a`: expected one `type`, one `key`, one `fields`, one `date` or none, and no other member\n' convert --from json --to bibtex member.json
+run_messages 'objects that go nowhere' 2 $'bibkit: `--from json` requires `--to biblatex` or `--to bibtex`\n' convert --from json --to csl member.json
 # without --from, the ending of a name decides
 run 'a file of items by its ending' 0 $'@thesis{c,\n  institution = {U},\n}\n' convert --to biblatex thesis.json
 run 'a file of entries in spite of its ending' 0 '[{"id":"c","type":"thesis","publisher":"U"}]' convert --from bib --to biblatex thesis.json
@@ -1804,11 +1875,11 @@ printf 'Only a text.\n' >text.bib
 run_messages 'no entry to print' 0 $'bibkit: note: no entry to print\n' convert --to csl text.bib
 # records of RIS
 printf 'TY  - JOUR\r\nAU  - Knuth, Donald E.\r\nTI  - Literate Programming\r\nJO  - The Computer Journal\r\nPY  - 1984\r\nSP  - 97\r\nEP  - 111\r\nC1  - 12\r\nID  - k\r\nER  - \r\n' >paper.ris
-ris_entry=$'@article{k,\n  author = {Knuth, Donald E.},\n  title = {Literate Programming},\n  journaltitle = {The Computer Journal},\n  date = {1984},\n  pages = {97--111},\n}\n'
+ris_entry=$'@article{k,\n  author = {Knuth, Donald E.},\n  title = {Literate {Programming}},\n  journaltitle = {The Computer Journal},\n  date = {1984},\n  pages = {97--111},\n}\n'
 run 'entries of records' 0 "$ris_entry" convert --from ris --to biblatex paper.ris
 run 'a file of records by its ending' 0 "$ris_entry" convert --to biblatex paper.ris
 run_messages 'a line that no field has' 0 $'paper.ris: note: `k`: `C1` is left out: no field for it\n' convert --to biblatex paper.ris
-run 'records as entries of BibTeX' 0 $'@article{k,\n  author = {Knuth, Donald E.},\n  title = {Literate Programming},\n  journal = {The Computer Journal},\n  year = {1984},\n  pages = {97--111},\n}\n' convert --to bibtex paper.ris
+run 'records as entries of BibTeX' 0 $'@article{k,\n  author = {Knuth, Donald E.},\n  title = {Literate {Programming}},\n  journal = {The Computer Journal},\n  year = {1984},\n  pages = {97--111},\n}\n' convert --to bibtex paper.ris
 run_messages 'no record' 1 $'bibkit: thesis.json: expected a record, which begins with a line `TY  - TYPE`\n' convert --from ris --to biblatex thesis.json
 printf 'TY  - BOOK\nID  - k\nER  - \nTY  - BOOK\nID  - k\nER  - \n' >twice.ris
 run_messages 'two records with one key' 1 $'bibkit: twice.ris: the record with the index 1 has the key of an earlier one\n' convert --to biblatex twice.ris
@@ -2003,7 +2074,7 @@ run 'a selected entry that is never cited' 1 $'two.bib:1:7: warning: a: never ci
 run 'a selected entry that is cited' 0 $'errors: 0, warnings: 0\n' lint --ignore missing-field --cited paper.aux --unused --where 'key = b' two.bib
 run 'a meaning is printed without regard to conditions' 0 "$("$program" lint --explain syntax)"$'\n' lint --explain syntax --where 'key = b'
 printf '@misc{a, title={T}, author={Knuth, D.}, year={1984}}\n@misc{b, title={t}, author={Knuth, D.}, year={1984}, note={n}}\n@misc{c, title={C}, author={Y}, year={1990}}\n' >same.bib
-same=$'same.bib:2:7: warning: b: likely the same as "a" [likely-duplicate]\nerrors: 0, warnings: 1\n'
+same=$'same.bib:2:7: warning: b: likely the same work: same title, year and people as "a" [likely-duplicate]\nerrors: 0, warnings: 1\n'
 run 'an entry that is likely the same as an earlier one' 1 "$same" lint same.bib
 run 'the earlier one is selected' 1 "$same" lint --where 'key = a' same.bib
 run 'the later one is selected' 1 "$same" lint --where 'has note' same.bib
@@ -2103,7 +2174,7 @@ holds 'the counts as a line' eval 'printf "errors: 0, warnings: 0\n" | cmp -s - 
 printf '@misc{a, autor={A}, title={T}, year=2001}\n@misc{b, author={A}, title={T}, year=2001, nofield={x}}\n' >alike.bib
 run 'a likely duplicate would be new' 1 "$(cat alike.bib)"$'\n' lint --fix alike.bib
 printf '@misc{a, autor={A}, title={T}, year=2001}\n@misc{b, author={B}, title={U}, year=2001, nofield={x}}\n' >input
-run_messages 'findings that stay, with their positions in the new text' 1 $'two.txt:2:44: warning: b: unknown field `nofield` [unknown-field]\nerrors: 0, warnings: 1\n' lint --fix --stdin-filename two.txt
+run_messages 'findings that stay, with their positions in the new text' 1 $'two.txt:2:44: warning: unknown field `nofield` [unknown-field]\nerrors: 0, warnings: 1\n' lint --fix --stdin-filename two.txt
 run 'standard input with fixes' 1 $'@misc{a, author={A}, title={T}, year=2001}\n@misc{b, author={B}, title={U}, year=2001, nofield={x}}\n' lint --fix
 run 'findings that stay and do not count' 0 $'@misc{a, author={A}, title={T}, year=2001}\n@misc{b, author={B}, title={U}, year=2001, nofield={x}}\n' lint --fix --fail-on error
 : >input

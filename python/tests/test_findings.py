@@ -139,7 +139,7 @@ class Linting(unittest.TestCase):
     def test_all_that_is_wrong(self) -> None:
         finding = biblatex.Finding
         wanted = [
-            finding(8, 3, "warning", "unknown-field", "church1936: unknown field `note2`"),
+            finding(8, 3, "warning", "unknown-field", "unknown field `note2`"),
             finding(15, 3, "info", "not-a-number", "knuth1984: malformed volume: invalid number"),
             finding(21, 3, "error", "syntax", "turing1950: expected comma"),
         ]

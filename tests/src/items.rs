@@ -1,7 +1,8 @@
 //! Reads rows, the text of a bibliography in each line, and prints each with its first entry as an item of CSL-JSON.
 
-use bib_csl::objects::{content_text, item_text};
+use bib_csl::objects::{content_text, item_text, item_text_in};
 use bib_csl::making::item_of;
+use bib_csl::sentence_items::TitleCase;
 use biblatex::{Bibliography, Entry, ParseError};
 use std::alloc::{AllocError, Global};
 use crate::support::rows::Calls;
@@ -22,7 +23,8 @@ fn first_content(alloc: Global, entry: &Entry) -> Result<String, AllocError> {
     }
 }
 
-// Of the first entry its item as text, what the item's first variable holds, or how many variables the item has.
+// Returns the item of the first entry as text, with titles as written or in sentence case; or the text of its first variable; or the
+// number of its variables.
 fn first(alloc: Global, call: &str, text: &str) -> Result<Option<String>, AllocError> {
     let Ok(library) = parsed(alloc, text) else {
         return Ok(Some(String::from_str(alloc, "no bibliography")?));
@@ -32,6 +34,7 @@ fn first(alloc: Global, call: &str, text: &str) -> Result<Option<String>, AllocE
     };
     match call {
         "item" => Ok(Some(item_text(alloc, entry)?)),
+        "sentence" => Ok(Some(item_text_in(alloc, TitleCase::Sentence, entry)?)),
         "content" => Ok(Some(first_content(alloc, entry)?)),
         "variables" => Ok(Some(item_of(alloc, entry)?.fields.len().to_string(alloc)?)),
         _ => Ok(None),

@@ -20,6 +20,7 @@ mod formats;
 mod guide;
 mod imports;
 mod items;
+mod json_imports;
 mod keys;
 mod orders;
 mod recodings;
@@ -51,6 +52,7 @@ fn rows(alloc: Global, layer: &str, input: &str) -> Result<String, AllocError> {
         "formats" => answered::<formats::Formats>(alloc, input),
         "imports" => answered::<imports::Imports>(alloc, input),
         "items" => answered::<items::CslItems>(alloc, input),
+        "json_imports" => answered::<json_imports::JsonImports>(alloc, input),
         "orders" => answered::<orders::Orders>(alloc, input),
         "keys" => answered::<keys::Keys>(alloc, input),
         "recodings" => answered::<recodings::Recodings>(alloc, input),

@@ -3,6 +3,8 @@ pub mod ByteFacts
 mod DoiFacts
 pub mod EditorFacts
 pub mod OrderFacts
+pub mod SentenceFacts
+pub mod SentenceLaws
 pub mod StandingFacts
 pub mod TagFacts
 pub mod TokenFacts

@@ -9,6 +9,8 @@ pub mod Notes
 pub mod Numbers
 pub mod People
 pub mod Publishing
+pub mod Sentence
+pub mod SentenceItems
 pub mod Texts
 pub mod Titles
 pub mod Tokens

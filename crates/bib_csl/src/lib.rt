@@ -3,7 +3,7 @@
 //! An item has a type and a list of variables. Each group of variables has a module, whose calls append the variables of the group that an
 //! entry has. `making` makes these calls one after another. Texts come from `texts` and `markup`, names from `people`, dates from `dates`.
 //! `objects` returns the text of an item as JSON: `members` puts its members in the order of their names, and `writing` writes it token
-//! by token.
+//! by token. `sentence_items` changes the titles of an item to sentence case, by the rules in `sentence`.
 #![tactic(auto)]
 
 mod adding;
@@ -22,6 +22,9 @@ mod numbers;
 pub mod objects;
 pub mod people;
 pub mod publishing;
+pub mod sentence;
+pub mod sentence_items;
+pub mod sentence_laws;
 mod standing;
 pub mod tags;
 pub mod texts;

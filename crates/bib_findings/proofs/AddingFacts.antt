@@ -21,7 +21,7 @@ use Rattle.bib_findings.specs.Cuts.{whole_among}
 use Rattle.bib_findings.specs.Definitions.{definition_findings}
 use Rattle.bib_findings.specs.Duplicates.{duplicates, entries_at}
 use Rattle.bib_findings.specs.Findings.{AreBetween, AreFindingsIn, AreOfEntry, AreOfKept, AreSortedByPlace, single_findings}
-use Rattle.bib_findings.specs.Foreign.{foreign_findings}
+use Rattle.bib_findings.specs.Once.{once_findings}
 use Rattle.bib_findings.specs.KeyCases.{case_findings}
 use Rattle.bib_findings.specs.Lacking.{with_flags}
 use Rattle.bib_findings.specs.ParentOrder.{early_findings}
@@ -33,7 +33,7 @@ use Rattle.bib_syntax.specs.declared.raw.ParseError.{ParseError}
 use Rattle.bib_syntax.specs.declared.raw.recovery.SkippedBlock.{SkippedBlock}
 use Rattle.std.specs.Global.{Global}
 use Rattle.std.specs.Prelude.{IfOk, Vec}
-use Rattle.bib_findings.specs.Names.{AreOfUnknown}
+use Rattle.bib_findings.specs.Names.{AreOfMisspelled}
 use Rattle.bib_findings.specs.declared.codes.Code.TheVariants.{SuperfluousField}
 use Rattle.bib_findings.specs.declared.finding.Finding.{Finding}
 
@@ -108,11 +108,11 @@ report_added said entry missing errors listed old one two new (Ok u) same_errors
 }
 report_added said entry missing errors listed old one two new (Err x) same_errors malformed first second third = tt
 
--- appending the findings of the type, the report, the unknown fields and the single fields of an entry in turn adds the findings of the
+-- appending the findings of the type, the report, the misspelled fields and the single fields of an entry in turn adds the findings of the
 -- entry
 pub entry_added : {E U : Type 0} (missing : Names) (said : EntryReading) (entry : Entry) (old one two three new : List Finding)
     (r : Result U E)
-    → Adds (AreOfType said) old one → Adds (AreOfReport missing said entry) one two → Adds (AreOfUnknown said) two three
+    → Adds (AreOfType said) old one → Adds (AreOfReport missing said entry) one two → Adds (AreOfMisspelled said) two three
     → OnOk r (new ≡ three ++ single_findings missing said entry) → OnOk r (Adds (AreOfEntry missing said entry) old new)
 entry_added missing said entry old one two three new (Ok u) first second third fourth = record {
   added = first.added ++ (second.added ++ (third.added ++ single_findings missing said entry));
@@ -121,8 +121,8 @@ entry_added missing said entry old one two three new (Ok u) first second third f
     type = first.are;
     of_report = second.added;
     report = second.are;
-    of_unknown = third.added;
-    unknown = third.are;
+    of_misspelled = third.added;
+    misspelled = third.are;
     are = refl;
   };
   new_is =
@@ -198,36 +198,36 @@ joined_in_order : (a b c d e f g : List Finding)
     → (((a ++ (b ++ (c ++ d))) ++ e) ++ f) ++ g ≡ a ++ (b ++ (c ++ (d ++ (e ++ (f ++ g)))))
 joined_in_order a b c d e f g = simp append_assoc
 
--- the findings of references, likely duplicates, stray fields, keys, parents, foreign fields and definitions, appended in turn to an empty
--- list, are those between entries
-pub between_are : (text : List ℕ) (skipped : List SkippedBlock) (names : ByText ℕ) (said : List EntryReading) (origins : List ℕ)
+-- the findings of references, likely duplicates, stray fields, keys, parents, names that are reported once and definitions, appended in
+-- turn to an empty list, are those between entries
+pub between_are : (text ends : List ℕ) (skipped : List SkippedBlock) (names : ByText ℕ) (said : List EntryReading) (origins : List ℕ)
     (own : List Entry) (definitions : List FieldReading) (whole : List EntryReading)
     (none one two three four five six new : List Finding)
     → whole ≡ whole_among skipped (entries_at said origins)
     → none ≡ [] → Adds (AreOfEach (AreReferences names) said origins own) none one → two ≡ one ++ duplicates whole
     → three ≡ two ++ stray_findings text whole → four ≡ three ++ case_findings (entries_at said origins)
-    → five ≡ four ++ early_findings (entries_at said origins) → six ≡ five ++ foreign_findings (entries_at said origins)
+    → five ≡ four ++ early_findings (entries_at said origins) → six ≡ five ++ once_findings ends (entries_at said origins)
     → new ≡ six ++ definition_findings definitions
-    → AreBetween text skipped names said origins own definitions new
-between_are text skipped names said origins own definitions whole none one two three four five six new are_whole empty references alike
-    strays cases early foreign defined = record {
+    → AreBetween text ends skipped names said origins own definitions new
+between_are text ends skipped names said origins own definitions whole none one two three four five six new are_whole empty references alike
+    strays cases early once defined = record {
       of_keys = references.added;
       keys = references.are;
       are =
           defined
-          ∙ ap (λ l. l ++ last) foreign
-          ∙ ap (λ l. (l ++ foreign_findings entries) ++ last) early
-          ∙ ap (λ l. ((l ++ early_findings entries) ++ foreign_findings entries) ++ last)
+          ∙ ap (λ l. l ++ last) once
+          ∙ ap (λ l. (l ++ once_findings ends entries) ++ last) early
+          ∙ ap (λ l. ((l ++ early_findings entries) ++ once_findings ends entries) ++ last)
           (added_in_order none one two three four references.added (duplicates whole) (stray_findings text whole) (case_findings entries)
           empty references.new_is alike strays cases)
           ∙ joined_in_order references.added (duplicates whole) (stray_findings text whole) (case_findings entries) (early_findings entries)
-          (foreign_findings entries) last
+          (once_findings ends entries) last
           ∙ ap
           (λ l.
           references.added
           ++ (duplicates l
           ++ (stray_findings text l
-          ++ (case_findings entries ++ (early_findings entries ++ (foreign_findings entries ++ last))))))
+          ++ (case_findings entries ++ (early_findings entries ++ (once_findings ends entries ++ last))))))
           are_whole;
     } where
       entries : List EntryReading
@@ -237,16 +237,16 @@ between_are text skipped names said origins own definitions whole none one two t
       last = definition_findings definitions
 
 -- the sorted findings of all parts are the findings of the recovered file
-pub sorted_are : {E : Type 0} (skipped : List SkippedBlock) (lacking : List Bool) (errors : List ParseError) (said : List EntryReading)
-    (origins : List ℕ) (entries : List Entry) (between of_entries all : List Finding)
+pub sorted_are : {E : Type 0} (text : List ℕ) (skipped : List SkippedBlock) (lacking : List Bool) (errors : List ParseError)
+    (said : List EntryReading) (origins : List ℕ) (entries : List Entry) (between of_entries all : List Finding)
     (r : Result (Vec Finding Global) E)
     → AreOfEach AreOfKept said origins (with_flags lacking entries) of_entries
-    → all ≡ map (block_finding said) skipped ++ (map error_finding errors ++ (of_entries ++ between))
+    → all ≡ map (block_finding text said) skipped ++ (map error_finding errors ++ (of_entries ++ between))
     → IfOk r (λ sorted. AreSortedByPlace all sorted.items)
-    → IfOk r (λ found. AreFindingsIn skipped lacking errors said origins entries between found.items)
-sorted_are skipped lacking errors said origins entries between of_entries all (Ok found) reports are sorted = record {
+    → IfOk r (λ found. AreFindingsIn text skipped lacking errors said origins entries between found.items)
+sorted_are text skipped lacking errors said origins entries between of_entries all (Ok found) reports are sorted = record {
   of_entries = of_entries;
   reports = reports;
   sorted = subst (λ l. AreSortedByPlace l found.items) are sorted;
 }
-sorted_are skipped lacking errors said origins entries between of_entries all (Err e) reports are sorted = tt
+sorted_are text skipped lacking errors said origins entries between of_entries all (Err e) reports are sorted = tt

@@ -2,7 +2,7 @@ mod AddingFacts
 mod DemandFacts
 mod CountedFacts
 mod CountedIndexFacts
-mod ForeignFacts
+mod FileFacts
 mod HtmlFacts
 mod IdentityFacts
 mod LackingFacts
@@ -11,6 +11,7 @@ mod MarkFacts
 mod NameFacts
 mod NearestFacts
 mod NotedFacts
+mod OnceFacts
 mod OutsideFacts
 mod SeenFacts
 mod ReachFacts

@@ -1,5 +1,5 @@
 -- The nearest of the known names for which a name may be a typing error.
-use Rattle.std.proofs.Common.{◌≡◌, ℕ, Bool, true, false, not, ◌&&◌, List, [], ◌∷◌, ◌++◌, ◌<◌, ◌≤◌, length, Option, Some, None, refl, sym, ap, ◌∙◌, append_assoc, append-nil, subst, arith, cond}
+use Rattle.std.proofs.Common.{◌≡◌, ℕ, Bool, true, false, not, ◌&&◌, ◌||◌, List, [], ◌∷◌, ◌++◌, ◌<◌, ◌≤◌, length, Option, Some, None, refl, sym, ap, ◌∙◌, append_assoc, append-nil, subst, arith, cond}
 use Rattle.std.specs.Prelude.{bytes_eq, codes, drop, nat_eq, nat_le, nat_lt, unwrap_or}
 use Rattle.std.specs.List.{All, ends_with, filter}
 use Rattle.std.specs.Str.Pattern.{FindsTextPrefix}
@@ -8,7 +8,7 @@ use Rattle.std.proofs.lemmas.List.Elements.{All-nil, All-cons, All-append, All-h
 use Rattle.bib_text.proofs.ListFacts.{begins, begins_not}
 use Rattle.bib_tables.specs.Requirements.{Names}
 use Rattle.bib_findings.specs.Near.{plausible_distance}
-use Rattle.bib_findings.specs.Nearest.{IsFirstNearest, IsNearest, are_of_like_length, begin_alike, distance, is_extension, is_plausible, most_edits}
+use Rattle.bib_findings.specs.Nearest.{IsFirstNearest, IsNearest, are_of_like_length, begin_alike, distance, is_extension, begins_like, is_plausible, most_edits}
 
 -- the distance of the nearest name so far, or `most` if there is none
 abbrev pub least_edits : ℕ → List ℕ → Option (List ℕ) → ℕ
@@ -32,8 +32,8 @@ filter_same p all one fails =
     filter-append p all (one ∷ []) ∙ ap (λ b. filter p all ++ cond b (one ∷ []) []) fails ∙ append-nil (filter p all)
 
 -- the greatest number of edits of a name is at most 2
-most_edits_small : (size : ℕ) → most_edits size ≤ 2
-most_edits_small size = of (nat_lt size 4) (nat_lt size 6) where
+most_edits_small : (name known : List ℕ) → most_edits name known ≤ 2
+most_edits_small name known = of (nat_lt (length name) 4) (nat_lt (length name) 8 || begins_like name known) where
   of : (a b : Bool) → cond a 0 (cond b 1 2) ≤ 2
   of true b = omega arith
   of false true = omega arith
@@ -49,10 +49,10 @@ last_of_four false b c d is = cc
 -- a name for which another may be a typing error is at most 2 edits away
 plausible_near : (name known : List ℕ) → is_plausible name known ≡ true → distance name known ≤ 2
 plausible_near name known plausible =
-    let near : nat_le (distance name known) (most_edits (length name)) ≡ true =
-    last_of_four (begin_alike name known) (are_of_like_length (most_edits (length name)) name known) (not (is_extension name known))
-    (nat_le (distance name known) (most_edits (length name))) plausible in
-    within (distance name known) (most_edits (length name)) near (most_edits_small (length name))
+    let near : nat_le (distance name known) (most_edits name known) ≡ true =
+    last_of_four (begin_alike name known) (are_of_like_length (most_edits name known) name known) (not (is_extension name known))
+    (nat_le (distance name known) (most_edits name known)) plausible in
+    within (distance name known) (most_edits name known) near (most_edits_small name known)
   where
     within : (d most : ℕ) → nat_le d most ≡ true → most ≤ 2 → d ≤ 2
     within d most near small = grind (arith, nat_tests)

@@ -57,32 +57,33 @@ within_of said origins indices n within are count =
     subst (λ m. All (λ index. index < m) indices) count (subst (λ l. All (λ index. index < length said) l) (sym are) within)
 
 -- equal lists have the same findings of a recovered file
-pub findings_of : (skipped skipped' : List SkippedBlock) (lacking lacking' : List Bool) (errors errors' : List ParseError)
+pub findings_of : (text : List ℕ) (skipped skipped' : List SkippedBlock) (lacking lacking' : List Bool) (errors errors' : List ParseError)
     (said said' : List EntryReading) (origins origins' : List ℕ) (entries entries' : List Entry)
     (between found : List Finding)
     → skipped ≡ skipped' → lacking ≡ lacking' → errors ≡ errors' → said ≡ said' → origins ≡ origins' → entries ≡ entries'
-    → AreFindingsIn skipped lacking errors said origins entries between found
-    → AreFindingsIn skipped' lacking' errors' said' origins' entries' between found
-findings_of skipped skipped' lacking lacking' errors errors' said said' origins origins' entries entries' between found a b c d e f are =
-    subst (λ x. AreFindingsIn skipped' lacking' errors' said' origins' x between found) f
-    (subst (λ x. AreFindingsIn skipped' lacking' errors' said' x entries between found) e
-    (subst (λ x. AreFindingsIn skipped' lacking' errors' x origins entries between found) d
-    (subst (λ x. AreFindingsIn skipped' lacking' x said origins entries between found) c
-    (subst (λ x. AreFindingsIn skipped' x errors said origins entries between found) b
-    (subst (λ x. AreFindingsIn x lacking errors said origins entries between found) a are)))))
+    → AreFindingsIn text skipped lacking errors said origins entries between found
+    → AreFindingsIn text skipped' lacking' errors' said' origins' entries' between found
+findings_of text skipped skipped' lacking lacking' errors errors' said said' origins origins' entries entries' between found
+    a b c d e f are =
+    subst (λ x. AreFindingsIn text skipped' lacking' errors' said' origins' x between found) f
+    (subst (λ x. AreFindingsIn text skipped' lacking' errors' said' x entries between found) e
+    (subst (λ x. AreFindingsIn text skipped' lacking' errors' x origins entries between found) d
+    (subst (λ x. AreFindingsIn text skipped' lacking' x said origins entries between found) c
+    (subst (λ x. AreFindingsIn text skipped' x errors said origins entries between found) b
+    (subst (λ x. AreFindingsIn text x lacking errors said origins entries between found) a are)))))
 
 -- equal lists have the same findings between entries
-pub between_of : (text : List ℕ) (skipped skipped' : List SkippedBlock) (names : ByText ℕ) (said said' : List EntryReading)
+pub between_of : (text ends : List ℕ) (skipped skipped' : List SkippedBlock) (names : ByText ℕ) (said said' : List EntryReading)
     (origins origins' : List ℕ) (own own' : List Entry) (definitions definitions' : List FieldReading) (found : List Finding)
     → skipped ≡ skipped' → said ≡ said' → origins ≡ origins' → own ≡ own' → definitions ≡ definitions'
-    → AreBetween text skipped names said origins own definitions found
-    → AreBetween text skipped' names said' origins' own' definitions' found
-between_of text skipped skipped' names said said' origins origins' own own' definitions definitions' found a b c d e are =
-    subst (λ x. AreBetween text skipped' names said' origins' own' x found) e
-    (subst (λ x. AreBetween text skipped' names said' origins' x definitions found) d
-    (subst (λ x. AreBetween text skipped' names said' x own definitions found) c
-    (subst (λ x. AreBetween text skipped' names x origins own definitions found) b
-    (subst (λ x. AreBetween text x names said origins own definitions found) a are))))
+    → AreBetween text ends skipped names said origins own definitions found
+    → AreBetween text ends skipped' names said' origins' own' definitions' found
+between_of text ends skipped skipped' names said said' origins origins' own own' definitions definitions' found a b c d e are =
+    subst (λ x. AreBetween text ends skipped' names said' origins' own' x found) e
+    (subst (λ x. AreBetween text ends skipped' names said' origins' x definitions found) d
+    (subst (λ x. AreBetween text ends skipped' names said' x own definitions found) c
+    (subst (λ x. AreBetween text ends skipped' names x origins own definitions found) b
+    (subst (λ x. AreBetween text ends x names said origins own definitions found) a are))))
 
 -- equal lists have the same flags of entries of which fields may be lost
 pub lacking_same : (skipped skipped' : List SkippedBlock) (names : ByText ℕ) (said said' : List EntryReading)

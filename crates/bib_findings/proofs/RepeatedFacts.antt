@@ -1,5 +1,5 @@
 -- Fields whose names an earlier field has.
-use Rattle.std.proofs.Common.{◌≡◌, ℕ, Bool, true, false, not, ◌||◌, List, [], ◌∷◌, ◌++◌, refl, sym, ap, ◌∙◌, append_assoc, cond}
+use Rattle.std.proofs.Common.{◌≡◌, ℕ, Bool, true, false, not, List, [], ◌∷◌, ◌++◌, refl, sym, ap, ◌∙◌, append_assoc, cond}
 use Rattle.std.specs.Prelude.{bytes_eq}
 use Rattle.std.specs.List.{list_any}
 use Rattle.std.proofs.lemmas.List.Folds.{list_any-append}
@@ -9,7 +9,7 @@ use Rattle.bib_text.proofs.BoolFacts.{cond_last}
 use Rattle.bib_findings.specs.After.{each_after}
 use Rattle.bib_findings.specs.Counted.{lowercase_name}
 use Rattle.bib_findings.specs.Fields.{repeated_after, repeated_finding}
-use Rattle.bib_findings.specs.Foreign.{have_one_name}
+use Rattle.bib_findings.specs.Entries.{have_one_name}
 use Rattle.bib_findings.specs.declared.finding.Finding.{Finding}
 use Rattle.bib_findings.proofs.AfterFacts.{after_more}
 

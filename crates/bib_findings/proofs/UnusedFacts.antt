@@ -9,7 +9,7 @@ use Rattle.std.proofs.lemmas.List.Folds.{list_any-append}
 use Rattle.bib_tables.specs.Requirements.{Names}
 use Rattle.bib_syntax.specs.Reading.{FieldReading}
 use Rattle.bib_text.proofs.ListFacts.{any_mapped}
-use Rattle.bib_findings.specs.Foreign.{have_one_name}
+use Rattle.bib_findings.specs.Entries.{have_one_name}
 use Rattle.bib_findings.specs.UnusedDefinitions.{is_used_abbreviation, unused_after, unused_definition_finding}
 use Rattle.bib_findings.specs.UsedNames.{names_of_definitions, borrowed_texts}
 

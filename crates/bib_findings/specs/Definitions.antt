@@ -8,9 +8,8 @@ use Rattle.bib_text.specs.Characters as char
 use Rattle.bib_syntax.specs.Reading.{FieldReading, Piece}
 use Rattle.bib_syntax.specs.Reading.Piece.{abbreviation, literal}
 use Rattle.bib_findings.specs.After.{each_after}
-use Rattle.bib_findings.specs.Entries.{part_range}
+use Rattle.bib_findings.specs.Entries.{have_one_name, part_range}
 use Rattle.bib_findings.specs.Errors.{finding_at}
-use Rattle.bib_findings.specs.Foreign.{have_one_name}
 use Rattle.bib_findings.specs.declared.codes.Code.TheVariants.{RepeatedDefinition}
 use Rattle.bib_findings.specs.declared.finding.Finding.{Finding}
 

@@ -15,6 +15,10 @@ use Rattle.bib_findings.specs.declared.finding.Finding.{Finding}
 abbrev pub part_range : Part → Range ℕ
 part_range p = record { start = p.start; end = p.end }
 
+-- whether two fields have the same name, in any ASCII case
+abbrev pub have_one_name : FieldReading → FieldReading → Bool
+have_one_name f g = str_eq_ignore_ascii_case f.name.text g.name.text
+
 -- the last field of this name, in any ASCII case: the parser uses this one
 abbrev pub last_named : List FieldReading → List ℕ → Option FieldReading
 last_named all name = find (λ f. str_eq_ignore_ascii_case f.name.text name) (reverse all)

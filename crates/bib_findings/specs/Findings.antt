@@ -1,7 +1,7 @@
 -- Meaning: words of public contracts.
 -- All findings of the text of a file: those of the skipped blocks and errors of recovery, those of each kept entry, those between entries,
 -- and those of unused abbreviations. Findings about the bytes of the file or about documents aren't among them.
-use Rattle.std.specs.Prelude.{◌≡◌, ℕ, Bool, List, ◌++◌, map}
+use Rattle.std.specs.Prelude.{◌≡◌, ℕ, Bool, List, [], ◌++◌, map}
 use Rattle.std.specs.declared.ops.Range.{Range}
 use Rattle.std.specs.List.Sorted.{IsPermutation, IsSortedByKey, IsStableByKey}
 use Rattle.std.specs.Ordering.{nat_cmp}
@@ -25,12 +25,12 @@ use Rattle.bib_findings.specs.Duplicates.{duplicates, entries_at}
 use Rattle.bib_findings.specs.Entries.{AreOfEach}
 use Rattle.bib_findings.specs.Errors.{block_finding, error_finding}
 use Rattle.bib_findings.specs.Fields.{address_findings, empty_findings, key_findings, repeated_findings}
-use Rattle.bib_findings.specs.Foreign.{foreign_findings}
+use Rattle.bib_findings.specs.Once.{once_findings}
 use Rattle.bib_findings.specs.Html.{printed_findings}
 use Rattle.bib_findings.specs.KeyCases.{case_findings}
 use Rattle.bib_findings.specs.Lacking.{AreLacking, with_flags}
 use Rattle.bib_findings.specs.MalformedDates.{date_findings}
-use Rattle.bib_findings.specs.Names.{AreOfUnknown}
+use Rattle.bib_findings.specs.Names.{AreOfMisspelled}
 use Rattle.bib_findings.specs.ParentOrder.{early_findings}
 use Rattle.bib_findings.specs.People.{name_findings}
 use Rattle.bib_findings.specs.References.{AreReferences}
@@ -64,15 +64,15 @@ abbrev pub single_findings : Names → EntryReading → Entry → List Finding
 single_findings missing said entry = own_findings missing said entry ++ text_findings said entry
 
 -- whether these are the findings of an entry, with its raw form `said` and these missing fields. First comes that of its type, then those
--- of its report, of unknown field names, and of its key and its single fields
+-- of its report, of misspelled field names, and of its key and its single fields
 pub record AreOfEntry (missing : Names) (said : EntryReading) (entry : Entry) (found : List Finding) : Type 0 where
   pub of_type : List Finding
   pub type : AreOfType said of_type
   pub of_report : List Finding
   pub report : AreOfReport missing said entry of_report
-  pub of_unknown : List Finding
-  pub unknown : AreOfUnknown said of_unknown
-  pub are : found ≡ of_type ++ (of_report ++ (of_unknown ++ single_findings missing said entry))
+  pub of_misspelled : List Finding
+  pub misspelled : AreOfMisspelled said of_misspelled
+  pub are : found ≡ of_type ++ (of_report ++ (of_misspelled ++ single_findings missing said entry))
 
 -- whether these are the findings of an entry of a recovered file, with its raw form `one`. The entry comes after a flag: whether fields of
 -- it may be lost. If they may, no field is reported as missing
@@ -86,11 +86,11 @@ pub record AreSortedByPlace (all found : List Finding) : Type 0 where
   pub stable : IsStableByKey (λ f. f.span.start) nat_cmp all found
 
 -- whether these are the findings between entries, in this order: keys that no kept entry has; entries that are likely the same work; text
--- after an entry that reads as a field; keys that differ only in ASCII case; parents that come before their children; fields that other
--- programs write for themselves; abbreviations that are defined again with another value. A cut entry is no likely duplicate, and the text
--- after it isn't tested.
-pub record AreBetween (text : List ℕ) (skipped : List SkippedBlock) (names : ByText ℕ) (said : List EntryReading) (origins : List ℕ)
-    (own : List Entry) (definitions : List FieldReading) (found : List Finding) : Type 0 where
+-- after an entry that reads as a field; keys that differ only in ASCII case; parents that come before their children; names that are
+-- reported once in a file; abbreviations that are defined again with another value. A cut entry is no likely duplicate, and the text
+-- after it isn't tested. If the text is that of several files, they end at the offsets `ends`.
+pub record AreBetween (text ends : List ℕ) (skipped : List SkippedBlock) (names : ByText ℕ) (said : List EntryReading)
+    (origins : List ℕ) (own : List Entry) (definitions : List FieldReading) (found : List Finding) : Type 0 where
   pub of_keys : List Finding
   pub keys : AreOfEach (AreReferences names) said origins own of_keys
   pub are : found
@@ -99,20 +99,21 @@ pub record AreBetween (text : List ℕ) (skipped : List SkippedBlock) (names : B
       ++ (stray_findings text (whole_among skipped (entries_at said origins))
       ++ (case_findings (entries_at said origins)
       ++ (early_findings (entries_at said origins)
-      ++ (foreign_findings (entries_at said origins) ++ definition_findings definitions)))))
+      ++ (once_findings ends (entries_at said origins) ++ definition_findings definitions)))))
 
 -- whether these are the findings of a recovered file, sorted by their starts: those of skipped blocks, of errors, of each kept
 -- entry, and those between entries. `lacking` says of each kept entry whether fields of it may be lost
-pub record AreFindingsIn (skipped : List SkippedBlock) (lacking : List Bool) (errors : List ParseError) (said : List EntryReading)
+pub record AreFindingsIn (text : List ℕ) (skipped : List SkippedBlock) (lacking : List Bool) (errors : List ParseError)
+    (said : List EntryReading)
     (origins : List ℕ) (entries : List Entry) (between found : List Finding) : Type 0 where
   pub of_entries : List Finding
   pub reports : AreOfEach AreOfKept said origins (with_flags lacking entries) of_entries
-  pub sorted : AreSortedByPlace (map (block_finding said) skipped ++ (map error_finding errors ++ (of_entries ++ between))) found
+  pub sorted : AreSortedByPlace (map (block_finding text said) skipped ++ (map error_finding errors ++ (of_entries ++ between))) found
 
--- whether these are the findings of a recovered text with this content and these skipped blocks. The text may be that of several files. The
--- content includes the complete parts of the skipped blocks. The findings of a kept entry also use the fields that it inherits. The
--- findings between entries use only the fields that each entry has itself.
-pub record AreFindingsOf (text : List ℕ) (says : FileReading) (skipped : List SkippedBlock) (found : List Finding) : Type 0 where
+-- whether these are the findings of a recovered text with this content and these skipped blocks. The text may be that of several files,
+-- which end at the offsets `ends`. The content includes the complete parts of the skipped blocks. The findings of a kept entry also use the
+-- fields that it inherits. The findings between entries use only the fields that each entry has itself.
+pub record AreFindingsOf (text ends : List ℕ) (says : FileReading) (skipped : List SkippedBlock) (found : List Finding) : Type 0 where
   pub own : List Entry
   pub names : ByText ℕ
   pub places : List (Range ℕ)
@@ -125,8 +126,8 @@ pub record AreFindingsOf (text : List ℕ) (says : FileReading) (skipped : List 
   pub of_references : List ParseError
   pub resolved : AreRecovered places names own entries of_references
   pub between : List Finding
-  pub are_between : AreBetween text skipped names says.entries origins own says.abbreviations between
-  pub are : AreFindingsIn skipped lacking (of_entries ++ of_references) says.entries origins entries between found
+  pub are_between : AreBetween text ends skipped names says.entries origins own says.abbreviations between
+  pub are : AreFindingsIn text skipped lacking (of_entries ++ of_references) says.entries origins entries between found
 
 -- whether these are all findings of a file with this text: those of the recovered text, and those of the abbreviations that nothing in
 -- this text uses, sorted by their starts
@@ -135,5 +136,5 @@ pub record AreFindings (text : List ℕ) (found : List Finding) : Type 0 where
   pub skipped : List SkippedBlock
   pub recovery : IsFullRecovery text says skipped
   pub of_text : List Finding
-  pub are : AreFindingsOf text says skipped of_text
+  pub are : AreFindingsOf text [] says skipped of_text
   pub sorted : AreSortedByPlace (of_text ++ unused_definition_findings says skipped) found

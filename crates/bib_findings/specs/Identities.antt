@@ -1,15 +1,16 @@
 -- Meaning: words of public contracts.
--- Entries are likely the same work if they have the same DOI, the same ISBN of whole books, or the same title, first person and year, and
--- no field tells them apart. Case and braces don't count. White space only separates words, and doesn't count in a DOI or an ISBN. The
--- hyphens of an ISBN and the link or the scheme before a DOI don't count either.
-use Rattle.std.specs.Prelude.{ℕ, Bool, not, ◌==◌, ◌&&◌, ◌||◌, List, [], ◌∷◌, ◌++◌, codes, chars, length, take, drop, filter, bytes_eq, nat_eq, encode_utf8_all, Option, Some, None, if◌then◌else◌}
+-- Entries are likely the same work if they have the same DOI, the same ISBN of whole books, or the same title, people and year, and
+-- aren't told apart. A whole book and a part of a book are different works. Case and braces don't count. White space only separates
+-- words, and doesn't count in a DOI or an ISBN. The hyphens of an ISBN and the link or the scheme before a DOI don't count either.
+use Rattle.std.specs.Prelude.{ℕ, Bool, not, ◌==◌, ◌&&◌, ◌||◌, List, [], ◌∷◌, ◌++◌, codes, chars, length, take, drop, filter, bytes_eq, eqb, nat_eq, encode_utf8_all, Option, Some, None, if◌then◌else◌}
 use Rattle.std.specs.Char.{is_whitespace}
-use Rattle.std.specs.List.{flat_map, list_any, slice_split, starts_with, take_while}
+use Rattle.std.specs.List.{ends_with, flat_map, list_all, list_any, slice_split, starts_with, take_while}
 use Rattle.std.specs.StrCase.Lower.{str_to_lowercase}
 use Rattle.bib_text.specs.Characters as char
 use Rattle.bib_tables.specs.Requirements.{Names, fields}
 use Rattle.bib_syntax.specs.Reading.{EntryReading, FieldReading, Piece}
 use Rattle.bib_syntax.specs.Reading.Piece.{literal}
+use Rattle.bib_findings.specs.CheckDigits.{is_digit_or_x, is_isbn}
 use Rattle.bib_findings.specs.Entries.{last_named}
 use Rattle.bib_findings.specs.Nearest.{is_known_name}
 
@@ -77,27 +78,47 @@ without_prefixes text [] = text
 without_prefixes text (prefix ∷ prefixes) =
     if starts_with nat_eq text prefix then drop (length prefix) text else without_prefixes text prefixes
 
+-- a text if it begins with `10.`, as each DOI does (ISO 26324); any other text gives the empty text
+abbrev pub right_doi : List ℕ → List ℕ
+right_doi text = if starts_with eqb text (codes "10.") then text else []
+
 -- the DOI of an entry in lowercase, without braces, white space and a link or a scheme before it; the empty text if it has none as one
 -- literal
 abbrev pub doi_of : EntryReading → List ℕ
-doi_of said = without_prefixes (squeezed (own_literal said (codes "doi"))) doi_prefixes
+doi_of said = right_doi (without_prefixes (squeezed (own_literal said (codes "doi"))) doi_prefixes)
 
 -- the types of whole books: the ISBN of a part, such as a chapter, is that of its book
 abbrev pub whole_types : Names
 whole_types = fields "book booklet collection manual mvbook mvcollection mvproceedings mvreference proceedings reference"
 
+-- the types of parts of books: the DOI of a part may be that of its book
+abbrev pub part_types : Names
+part_types = fields "inbook bookinbook suppbook incollection suppcollection inproceedings conference inreference"
+
 -- whether an entry is a whole book
 abbrev pub is_whole_book : EntryReading → Bool
 is_whole_book said = is_known_name whole_types said.kind.text
+
+-- whether an entry is a part of a book
+abbrev pub is_part_of_book : EntryReading → Bool
+is_part_of_book said = is_known_name part_types said.kind.text
+
+-- whether one entry is a whole book, and the other a part of a book
+abbrev pub are_book_and_part : EntryReading → EntryReading → Bool
+are_book_and_part said other = (is_whole_book said && is_part_of_book other) || (is_part_of_book said && is_whole_book other)
 
 -- a text without hyphens, braces and white space, in lowercase
 abbrev pub unhyphened : List ℕ → List ℕ
 unhyphened text = encode_utf8_all (filter (λ c. not (c == char.hyphen)) (chars (squeezed text)))
 
+-- a text if it has the length, the digits and the check digit of an ISBN; any other text gives the empty text
+abbrev pub right_isbn : List ℕ → List ℕ
+right_isbn text = if list_all is_digit_or_x text && is_isbn text then text else []
+
 -- the ISBN of a whole book in lowercase, without hyphens, braces and white space; the empty text if it has none as one literal, or isn't a
 -- whole book
 abbrev pub isbn_of : EntryReading → List ℕ
-isbn_of said = if is_whole_book said then unhyphened (own_literal said (codes "isbn")) else []
+isbn_of said = if is_whole_book said then right_isbn (unhyphened (own_literal said (codes "isbn"))) else []
 
 -- the year of an entry: its field `year`, or else the first four characters of its date. The words are in lowercase and without braces,
 -- each followed by a space. A field that isn't one literal counts as missing.
@@ -114,10 +135,13 @@ abbrev pub work_text : List ℕ → List ℕ → List ℕ → List ℕ
 work_text title person year =
     if length title == 0 || length person == 0 || length year == 0 then [] else title ++ (codes "{" ++ (person ++ (codes "{" ++ year)))
 
--- the words of the first author of an entry, or else of its first editor, in lowercase and without braces, each followed by a space. A
--- field that isn't one literal counts as missing.
+-- the authors of an entry, or else its editors. A field that isn't one literal counts as missing.
+abbrev pub own_people : EntryReading → List ℕ
+own_people said = or_else (own_literal said (codes "author")) (own_literal said (codes "editor"))
+
+-- the words of the first of the people of an entry, in lowercase and without braces, each followed by a space
 abbrev pub first_person_of : EntryReading → List ℕ
-first_person_of said = first_person (or_else (own_literal said (codes "author")) (own_literal said (codes "editor")))
+first_person_of said = first_person (own_people said)
 
 -- the title, the first person and the year of an entry, or the empty text if it lacks one of them
 abbrev pub work_of : EntryReading → List ℕ
@@ -150,6 +174,39 @@ are_different text other = not (length text == 0) && not (length other == 0) && 
 abbrev pub differs_in : EntryReading → EntryReading → List ℕ → Bool
 differs_in said other name = are_different (unhyphened (own_literal said name)) (unhyphened (own_literal other name))
 
--- whether a field tells two entries apart
+-- whether some people end in `and others`, which means further people
+abbrev pub end_in_others : List ℕ → Bool
+end_in_others people = ends_with eqb (plain_words people) (codes " and others ")
+
+-- whether the people of one of two entries end in `and others`
+abbrev pub have_open_list : EntryReading → EntryReading → Bool
+have_open_list said other = end_in_others (own_people said) || end_in_others (own_people other)
+
+-- whether two entries have different people. They are compared in lowercase and without hyphens, braces and white space. A list that ends
+-- in `and others` isn't compared: only its first person counts, as in each identity by title, person and year
+abbrev pub have_other_people : EntryReading → EntryReading → Bool
+have_other_people said other =
+    not (have_open_list said other) && are_different (unhyphened (own_people said)) (unhyphened (own_people other))
+
+-- whether two texts are equal, and not empty
+abbrev pub are_same : List ℕ → List ℕ → Bool
+are_same text other = not (length text == 0) && bytes_eq text other
+
+-- whether two entries have the same DOI
+abbrev pub share_doi : EntryReading → EntryReading → Bool
+share_doi said other = are_same (doi_of said) (doi_of other)
+
+-- whether two entries have the same ISBN of whole books
+abbrev pub share_isbn : EntryReading → EntryReading → Bool
+share_isbn said other = are_same (isbn_of said) (isbn_of other)
+
+-- whether two entries are parts of books with different titles: both may have the DOI of one book
+abbrev pub are_other_parts : EntryReading → EntryReading → Bool
+are_other_parts said other = is_part_of_book said && is_part_of_book other && differs_in said other (codes "title")
+
+-- whether two entries are told apart: one is a part of a book and the other a whole book, both are parts with different titles, they differ
+-- in a field, or they have neither a DOI nor an ISBN in common and have different people
 abbrev pub are_told_apart : EntryReading → EntryReading → Bool
-are_told_apart said other = list_any (differs_in said other) telling_fields
+are_told_apart said other =
+    are_book_and_part said other || are_other_parts said other || list_any (differs_in said other) telling_fields
+    || (not (share_doi said other || share_isbn said other) && have_other_people said other)

@@ -1,5 +1,6 @@
 pub mod Adding
 pub mod After
+pub mod CheckDigits
 pub mod Codes
 pub mod Counted
 pub mod Cuts
@@ -26,6 +27,8 @@ pub mod Met
 pub mod Names
 pub mod Near
 pub mod Nearest
+pub mod Once
+pub mod OtherDigits
 pub mod Outside
 pub mod ParentOrder
 pub mod People

@@ -15,6 +15,7 @@ use Rattle.bib_dates.specs.Dates.{holds, is_open, without_mark}
 use Rattle.bib_entry.specs.declared.entry.Entry.{Entry}
 use Rattle.bib_syntax.specs.Reading.{EntryReading}
 use Rattle.bib_findings.specs.Entries.{field_finding, last_named}
+use Rattle.bib_findings.specs.OtherDigits.{is_other_year}
 use Rattle.bib_findings.specs.declared.codes.Code.TheVariants.{MalformedDate}
 use Rattle.bib_findings.specs.declared.finding.Finding.{Finding}
 
@@ -75,8 +76,8 @@ abbrev pub is_special_year : List ℕ → Bool
 is_special_year side = is_division (unsigned (without_mark side)) || is_long_year (without_mark side)
 
 -- whether a text may be a side of a range, or a whole date: the side is open, the library reads it, or it has a form of its own
-abbrev pub is_side : List ℕ → Bool
-is_side side = is_open side || is_special_year side || reads_as_date side || has_decimals side
+unfoldable pub is_side : List ℕ → Bool
+is_side side = is_open side || is_special_year side || is_other_year side || reads_as_date side || has_decimals side
 
 -- whether two texts are the sides of a range
 abbrev pub are_sides : List ℕ → List ℕ → Bool

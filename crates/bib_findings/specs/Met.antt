@@ -2,16 +2,20 @@
 -- A cache of field names, each with its classification.
 use Rattle.std.specs.Prelude.{◌≡◌, ℕ, true, false, List, Option, Some, option_copied}
 use Rattle.std.specs.Str.{str_to_ascii_lowercase}
+use Rattle.bib_findings.specs.Foreign.{is_foreign}
 use Rattle.bib_findings.specs.Names.{is_unknown_field, known_fields}
 use Rattle.bib_findings.specs.Nearest.{IsNearest}
 use Rattle.bib_findings.specs.declared.names.FieldName.{FieldName}
-use Rattle.bib_findings.specs.declared.names.FieldName.TheVariants.{Known, Unknown}
+use Rattle.bib_findings.specs.declared.names.FieldName.TheVariants.{Foreign, Known, Unknown}
 
--- whether this is the classification of a name: known to BibLaTeX or used by other programs, or else with the known name that may be meant
+-- whether this is the classification of a name: used by other programs, known to BibLaTeX, or else unknown, with the known name that may be
+-- meant
 abbrev pub IsFieldName : List ℕ → FieldName → Type 0
-IsFieldName name Known = is_unknown_field name ≡ false
+IsFieldName name Foreign = is_foreign name ≡ true
+IsFieldName name Known = (is_foreign name ≡ false) × (is_unknown_field name ≡ false)
 IsFieldName name (Unknown meant) =
-    (is_unknown_field name ≡ true) × IsNearest known_fields (str_to_ascii_lowercase name) (option_copied meant)
+    (is_foreign name ≡ false) × (is_unknown_field name ≡ true)
+    × IsNearest known_fields (str_to_ascii_lowercase name) (option_copied meant)
 
 -- whether each name of the cache has its classification
 abbrev pub AreFieldNames : (List ℕ → Option FieldName) → Type 0

@@ -1,7 +1,7 @@
 -- Meaning: words of public contracts.
 -- The field names that BibLaTeX knows, and the findings of fields with any other name.
 use Rattle.std.specs.Prelude.{◌≡◌, ℕ, Bool, not, ◌==◌, ◌&&◌, ◌||◌, List, ◌++◌, codes, Option, if◌then◌else◌}
-use Rattle.std.specs.List.{AllZip, after_first, before_first, filter}
+use Rattle.std.specs.List.{AllZip, after_first, before_first, filter, list_any}
 use Rattle.std.specs.Str.{str_eq_ignore_ascii_case, str_to_ascii_lowercase}
 use Rattle.bib_text.specs.Characters as char
 use Rattle.bib_tables.specs.Requirements.{Names, fields}
@@ -9,7 +9,7 @@ use Rattle.bib_syntax.specs.Reading.{EntryReading, FieldReading}
 use Rattle.bib_findings.specs.Entries.{part_range}
 use Rattle.bib_findings.specs.Errors.{finding_at}
 use Rattle.bib_findings.specs.Foreign.{begins_in_any_case, is_foreign}
-use Rattle.bib_findings.specs.Nearest.{IsNearest, is_known_name, unknown_message}
+use Rattle.bib_findings.specs.Nearest.{IsNearest, is_known_name, is_plausible, unknown_message}
 use Rattle.bib_findings.specs.declared.codes.Code.TheVariants.{UnknownField}
 use Rattle.bib_findings.specs.declared.finding.Finding.{Finding}
 
@@ -58,6 +58,10 @@ annotated_name name =
 abbrev pub is_known_field : List ℕ → Bool
 is_known_field name = is_in_model (annotated_name name)
 
+-- whether a known name is near enough to a name to be suggested for it
+abbrev pub has_suggestion : List ℕ → Bool
+has_suggestion name = list_any (is_plausible (str_to_ascii_lowercase name)) known_fields
+
 -- whether this is the finding of an unknown field, at its name, with the nearest known name as the suggestion, if one is near enough
 pub record IsOfUnknown (key : List ℕ) (field : FieldReading) (found : Finding) : Type 0 where
   pub meant : Option (List ℕ)
@@ -69,14 +73,14 @@ pub record IsOfUnknown (key : List ℕ) (field : FieldReading) (found : Finding)
 abbrev pub is_unknown_field : List ℕ → Bool
 is_unknown_field name = not (is_known_field name) && not (is_foreign name)
 
--- the fields with such a name
-abbrev pub unknown_among : List FieldReading → List FieldReading
-unknown_among all = filter (λ f. is_unknown_field f.name.text) all
+-- the fields with such a name for which a known name is suggested
+abbrev pub misspelled_among : List FieldReading → List FieldReading
+misspelled_among all = filter (λ f. is_unknown_field f.name.text && has_suggestion f.name.text) all
 
--- whether these are the findings of the unknown fields in `all`, one for each, in order, for the entry with this key
-abbrev pub AreUnknownOf : List ℕ → List FieldReading → List Finding → Type 0
-AreUnknownOf key all found = AllZip (IsOfUnknown key) (unknown_among all) found
+-- whether these are the findings of the misspelled fields in `all`, one for each, in order, for the entry with this key
+abbrev pub AreMisspelledOf : List ℕ → List FieldReading → List Finding → Type 0
+AreMisspelledOf key all found = AllZip (IsOfUnknown key) (misspelled_among all) found
 
--- whether these are the findings of the unknown fields of an entry
-abbrev pub AreOfUnknown : EntryReading → List Finding → Type 0
-AreOfUnknown said found = AreUnknownOf said.key.text said.fields found
+-- whether these are the findings of the misspelled fields of an entry. Other unknown fields are reported once in a file
+abbrev pub AreOfMisspelled : EntryReading → List Finding → Type 0
+AreOfMisspelled said found = AreMisspelledOf said.key.text said.fields found

@@ -1,6 +1,6 @@
 -- Meaning: words of public contracts.
 -- Suggestions: the known name that an unknown one may mean.
-use Rattle.std.specs.Prelude.{◌≡◌, ℕ, ◌<◌, ◌≤◌, ◌-◌, ◌==◌, Bool, false, not, ◌&&◌, List, ◌∷◌, ◌++◌, bytes_eq, codes, drop, length, nat_eq, nat_le, nat_lt, Option, Some, None, if◌then◌else◌}
+use Rattle.std.specs.Prelude.{◌≡◌, ℕ, ◌<◌, ◌≤◌, ◌-◌, ◌==◌, Bool, false, not, ◌&&◌, ◌||◌, List, ◌∷◌, ◌++◌, bytes_eq, codes, drop, length, nat_eq, nat_le, nat_lt, take, Option, Some, None, if◌then◌else◌}
 use Rattle.std.specs.List.{All, ends_with, filter, list_any, starts_with}
 use Rattle.std.specs.Str.{chars, str_eq_ignore_ascii_case}
 use Rattle.strsim.specs.Edits.{osa_table}
@@ -16,9 +16,15 @@ is_known_name names name = list_any (λ known. str_eq_ignore_ascii_case known na
 abbrev pub distance : List ℕ → List ℕ → ℕ
 distance name other = (osa_table (chars name) (chars other)).last_row (length (chars other))
 
--- the greatest number of edits in a typing error of a name with this number of bytes: short names are alike by chance
-abbrev pub most_edits : ℕ → ℕ
-most_edits size = if nat_lt size 4 then 0 else if nat_lt size 6 then 1 else 2
+-- whether a name begins like a known one, up to the last three bytes of the known one. Two forms of one word do, such as `translation` and
+-- `translator`
+abbrev pub begins_like : List ℕ → List ℕ → Bool
+begins_like name known = starts_with nat_eq name (take (length known - 3) known)
+
+-- the greatest number of edits in a typing error of a name for a known one: short names and the ends of words are alike by chance
+abbrev pub most_edits : List ℕ → List ℕ → ℕ
+most_edits name known =
+    if nat_lt (length name) 4 then 0 else if nat_lt (length name) 8 || begins_like name known then 1 else 2
 
 -- whether two texts begin with the same byte
 abbrev pub begin_alike : List ℕ → List ℕ → Bool
@@ -38,8 +44,8 @@ is_extension name known =
 -- whether a name may be a typing error for a known one
 abbrev pub is_plausible : List ℕ → List ℕ → Bool
 is_plausible name known =
-    begin_alike name known && are_of_like_length (most_edits (length name)) name known && not (is_extension name known)
-    && nat_le (distance name known) (most_edits (length name))
+    begin_alike name known && are_of_like_length (most_edits name known) name known && not (is_extension name known)
+    && nat_le (distance name known) (most_edits name known)
 
 -- whether `known` is the first of the names in `all` that are nearest to `name`
 pub record IsFirstNearest (all : Names) (name known : List ℕ) : Type 0 where

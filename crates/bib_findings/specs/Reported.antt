@@ -1,11 +1,12 @@
 -- Meaning: words of public contracts.
 -- The findings of the report on an entry: missing, superfluous and malformed fields.
-use Rattle.std.specs.Prelude.{◌≡◌, ℕ, Bool, true, false, not, ◌==◌, ◌&&◌, ◌||◌, List, [], ◌∷◌, ◌++◌, bytes_eq, codes, if◌then◌else◌, map}
-use Rattle.std.specs.Char.{is_ascii_alphanumeric, is_ascii_whitespace}
-use Rattle.std.specs.List.{filter, list_all, list_any}
-use Rattle.std.specs.Option.{option_map_or, option_or}
+use Rattle.std.specs.Prelude.{◌≡◌, ℕ, Bool, true, false, not, ◌&&◌, ◌||◌, List, [], ◌∷◌, ◌++◌, bytes_eq, codes, if◌then◌else◌, map}
+use Rattle.std.specs.Char.{is_ascii_alphanumeric}
+use Rattle.std.specs.List.{filter, list_any}
+use Rattle.std.specs.Option.{option_map_or}
+use Rattle.std.specs.Str.{trim}
 use Rattle.std.specs.declared.ops.Range.{Range}
-use Rattle.bib_tables.specs.Requirements.{Names}
+use Rattle.bib_tables.specs.Requirements.{Names, fields}
 use Rattle.bib_tables.specs.TypeError.{type_kind_text}
 use Rattle.bib_tables.specs.declared.mechanics.EntryType.{EntryType}
 use Rattle.bib_tables.specs.declared.mechanics.EntryType.TheVariants.{MvBook, MvCollection, MvReference, Unknown}
@@ -17,6 +18,7 @@ use Rattle.bib_findings.specs.Demands.{missing_fields}
 use Rattle.bib_findings.specs.Entries.{field_finding, field_message, field_place, has_own_field, is_empty_value, last_named, range_or}
 use Rattle.bib_findings.specs.Errors.{finding_at}
 use Rattle.bib_findings.specs.Identities.{own_literal}
+use Rattle.bib_findings.specs.OtherDigits.{are_other_digits}
 use Rattle.bib_findings.specs.declared.codes.Code.{Code}
 use Rattle.bib_findings.specs.declared.codes.Code.TheVariants as code
 use Rattle.bib_findings.specs.declared.finding.Finding.{Finding}
@@ -26,6 +28,15 @@ abbrev pub year_name : List ℕ → List ℕ
 year_name name =
     if bytes_eq name (codes "date") then codes "year" else if bytes_eq name (codes "eventdate") then codes "eventyear"
     else if bytes_eq name (codes "origdate") then codes "origyear" else if bytes_eq name (codes "urldate") then codes "urlyear" else name
+
+-- the fields that contain the year, the month and the day of this date, if the date is in separate fields
+abbrev pub date_part_names : List ℕ → Names
+date_part_names name =
+    if bytes_eq name (codes "date") then fields "year month day"
+    else if bytes_eq name (codes "eventdate") then fields "eventyear eventmonth eventday"
+    else if bytes_eq name (codes "origdate") then fields "origyear origmonth origday"
+    else if bytes_eq name (codes "urldate") then fields "urlyear urlmonth urlday"
+    else []
 
 -- the place of a malformed field: its name, or the year if it is a date in separate fields, or else the entry's key
 abbrev pub malformed_place : EntryReading → List ℕ → Range ℕ
@@ -49,34 +60,35 @@ malformed_finding said e =
 abbrev pub plural_gender : List ℕ
 plural_gender = codes "pp"
 
--- whether BibLaTeX takes a byte for part of a numeral, or for a character between numerals (biblatex.sty: `\ifpages`, `\DeclareNumChars`
--- and `\DeclareRangeChars`)
-abbrev pub is_numeral_byte : ℕ → Bool
-is_numeral_byte b = is_ascii_whitespace b || list_any (λ c. c == b) (codes "0123456789ivxlcdmIVXLCDM.~,;-+/")
-
 -- whether a text begins with an ASCII letter or digit
 abbrev pub begins_alphanumeric : List ℕ → Bool
 begins_alphanumeric [] = false
 begins_alphanumeric (b ∷ rest) = is_ascii_alphanumeric b
 
--- whether BibLaTeX takes a text for Arabic and Roman numerals, so that it prints `p.` or `pp.` before it, and the text begins with one.
--- Biber warns of ranges without a start.
-abbrev pub are_numerals : List ℕ → Bool
-are_numerals text = begins_alphanumeric text && list_all is_numeral_byte text
-
--- whether BibLaTeX knows the text of a field, although it can't be parsed: the gender `pp`, and numerals as pages
+-- whether BibLaTeX knows the text of a field or prints it as it is, although it can't be parsed: the gender `pp`, and pages that begin with
+-- a letter or a digit, such as `12A` or `xiv + 447`. Biber warns of ranges of pages without a start.
 abbrev pub is_known_text : List ℕ → List ℕ → Bool
 is_known_text name text =
-    (bytes_eq name (codes "gender") && bytes_eq text plural_gender) || (bytes_eq name (codes "pages") && are_numerals text)
+    (bytes_eq name (codes "gender") && bytes_eq text plural_gender) || (bytes_eq name (codes "pages") && begins_alphanumeric text)
 
--- whether the field at which an error of the field of this name is reported is empty
+-- whether an entry has a field of this name in the file, and the last one is empty
+abbrev pub has_empty : EntryReading → List ℕ → Bool
+has_empty said name = option_map_or is_empty_value (last_named said.fields name) false
+
+-- whether the field of this name is empty, or one of the fields of the date if it is in separate fields
 abbrev pub is_empty_field : EntryReading → List ℕ → Bool
-is_empty_field said name =
-    option_map_or is_empty_value (option_or (last_named said.fields name) (last_named said.fields (year_name name))) false
+is_empty_field said name = has_empty said name || list_any (has_empty said) (date_part_names name)
 
--- whether the error of a field is reported: an empty field is reported as such, and a text that BibLaTeX knows isn't
+-- whether the field is a date, and the year of the entry is a number in the digits of another script, which Biber reads
+abbrev pub has_year_in_other_digits : EntryReading → List ℕ → Bool
+has_year_in_other_digits said name = bytes_eq name (codes "date") && are_other_digits (trim (own_literal said (codes "year")))
+
+-- whether the error of a field is reported. An empty field isn't malformed, and a text that BibLaTeX knows or a year that Biber reads isn't
+-- reported
 abbrev pub is_reported_field : EntryReading → List ℕ → Bool
-is_reported_field said name = not (is_empty_field said name) && not (is_known_text name (own_literal said name))
+is_reported_field said name =
+    not (is_empty_field said name) && not (is_known_text name (own_literal said name))
+    && not (has_year_in_other_digits said name)
 
 -- the findings of the malformed fields whose errors are reported
 abbrev pub malformed_findings : EntryReading → List (List ℕ × TypeError) → List Finding

@@ -33,11 +33,11 @@ abbrev pub AreFirstWith : (List ℕ → Option (Vec ℕ Global)) → List EntryR
 AreFirstWith seen said earlier =
     (id : List ℕ) → entries_at said (stored_indices (seen id)) ≡ take most_compared (filter (has_identity id) earlier)
 
--- the first of some entries that no field tells apart from an entry
+-- the first of some entries that isn't told apart from an entry
 abbrev pub first_alike : EntryReading → List EntryReading → Option EntryReading
 first_alike said others = find (λ other. not (are_told_apart said other)) others
 
--- the first of the entries at the indices of an identity that no field tells apart from an entry
+-- the first of the entries at the indices of an identity that isn't told apart from an entry
 abbrev pub alike_by : (List ℕ → Option (Vec ℕ Global)) → List EntryReading → EntryReading → List ℕ → Option EntryReading
 alike_by seen said one id = first_alike one (entries_at said (stored_indices (seen id)))
 

@@ -1,10 +1,10 @@
 -- Meaning: words of public contracts.
--- Standard numbers of books and of serials: ISBN (ISO 2108) and ISSN (ISO 3297), and the findings of wrong ones.
-use Rattle.std.specs.Prelude.{ℕ, ◌+◌, ◌-◌, ◌*◌, ◌%◌, Bool, not, ◌==◌, ◌&&◌, ◌||◌, List, [], ◌∷◌, ◌++◌, true, false, codes, filter, if◌then◌else◌, length, nat_eq, take}
-use Rattle.std.specs.Char.{is_ascii_digit}
+-- The findings of wrong standard numbers of books and of serials: ISBN and ISSN.
+use Rattle.std.specs.Prelude.{ℕ, Bool, not, ◌==◌, ◌&&◌, List, [], ◌∷◌, ◌++◌, true, false, codes, filter, if◌then◌else◌, length}
 use Rattle.std.specs.List.{list_all, list_any, slice_split}
 use Rattle.bib_text.specs.Characters as char
 use Rattle.bib_syntax.specs.Reading.{EntryReading}
+use Rattle.bib_findings.specs.CheckDigits.{is_digit_or_x, is_isbn, is_issn}
 use Rattle.bib_findings.specs.Entries.{field_place}
 use Rattle.bib_findings.specs.Errors.{finding_at}
 use Rattle.bib_findings.specs.Fields.{named_message}
@@ -21,10 +21,6 @@ is_number_separator b = list_any (λ one. b == one) (codes ",;and")
 abbrev pub is_group_separator : ℕ → Bool
 is_group_separator b = list_any (λ one. b == one) (codes "- ")
 
--- whether a byte occurs in numbers: a digit, or `X` in either case
-abbrev pub is_digit_or_x : ℕ → Bool
-is_digit_or_x b = is_ascii_digit b || list_any (λ one. b == one) (codes "Xx")
-
 -- the bytes of a text without hyphens and spaces: the digits of a number
 abbrev pub digits_of : List ℕ → List ℕ
 digits_of part = filter (λ b. not (is_group_separator b)) part
@@ -40,38 +36,6 @@ is_word_separator b = b == char.space
 -- the words of a part between spaces; a word may be empty
 abbrev pub number_words : List ℕ → List (List ℕ)
 number_words part = slice_split is_word_separator part
-
--- the value of a digit; any other byte, such as `X`, is 10
-abbrev pub digit_value : ℕ → ℕ
-digit_value b = if is_ascii_digit b then b - char.zero else 10
-
--- the sum of the digits, each multiplied by the number of digits from it to the end: by 10 to 1 in an ISBN of ten
--- digits, by 8 to 1 in an ISSN
-abbrev pub descending_sum : List ℕ → ℕ
-descending_sum [] = 0
-descending_sum (b ∷ rest) = digit_value b * (length rest + 1) + descending_sum rest
-
--- the sum of the digits, multiplied in turn by `weight` and by 4 less `weight`: from 1 on by 1, 3, 1, 3 ..
-abbrev pub alternating_sum : ℕ → List ℕ → ℕ
-alternating_sum weight [] = 0
-alternating_sum weight (b ∷ rest) = digit_value b * weight + alternating_sum (4 - weight) rest
-
--- whether the check digit of an ISSN or of an ISBN of ten digits is right: the sum is a multiple of 11. Only this digit, the last one, may
--- be `X`
-abbrev pub is_check_right_by_11 : List ℕ → Bool
-is_check_right_by_11 digits = list_all is_ascii_digit (take (length digits - 1) digits) && descending_sum digits % 11 == 0
-
--- whether the check digit of an ISBN of 13 digits is right: the sum is a multiple of 10
-abbrev pub is_check_right_by_10 : List ℕ → Bool
-is_check_right_by_10 digits = list_all is_ascii_digit digits && alternating_sum 1 digits % 10 == 0
-
--- whether digits have the length and the check digit of an ISBN
-abbrev pub is_isbn : List ℕ → Bool
-is_isbn digits = (nat_eq (length digits) 10 && is_check_right_by_11 digits) || (nat_eq (length digits) 13 && is_check_right_by_10 digits)
-
--- whether digits have the length and the check digit of an ISSN
-abbrev pub is_issn : List ℕ → Bool
-is_issn digits = length digits == 8 && is_check_right_by_11 digits
 
 -- whether digits have the length and the check digit of an ISSN if `is_serial` is true, or else of an ISBN
 abbrev pub is_standard_number : Bool → List ℕ → Bool

@@ -1,12 +1,13 @@
 -- Meaning: words of public contracts.
 -- The entry types that BibLaTeX knows, and the finding of an entry with any other type.
-use Rattle.std.specs.Prelude.{◌≡◌, ℕ, Bool, MatchBool, List, [], ◌∷◌, ◌++◌, codes, Option}
+use Rattle.std.specs.Prelude.{◌≡◌, ℕ, Bool, MatchBool, not, ◌&&◌, List, [], ◌∷◌, ◌++◌, codes, Option}
+use Rattle.std.specs.List.{list_any}
 use Rattle.std.specs.Str.{str_to_ascii_lowercase}
 use Rattle.bib_tables.specs.Requirements.{Names, fields}
 use Rattle.bib_syntax.specs.Reading.{EntryReading}
 use Rattle.bib_findings.specs.Entries.{part_range}
 use Rattle.bib_findings.specs.Errors.{finding_at}
-use Rattle.bib_findings.specs.Nearest.{IsNearest, is_known_name, unknown_message}
+use Rattle.bib_findings.specs.Nearest.{IsNearest, is_known_name, is_plausible, unknown_message}
 use Rattle.bib_findings.specs.declared.codes.Code.TheVariants.{UnknownType}
 use Rattle.bib_findings.specs.declared.finding.Finding.{Finding}
 
@@ -31,7 +32,15 @@ pub record IsOfUnknownType (said : EntryReading) (found : Finding) : Type 0 wher
   pub is : found ≡ finding_at UnknownType (part_range said.kind)
       (unknown_message said.key.text (codes "unknown entry type") said.kind.text meant)
 
--- whether these are the findings of an entry's type: none if the type is known
+-- whether a known type is near enough to a name to be suggested for it
+abbrev pub has_type_suggestion : List ℕ → Bool
+has_type_suggestion name = list_any (is_plausible (str_to_ascii_lowercase name)) known_types
+
+-- whether a type is unknown, and a known one is suggested for it
+abbrev pub is_misspelled_type : List ℕ → Bool
+is_misspelled_type name = not (is_known_type name) && has_type_suggestion name
+
+-- whether these are the findings of an entry's type: one if the type is misspelled. Other unknown types are reported once in a file
 abbrev pub AreOfType : EntryReading → List Finding → Type 0
 AreOfType said found =
-    MatchBool (is_known_type said.kind.text) (found ≡ []) ((one : Finding) × IsOfUnknownType said one × (found ≡ one ∷ []))
+    MatchBool (is_misspelled_type said.kind.text) ((one : Finding) × IsOfUnknownType said one × (found ≡ one ∷ [])) (found ≡ [])

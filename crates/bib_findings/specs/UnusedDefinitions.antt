@@ -9,9 +9,8 @@ use Rattle.bib_syntax.specs.Reading.{EntryReading, FieldReading, FileReading, Pi
 use Rattle.bib_syntax.specs.Reading.Piece.{abbreviation, literal}
 use Rattle.bib_syntax.specs.declared.raw.recovery.SkippedBlock.{SkippedBlock}
 use Rattle.bib_findings.specs.After.{each_after}
-use Rattle.bib_findings.specs.Entries.{part_range}
+use Rattle.bib_findings.specs.Entries.{have_one_name, part_range}
 use Rattle.bib_findings.specs.Errors.{finding_at}
-use Rattle.bib_findings.specs.Foreign.{have_one_name}
 use Rattle.bib_findings.specs.declared.codes.Code.TheVariants.{UnusedDefinition}
 use Rattle.bib_findings.specs.declared.finding.Finding.{Finding}
 

@@ -263,7 +263,7 @@ impl Code {
             Self::EscapeSequence =>
                 "The file contains ESC and a dollar sign, which begin an escape sequence of ISO 2022, as in ISO-2022-JP, ISO-2022-KR and ISO-2022-CN. The bytes after it stand for other characters than those that this program reads, so other findings may follow from them. Convert the file to UTF-8, for example with `iconv -f ISO-2022-JP -t UTF-8`. Only the first sequence of a file is reported.",
             Self::Syntax =>
-                "A block can't be parsed as an entry, a preamble, abbreviations or a comment. It is skipped, up to the next at sign that begins a line; only its complete parts are kept. Most often a comma, a brace or a quote is missing at the reported position, or before it.",
+                "A block can't be parsed as an entry, a preamble, abbreviations or a comment. It is skipped, up to the next at sign that begins a line; only its complete parts are kept. Most often a comma, a brace or a quote is missing at the reported position, or before it. The message names some forms that BibTeX or Biber reads.",
             Self::UnreadField =>
                 "The text of a field can't be parsed: a closing brace has no opening one, math has one dollar sign, or a command's argument has no closing brace. The field is removed. Add what is missing, or write \\$ for a dollar sign.",
             Self::UnknownAbbreviation =>
@@ -277,7 +277,7 @@ impl Code {
             Self::UnreadDate =>
                 "An entry would inherit a year, month and day that can't be parsed, so it doesn't inherit them. Write the date as YYYY-MM-DD, YYYY-MM or YYYY in the entry that it refers to.",
             Self::UnknownType =>
-                "BibLaTeX doesn't know this entry type. It treats the entry as `misc`. Correct the type. If a known one is nearly the same, the message names it. A type of a style of your own is also unknown; list it in the table `own` of bibkit.toml.",
+                "BibLaTeX doesn't know this entry type. It treats the entry as `misc`. Correct the type. If a known one is nearly the same, the message names it. A type of a style of your own is also unknown; list it in the table `own` of bibkit.toml. Without a suggestion, there is one finding for each type in a file.",
             Self::MissingField =>
                 "BibLaTeX's data model requires this field of an entry of this type. The entry neither has nor inherits it, or has it without a value.",
             Self::SuperfluousField =>
@@ -285,17 +285,17 @@ impl Code {
             Self::MalformedField =>
                 "The field isn't the number, range, date or word that it should be. The text after the colon says what is wrong.",
             Self::NotANumber =>
-                "The pages aren't ranges of numbers, or the volume isn't a number. BibLaTeX prints the text as it is, and pages without `p.` or `pp.` before them. With --validate-datamodel, Biber leaves out the volume. Pages that are one text aren't reported if they begin with a numeral and contain only digits, letters of Roman numerals, white space and any of `. ~ , ; - + /`.",
+                "The pages aren't ranges of numbers, or the volume isn't a number. BibLaTeX prints the text as it is, and pages without `p.` or `pp.` before them. With --validate-datamodel, Biber leaves out the volume. Pages that are one text aren't reported if they begin with an ASCII letter or digit.",
             Self::MalformedDate =>
                 "The field isn't a date, so Biber ignores it. Write it as YYYY-MM-DD, YYYY-MM or YYYY, or as two of these with a slash between them.",
             Self::UnknownField =>
-                "BibLaTeX's data model has no field of this name, so BibLaTeX ignores it. If a known name is nearly the same, the message names it. If a style or a program of your own uses the field, list it in the table `own` of bibkit.toml.",
+                "BibLaTeX's data model has no field of this name, so BibLaTeX ignores it. If a known name is nearly the same, the message names it. If a style or a program of your own uses the field, list it in the table `own` of bibkit.toml. Without a suggestion, there is one finding for each name in a file, and none in entries of unknown types.",
             Self::ForeignField =>
-                "Another program writes this field for itself, for example a reference manager or a database. BibLaTeX ignores it. One finding for each name counts all fields with it.",
+                "Another program writes this field for itself, for example a reference manager or a database. BibLaTeX ignores it. One finding for each name in a file counts the fields with it.",
             Self::RepeatedField =>
                 "An earlier field of the entry has the same name. BibTeX keeps the value of the first field, Biber and this program that of the last one. Remove one of the two.",
             Self::EmptyField =>
-                "The value of the field is empty or only white space. BibLaTeX takes the field for missing. Remove the field, or add its value.",
+                "The value of the field is empty or only white space. If the entry has `crossref` or `xdata`, Biber inherits a value for the field, but BibTeX and this program don't. If the field is a date, Biber takes the field `year` instead, but this program doesn't. Other empty fields aren't reported. Remove the field, or add its value.",
             Self::WrongIsbn =>
                 "A number in the field isn't an ISBN: its length or its last digit, which checks the others, is wrong. Copy the number again from the book.",
             Self::WrongIssn =>
@@ -319,7 +319,7 @@ impl Code {
             Self::UnknownReference =>
                 "The field `crossref`, `xdata`, `xref`, `related` or `entryset` names a key that no entry has as its key or in `ids`. An entry with the code `duplicate-key` doesn't count, because it is left out. Nothing is inherited through this reference. Correct the key, or add the entry.",
             Self::LikelyDuplicate =>
-                "An earlier entry has the same DOI, the same ISBN of a whole book, or the same title, first person and year, and no volume, number, pages, chapter, part, edition or subtitle differs. Keep one of the two, and name the key of the other in its field `ids`.",
+                "An earlier entry has the same DOI, the same ISBN of a whole book, or the same title, people and year, and no volume, number, pages, chapter, part, edition or subtitle differs. A DOI counts if it begins with `10.`, and an ISBN if its check digit is right. After `and others`, only the first person counts. A whole book and a part of a book aren't compared, and parts with different titles are different works. Keep one of the two, and name the key of the other in its field `ids`.",
             Self::KeyCase =>
                 "The key equals the key of an earlier entry except for case. BibTeX reports a repeated entry and skips this one. Biber keeps both and warns of a typing error. Give one of them another key.",
             Self::EarlyParent =>

@@ -5,13 +5,13 @@ ghost use Rattle.std.specs.BTreeMap.{get_by_text};
 ghost use Rattle.std.specs.String.{string_bytes};
 ghost use Rattle.bib_syntax.specs.Reading.{EntryReading};
 ghost use Rattle.bib_syntax.specs.Views.{entry_reading_of};
-ghost use Rattle.bib_findings.specs.Duplicates.{duplicate_finding, duplicate_message, duplicates, duplicates_after, entries_at};
+ghost use Rattle.bib_findings.specs.Duplicates.{common_ground, shared_people, duplicate_finding, duplicate_message, duplicates, duplicates_after, entries_at};
 ghost use Rattle.bib_findings.specs.Seen.{AreFirstWith, AreThere, alike_among, alike_by, first_alike, remembered, same_finding, stored_indices, with_entry_index};
 
 use crate::codes::Code;
 use crate::entry_names::entry_name;
 use crate::finding::Finding;
-use crate::identities::{are_told_apart, identities};
+use crate::identities::{are_told_apart, have_open_list, identities, share_doi, share_isbn};
 use crate::marks::candidates;
 use bib_syntax::raw::RawEntry;
 use bib_text::spanned::Spanned;
@@ -22,7 +22,7 @@ use std::collections::BTreeMap;
 // The greatest number of earlier entries with one identity that an entry is compared with.
 const MOST_COMPARED: usize = 16;
 
-// Returns the first of these indices whose entry no field tells apart from `one`.
+// Returns the first of these indices whose entry isn't told apart from `one`.
 fn first_alike(
     alloc: Global,
     said: &[Spanned<RawEntry<'_>>],
@@ -42,7 +42,7 @@ fn first_alike(
     Ok(None)
 }
 
-// Returns the index of the first entry with this identity that no field tells apart from `one`. `seen` has the indices of the first
+// Returns the index of the first entry with this identity that isn't told apart from `one`. `seen` has the indices of the first
 // `MOST_COMPARED` entries with each identity; only these are compared.
 fn alike_by(
     alloc: Global,
@@ -123,12 +123,48 @@ fn remember(
     Ok(())
 }
 
-// Returns the message for an entry that is likely the same work as another.
-fn duplicate_message(alloc: Global, key: &str, first: &str) -> Result<String, AllocError>
-    ensures { IfOk result (λ text. string_bytes text ≡ duplicate_message key.now first.now) }
+// Returns the words for the people of two entries with the same first person, if their people aren't different.
+fn shared_people(
+    alloc: Global,
+    said: &Spanned<RawEntry<'_>>,
+    first: &Spanned<RawEntry<'_>>,
+) -> Result<&'static str, AllocError>
+    ensures { IfOk result (λ shared. shared.now ≡ shared_people (entry_reading_of said.now) (entry_reading_of first.now)) }
+{
+    if have_open_list(alloc, said, first)? {
+        return Ok("title, year and first person");
+    }
+    Ok("title, year and people")
+}
+
+// Returns the words for the identity that two entries share, which are likely the same work.
+fn common_ground(
+    alloc: Global,
+    said: &Spanned<RawEntry<'_>>,
+    first: &Spanned<RawEntry<'_>>,
+) -> Result<&'static str, AllocError>
+    ensures { IfOk result (λ shared. shared.now ≡ common_ground (entry_reading_of said.now) (entry_reading_of first.now)) }
+{
+    if share_doi(alloc, said, first)? {
+        return Ok("DOI");
+    }
+    if share_isbn(alloc, said, first)? {
+        return Ok("ISBN");
+    }
+    shared_people(alloc, said, first)
+}
+
+// Returns the message for an entry that is likely the same work as another; `shared` names their identity.
+fn duplicate_message(
+    alloc: Global,
+    key: &str,
+    shared: &str,
+    first: &str,
+) -> Result<String, AllocError>
+    ensures { IfOk result (λ text. string_bytes text ≡ duplicate_message key.now shared.now first.now) }
 {
     let entry = entry_name(key);
-    format!(in alloc; "{entry}: likely the same as \"{first}\"")
+    format!(in alloc; "{entry}: likely the same work: same {shared} as \"{first}\"")
 }
 
 // Returns the finding of an entry that is likely the same work as `first`, an earlier one.
@@ -140,11 +176,12 @@ fn duplicate_finding(
     ensures { IfOk result (λ finding. finding ≡
         duplicate_finding (entry_reading_of said.now) (entry_reading_of first.now)) }
 {
-    let message = Text::from_string(duplicate_message(alloc, said.v.key.v, first.v.key.v)?);
+    let shared = common_ground(alloc, said, first)?;
+    let message = duplicate_message(alloc, said.v.key.v, shared, first.v.key.v)?;
     Ok(Finding {
         code: Code::LikelyDuplicate,
         span: said.v.key.span.start..said.v.key.span.end,
-        message,
+        message: Text::from_string(message),
     })
 }
 

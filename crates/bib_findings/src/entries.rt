@@ -1,14 +1,15 @@
 //! Findings of the reports on entries.
 
 ghost use Rattle.std.specs.Prelude.{◌≡◌, ◌++◌, codes, map, not, IfOk, OnOk};
-ghost use Rattle.std.specs.List.{filter, list_all};
+ghost use Rattle.std.specs.List.{filter, list_any};
 ghost use Rattle.std.specs.String.{string_bytes};
 ghost use Rattle.bib_tables.specs.Requirements.{texts};
 ghost use Rattle.bib_syntax.specs.Views.{entry_reading_of};
 ghost use Rattle.bib_findings.specs.Adding.{Adds};
 ghost use Rattle.bib_entry.specs.Reports.{superfluous_of};
 ghost use Rattle.bib_findings.specs.Entries.{field_finding, field_message};
-ghost use Rattle.bib_findings.specs.Reported.{AreOfReport, are_numerals, begins_alphanumeric, is_empty_field, is_in_data_model, is_known_text, is_numeral_byte, is_printed_anyway, is_reported_field, lacking_word, malformed_code, malformed_finding, malformed_findings, lacking_finding, superfluous_fields};
+ghost use Rattle.bib_findings.specs.Reported as spec;
+ghost use Rattle.bib_findings.specs.Reported.{AreOfReport, begins_alphanumeric, is_empty_field, is_in_data_model, is_known_text, is_printed_anyway, is_reported_field, lacking_word, malformed_code, malformed_finding, malformed_findings, lacking_finding, superfluous_fields};
 ghost use Rattle.bib_findings.specs.declared.codes.Code.TheVariants.{SuperfluousField};
 
 use crate::codes::Code;
@@ -16,7 +17,8 @@ use crate::entry_names::entry_name;
 use crate::fields::is_empty_value;
 use crate::finding::Finding;
 use crate::identities::own_literal;
-use crate::places::{field_place, has_own_field, last_named, malformed_place, year_name};
+use crate::other_digits::are_other_digits;
+use crate::places::{field_place, has_own_field, last_named, malformed_place};
 use bib_entry::entry::Entry;
 use bib_syntax::raw::RawEntry;
 use bib_tables::mechanics::EntryType;
@@ -109,20 +111,6 @@ fn malformed_code(name: &str) -> Code
     }
 }
 
-// Returns whether BibLaTeX takes a byte for part of a numeral, or for a character between numerals.
-fn is_numeral_byte(b: u8) -> bool
-    ensures { result ≡ is_numeral_byte b }
-{
-    b.is_ascii_whitespace() || b"0123456789ivxlcdmIVXLCDM.~,;-+/".contains(&b)
-}
-
-// Returns whether each of these bytes is one that BibLaTeX takes for part of numerals.
-fn are_numeral_bytes(bytes: &[u8]) -> bool
-    ensures { result ≡ list_all is_numeral_byte bytes.now }
-{
-    bytes.iter().all(|b| is_numeral_byte(*b))
-}
-
 // Returns whether bytes begin with an ASCII letter or digit.
 fn begins_alphanumeric(bytes: &[u8]) -> bool
     ensures { result ≡ begins_alphanumeric bytes.now }
@@ -133,37 +121,66 @@ fn begins_alphanumeric(bytes: &[u8]) -> bool
     }
 }
 
-// Returns whether BibLaTeX takes a text for Arabic and Roman numerals, so that it prints `p.` or `pp.` before it, and the text begins with
-// one.
-fn are_numerals(text: &str) -> bool
-    ensures { result ≡ are_numerals text.now }
-{
-    begins_alphanumeric(text.as_bytes()) && are_numeral_bytes(text.as_bytes())
-}
-
-// Returns whether BibLaTeX knows the text of a field, although it can't be parsed: the gender `pp`, and numerals as pages.
+// Returns whether BibLaTeX knows the text of a field or prints it as it is, although it can't be parsed: the gender `pp`, and pages that
+// begin with a letter or a digit.
 fn is_known_text(name: &str, text: &str) -> bool
     ensures { result ≡ is_known_text name.now text.now }
 {
-    (name == "gender" && text == "pp") || (name == "pages" && are_numerals(text))
+    (name == "gender" && text == "pp") || (name == "pages" && begins_alphanumeric(text.as_bytes()))
 }
 
-// Returns whether the field at which an error of the field of this name is reported is empty.
-fn is_empty_field(said: &Spanned<RawEntry<'_>>, name: &str) -> bool
-    ensures { result ≡ is_empty_field (entry_reading_of said.now) name.now }
+// Returns whether an entry has a field of this name in the file, and the last one is empty.
+fn has_empty(said: &Spanned<RawEntry<'_>>, name: &str) -> bool
+    ensures { result ≡ spec.has_empty (entry_reading_of said.now) name.now }
 {
-    let fields = said.v.fields.as_slice();
-    match last_named(fields, name).or(last_named(fields, year_name(name))) {
+    match last_named(said.v.fields.as_slice(), name) {
         Some(field) => is_empty_value(field),
         None => false,
     }
 }
 
-// Returns whether the error of this field is reported: an empty field is reported as such, and a text that BibLaTeX knows isn't.
+// Returns whether an entry has an empty field with one of these names.
+fn has_empty_among(said: &Spanned<RawEntry<'_>>, names: &[&'static str]) -> bool
+    ensures { result ≡ list_any (spec.has_empty (entry_reading_of said.now)) (texts names.now) }
+{
+    names.iter().any(|name| has_empty(said, name))
+}
+
+// Returns the fields that contain the year, the month and the day of this date, if the date is in separate fields.
+fn date_part_names(name: &str) -> &'static [&'static str]
+    ensures { texts result.now ≡ spec.date_part_names name.now }
+{
+    match name {
+        "date" => &["year", "month", "day"],
+        "eventdate" => &["eventyear", "eventmonth", "eventday"],
+        "origdate" => &["origyear", "origmonth", "origday"],
+        "urldate" => &["urlyear", "urlmonth", "urlday"],
+        _ => &[],
+    }
+}
+
+// Returns whether the field of this name is empty, or one of the fields of the date if it is in separate fields.
+fn is_empty_field(said: &Spanned<RawEntry<'_>>, name: &str) -> bool
+    ensures { result ≡ is_empty_field (entry_reading_of said.now) name.now }
+{
+    has_empty(said, name) || has_empty_among(said, date_part_names(name))
+}
+
+// Returns whether the field is a date, and the year of the entry is a number in the digits of another script, which Biber reads.
+fn has_year_in_other_digits(said: &Spanned<RawEntry<'_>>, name: &str) -> bool
+    ensures { result ≡ spec.has_year_in_other_digits (entry_reading_of said.now) name.now }
+{
+    name == "date" && are_other_digits(own_literal(said, "year").trim())
+}
+
+// Returns whether the error of this field is reported. An empty field isn't malformed, and a text that BibLaTeX knows or a year that Biber
+// reads isn't reported.
 fn is_reported(said: &Spanned<RawEntry<'_>>, name: &str) -> bool
     ensures { result ≡ is_reported_field (entry_reading_of said.now) name.now }
 {
-    !is_empty_field(said, name) && !is_known_text(name, own_literal(said, name))
+    !is_empty_field(said, name)
+        && !is_known_text(name, own_literal(said, name))
+        && !has_year_in_other_digits(said, name)
 }
 
 // Returns the finding of a field that can't be parsed as a value of its type.

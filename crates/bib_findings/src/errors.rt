@@ -1,6 +1,6 @@
 //! Findings of errors and of skipped blocks.
 
-ghost use Rattle.std.specs.Prelude.{◌≡◌, ◌++◌, map, IfOk, OnOk};
+ghost use Rattle.std.specs.Prelude.{◌≡◌, [], ◌++◌, if◌then◌else◌, map, IfOk, OnOk};
 ghost use Rattle.std.specs.String.{string_bytes};
 ghost use Rattle.bib_syntax.specs.Views.{entry_reading_of};
 ghost use Rattle.bib_findings.specs.Errors as spec;
@@ -11,7 +11,7 @@ use crate::codes::Code;
 use crate::cuts::entries_by_start;
 use crate::entry_names::entry_name;
 use crate::finding::Finding;
-use bib_syntax::raw::{ParseError, ParseErrorKind, RawEntry, SkippedBlock};
+use bib_syntax::raw::{ParseError, ParseErrorKind, RawEntry, SkippedBlock, Token};
 use bib_text::spanned::Spanned;
 use bib_text::text::Text;
 use std::alloc::{AllocError, Global};
@@ -88,13 +88,109 @@ fn is_unclosed(block: &SkippedBlock, entry: &Spanned<RawEntry<'_>>) -> bool
     is_endless(block) && entry.span.end < block.span.end
 }
 
-// Returns the finding of a skipped block of which `entry` is kept.
+// Returns a text if a condition is true, and else the empty text.
+fn text_if(is: bool, text: &'static str) -> &'static str
+    ensures { result.now ≡ if is then text.now else [] }
+{
+    if is { text } else { "" }
+}
+
+// Returns the note about BibTeX and Biber for a byte at which the grammar requires this token.
+fn form_for_token(token: &Token, byte: u8) -> &'static str
+    ensures { result.now ≡ spec.form_for_token token.now byte }
+{
+    match token {
+        Token::OpeningBrace => {
+            text_if(
+                byte == b'(',
+                "; BibTeX and Biber also read parentheses around a block",
+            )
+        }
+        Token::ClosingBrace => {
+            text_if(
+                byte == b'#',
+                "; BibTeX and Biber join the texts of a preamble by `#`",
+            )
+        }
+        Token::Comma => {
+            text_if(
+                byte == b'}',
+                "; BibTeX reads an entry without fields, but Biber reports an error",
+            )
+        }
+        Token::QuotationMark => {
+            text_if(
+                byte == b'{',
+                "; BibTeX and Biber also read a text in braces",
+            )
+        }
+        _ => "",
+    }
+}
+
+// Returns the note about BibTeX and Biber for a byte at which there is an error of this kind.
+fn form_at(kind: &ParseErrorKind, byte: u8) -> &'static str
+    ensures { result.now ≡ spec.form_at kind.now byte }
+{
+    if byte == b'%' {
+        return "; Biber skips a comment here, but BibTeX doesn't";
+    }
+    match kind {
+        ParseErrorKind::Expected(token) => form_for_token(token, byte),
+        _ => "",
+    }
+}
+
+// Returns whether bytes begin with a percent sign and a line feed.
+fn begins_with_separator(bytes: &[u8]) -> bool
+    ensures { result ≡ spec.begins_with_separator bytes.now }
+{
+    match bytes {
+        [a, b, ..] => *a == b'%' && *b == b'\n',
+        _ => false,
+    }
+}
+
+// Returns whether one of several files in a text may end at this offset.
+fn may_end_file(text: &str, at: usize) -> bool
+    ensures { result ≡ spec.may_end_file text.now at }
+{
+    match text.as_bytes().get(at..) {
+        Some(rest) => begins_with_separator(rest),
+        None => false,
+    }
+}
+
+// Returns the note about BibTeX and Biber for a block's error in this text.
+fn other_form(text: &str, error: &ParseError) -> &'static str
+    ensures { result.now ≡ spec.other_form text.now error.now }
+{
+    if may_end_file(text, error.span.start) {
+        return "";
+    }
+    match text.as_bytes().get(error.span.start) {
+        Some(byte) => form_at(&error.kind, *byte),
+        None => "",
+    }
+}
+
+// Returns the message of a block's error in this text.
+fn block_message(alloc: Global, text: &str, error: &ParseError) -> Result<String, AllocError>
+    ensures { IfOk result (λ message. string_bytes message ≡ spec.block_message text.now error.now) }
+{
+    let message = error_message(alloc, &error.kind)?;
+    let form = other_form(text, error);
+    format!(in alloc; "{message}{form}")
+}
+
+// Returns the finding of a skipped block of a text, of which `entry` is kept.
 fn kept_finding(
     alloc: Global,
+    text: &str,
     block: &SkippedBlock,
     entry: &Spanned<RawEntry<'_>>,
 ) -> Result<Finding, AllocError>
-    ensures { IfOk result (λ finding. finding ≡ spec.kept_finding block.now (entry_reading_of entry.now)) }
+    ensures { IfOk result (λ finding. finding ≡ spec.kept_finding text.now block.now (entry_reading_of entry.now)) }
 {
     let name = entry_name(entry.v.key.v);
     if is_unclosed(block, entry) {
@@ -105,7 +201,7 @@ fn kept_finding(
             message: Text::from_string(message),
         });
     }
-    let error = error_message(alloc, &block.error.kind)?;
+    let error = block_message(alloc, text, &block.error)?;
     let message = format!(in alloc; "{name}: {error}")?;
     Ok(Finding {
         code: Code::Syntax,
@@ -114,9 +210,9 @@ fn kept_finding(
     })
 }
 
-// Returns the finding of a skipped block of which no entry is kept.
-fn lost_finding(alloc: Global, block: &SkippedBlock) -> Result<Finding, AllocError>
-    ensures { IfOk result (λ finding. finding ≡ spec.lost_finding block.now) }
+// Returns the finding of a skipped block of a text, of which no entry is kept.
+fn lost_finding(alloc: Global, text: &str, block: &SkippedBlock) -> Result<Finding, AllocError>
+    ensures { IfOk result (λ finding. finding ≡ spec.lost_finding text.now block.now) }
 {
     if is_endless(block) {
         let words = "a block without an end; is a brace or a quote open?";
@@ -126,7 +222,7 @@ fn lost_finding(alloc: Global, block: &SkippedBlock) -> Result<Finding, AllocErr
             message: Text::from_string(String::from_str(alloc, words)?),
         });
     }
-    let message = error_message(alloc, &block.error.kind)?;
+    let message = block_message(alloc, text, &block.error)?;
     Ok(Finding {
         code: Code::Syntax,
         span: block.error.span.start..block.error.span.end,
@@ -134,37 +230,39 @@ fn lost_finding(alloc: Global, block: &SkippedBlock) -> Result<Finding, AllocErr
     })
 }
 
-// Returns the finding of a skipped block. `entries` contains the entries by their starts.
+// Returns the finding of a skipped block of a text. `entries` contains the entries by their starts.
 fn block_finding(
     alloc: Global,
+    text: &str,
     said: &[Spanned<RawEntry<'_>>],
     entries: &BTreeMap<usize, &Spanned<RawEntry<'_>>>,
     block: &SkippedBlock,
 ) -> Result<Finding, AllocError>
     requires { AreEntriesByStart entries.now (map entry_reading_of said.now) }
-    ensures { IfOk result (λ finding. finding ≡ block_finding (map entry_reading_of said.now) block.now) }
+    ensures { IfOk result (λ finding. finding ≡ block_finding text.now (map entry_reading_of said.now) block.now) }
 {
     match entries.get(&block.span.start).copied() {
-        Some(entry) => kept_finding(alloc, block, entry),
-        None => lost_finding(alloc, block),
+        Some(entry) => kept_finding(alloc, text, block, entry),
+        None => lost_finding(alloc, text, block),
     }
 }
 
-// Appends the findings of skipped blocks. `said` contains the raw entries of the file.
+// Appends the findings of the skipped blocks of a text. `said` contains its raw entries.
 pub(crate) fn add_blocks(
     alloc: Global,
     found: &mut Vec<Finding>,
+    text: &str,
     said: &[Spanned<RawEntry<'_>>],
     blocks: &[SkippedBlock],
 ) -> Result<(), AllocError>
-    ensures { OnOk result (found.new.items ≡ found.old.items ++ map (block_finding (map entry_reading_of said.now)) blocks.now) }
+    ensures { OnOk result (found.new.items ≡ found.old.items ++ map (block_finding text.now (map entry_reading_of said.now)) blocks.now) }
 {
     if blocks.is_empty() {
         return Ok(());
     }
     let entries = entries_by_start(alloc, said)?;
     'skipped: for block in blocks {
-        found.push(block_finding(alloc, said, &entries, block)?)?;
+        found.push(block_finding(alloc, text, said, &entries, block)?)?;
     }
     Ok(())
 }

@@ -14,8 +14,9 @@ use crate::entry_names::entry_name;
 use crate::finding::Finding;
 use crate::foreign::begins_with_any;
 use crate::identities::own_literal;
+use crate::malformed_dates::DATE_FIELDS;
 use crate::nearest::is_among;
-use crate::places::field_place;
+use crate::places::{field_place, has_own_field};
 use bib_syntax::raw::{Pair, RawChunk, RawEntry};
 use bib_text::spanned::Spanned;
 use bib_text::text::Text;
@@ -119,40 +120,60 @@ fn empty_finding(alloc: Global, key: &str, field: &Pair<'_>) -> Result<Finding, 
     })
 }
 
-// Appends the finding of a field, if its value is empty and its name isn't one of the missing fields.
+// Returns whether an empty field with this name is reported: any field if the entry can inherit fields, otherwise only a date.
+fn is_reported_empty(inherits: bool, name: &str) -> bool
+    ensures { result ≡ spec.is_reported_empty inherits name.now }
+{
+    inherits || is_among(&DATE_FIELDS, name)
+}
+
+// Appends the finding of a field, if its value is empty and its name isn't one of the missing fields. `inherits` says whether the entry can
+// inherit fields.
 fn add_if_empty(
     alloc: Global,
     found: &mut Vec<Finding>,
     missing: &[&'static str],
+    inherits: bool,
     key: &str,
     field: &Pair<'_>,
 ) -> Result<(), AllocError>
-    ensures { OnOk result (found.new.items ≡ found.old.items ++ empty_of key.now (texts missing.now) (field_of field.now)) }
+    ensures { OnOk result (found.new.items ≡ found.old.items ++
+        empty_of key.now (texts missing.now) inherits (field_of field.now)) }
 {
-    if is_empty_value(field) && !is_among(missing, field.key.v) {
+    let name = field.key.v;
+    if is_empty_value(field) && is_reported_empty(inherits, name) && !is_among(missing, name) {
         found.push(empty_finding(alloc, key, field)?)?;
     }
     Ok(())
 }
 
-// Appends a finding for each of `fields` whose value is empty, except those in `missing`. `key` is the key of the entry.
+// Appends a finding for each of `fields` whose value is empty, if it is reported, except those in `missing`. `key` is the key of the entry,
+// and `inherits` says whether the entry can inherit fields.
 fn add_empty_among(
     alloc: Global,
     found: &mut Vec<Finding>,
     missing: &[&'static str],
+    inherits: bool,
     key: &str,
     fields: &[Pair<'_>],
 ) -> Result<(), AllocError>
     ensures { OnOk result (found.new.items ≡ found.old.items ++
-        flat_map (empty_of key.now (texts missing.now)) (map field_of fields.now)) }
+        flat_map (empty_of key.now (texts missing.now) inherits) (map field_of fields.now)) }
 {
     'fields: for field in fields {
-        add_if_empty(alloc, found, missing, key, field)?;
+        add_if_empty(alloc, found, missing, inherits, key, field)?;
     }
     Ok(())
 }
 
-/// Appends a finding for each field of an entry whose value is empty, except those that are reported as missing.
+// Returns whether an entry has a field by which it inherits other fields.
+fn refers_to_parents(said: &Spanned<RawEntry<'_>>) -> bool
+    ensures { result ≡ spec.refers_to_parents (entry_reading_of said.now) }
+{
+    has_own_field(said, "crossref") || has_own_field(said, "xdata")
+}
+
+/// Appends a finding for each empty field of an entry that is reported, except those that are reported as missing.
 pub(crate) fn add_empty(
     alloc: Global,
     found: &mut Vec<Finding>,
@@ -161,7 +182,15 @@ pub(crate) fn add_empty(
 ) -> Result<(), AllocError>
     ensures { OnOk result (found.new.items ≡ found.old.items ++ empty_findings (texts missing.now) (entry_reading_of said.now)) }
 {
-    add_empty_among(alloc, found, missing, said.v.key.v, &said.v.fields)
+    let inherits = refers_to_parents(said);
+    add_empty_among(
+        alloc,
+        found,
+        missing,
+        inherits,
+        said.v.key.v,
+        &said.v.fields,
+    )
 }
 
 /// Appends a finding if the key of an entry is empty.

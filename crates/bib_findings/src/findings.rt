@@ -18,18 +18,18 @@ use crate::entries::add_report;
 use crate::errors::{add_blocks, add_errors};
 use crate::fields::{add_address, add_empty, add_empty_key, add_repeated};
 use crate::finding::Finding;
-use crate::foreign::add_foreign_fields;
 use crate::html::add_printed_fields;
 use crate::key_cases::add_cases;
 use crate::lacking::{flag_at, lacking_flags};
 use crate::malformed_dates::add_dates;
-use crate::names::{FieldName, add_unknown_fields};
+use crate::names::{FieldName, add_misspelled_fields};
+use crate::once::add_once;
 use crate::parent_order::add_early;
 use crate::people::add_names;
 use crate::references::add_references;
 use crate::standard_numbers::add_numbers;
 use crate::stray::add_strays;
-use crate::types::add_unknown_type;
+use crate::types::add_misspelled_type;
 use crate::unused_definitions::add_unused;
 use crate::urls::add_url;
 use crate::years::add_years;
@@ -106,9 +106,9 @@ fn add_entry(
     ensures added { OnOk result (Adds (AreOfEntry (texts missing.now) (entry_reading_of said.now) entry.now)
         found.old.items found.new.items) }
 {
-    add_unknown_type(alloc, found, said)?;
+    add_misspelled_type(alloc, found, said)?;
     add_report(alloc, found, missing, said, entry)?;
-    add_unknown_fields(alloc, found, met, said)?;
+    add_misspelled_fields(alloc, found, met, said)?;
     add_single(alloc, found, missing, said, entry)
 }
 
@@ -139,14 +139,15 @@ fn add_entries(
 
 /// Returns the findings between entries, with only the fields that each entry has itself. They are, in this order: keys that an
 /// entry refers to and no kept entry has; entries that are likely the same work as an earlier one; text after an entry that reads
-/// as a field; keys that differ only in ASCII case; parents that come before their children; fields that other programs write;
+/// as a field; keys that differ only in ASCII case; parents that come before their children; names that are reported once in a file;
 /// abbreviations that are defined again with another value. `text` is the text of the file, `skipped` contains its skipped blocks, and
-/// `definitions` contains its definitions of abbreviations. `origins` contains the index of each entry in `said`, the raw entries of the
-/// file. An entry that begins where a skipped block begins is no likely duplicate, and the text after it isn't tested. Fails only if out
-/// of memory.
+/// `definitions` contains its definitions of abbreviations. If it is the text of several files, `ends` contains the offset at which each
+/// of them ends. `origins` contains the index of each entry in `said`, the raw entries of the file. An entry that begins where a skipped
+/// block begins is no likely duplicate, and the text after it isn't tested. Fails only if out of memory.
 pub fn between(
     alloc: Global,
     text: &str,
+    ends: &[usize],
     skipped: &[SkippedBlock],
     said: &[Spanned<RawEntry<'_>>],
     origins: &[usize],
@@ -156,7 +157,7 @@ pub fn between(
 ) -> Result<Vec<Finding>, AllocError>
     requires same_length { length origins.now ≡ length own.now }
     requires there { All (λ index. index < length said.now) origins.now }
-    ensures { IfOk result (λ found. AreBetween text.now skipped.now names.now (entries_said said.now) origins.now own.now
+    ensures { IfOk result (λ found. AreBetween text.now ends.now skipped.now names.now (entries_said said.now) origins.now own.now
         (map field_of definitions.now) found.items) }
 {
     let mut found = Vec::new(alloc);
@@ -166,7 +167,7 @@ pub fn between(
     add_strays(alloc, &mut found, text, said, &whole)?;
     add_cases(alloc, &mut found, said, origins)?;
     add_early(alloc, &mut found, said, origins)?;
-    add_foreign_fields(alloc, &mut found, said, origins)?;
+    add_once(alloc, &mut found, ends, said, origins)?;
     add_redefinitions(alloc, &mut found, definitions)?;
     Ok(found)
 }
@@ -180,12 +181,13 @@ pub fn sorted_by_place(found: Vec<Finding>) -> Result<Vec<Finding>, AllocError>
     Ok(found)
 }
 
-/// Returns the findings of skipped blocks, of errors and of entries, and `between`, sorted by their starts. `skipped` contains the skipped
-/// blocks of the file, `errors` the errors, `entries` the kept entries, and `between` the findings between them. `origins` contains the
+/// Returns the findings of skipped blocks, of errors and of entries, and `between`, sorted by their starts. `text` is the recovered text.
+/// `skipped` contains its skipped blocks, `errors` the errors, `entries` the kept entries, and `between` the findings between them. `origins` contains the
 /// index of each entry in `said`, the raw entries of the file. `lacking` contains for each entry whether fields of it may be lost (see
 /// `lacking_flags`). Fails only if out of memory.
 pub fn findings_in(
     alloc: Global,
+    text: &str,
     skipped: &[SkippedBlock],
     lacking: &[bool],
     errors: &[ParseError],
@@ -196,12 +198,12 @@ pub fn findings_in(
 ) -> Result<Vec<Finding>, AllocError>
     requires same_length { length origins.now ≡ length entries.now }
     requires there { All (λ index. index < length said.now) origins.now }
-    ensures { IfOk result (λ found. AreFindingsIn skipped.now lacking.now errors.now (entries_said said.now)
+    ensures { IfOk result (λ found. AreFindingsIn text.now skipped.now lacking.now errors.now (entries_said said.now)
         origins.now entries.now between.items found.items) }
 {
     let mut between = between;
     let mut found = Vec::new(alloc);
-    add_blocks(alloc, &mut found, said, skipped)?;
+    add_blocks(alloc, &mut found, text, said, skipped)?;
     add_errors(alloc, &mut found, errors)?;
     add_entries(alloc, &mut found, lacking, said, origins, entries)?;
     found.append(&mut between)?;
@@ -209,14 +211,16 @@ pub fn findings_in(
 }
 
 /// Returns the findings of a recovered text, sorted by their starts, with the codes of `findings` except `UnusedDefinition`. Spans are in
-/// bytes of the text. The text may be that of several files (`JoinedFiles`). Then a file can use the definitions and the entries of the
-/// others, and an entry can be a duplicate of one in another file. Fails only if out of memory.
+/// bytes of the text. The text may be that of several files (`JoinedFiles`), which end at the offsets `ends`. Then a file can use the
+/// definitions and the entries of the others, and an entry can be a duplicate of one in another file. For one file, `ends` is empty. Fails
+/// only if out of memory.
 pub fn findings_of(
     alloc: Global,
     text: &str,
+    ends: &[usize],
     recovery: &RawRecovery<'_>,
 ) -> Result<Vec<Finding>, AllocError>
-    ensures { IfOk result (λ found. AreFindingsOf text.now (file_of recovery.now.raw) recovery.now.skipped.items found.items) }
+    ensures { IfOk result (λ found. AreFindingsOf text.now ends.now (file_of recovery.now.raw) recovery.now.skipped.items found.items) }
 {
     let RawRecovery { raw, skipped } = recovery;
     let KeptEntries {
@@ -231,6 +235,7 @@ pub fn findings_of(
     let linked = between(
         alloc,
         text,
+        ends,
         skipped,
         said,
         &origins,
@@ -242,7 +247,7 @@ pub fn findings_of(
     let mut unresolved = resolve_readable(alloc, &spans, &names, &mut entries)?;
     errors.append(&mut unresolved)?;
     findings_in(
-        alloc, skipped, &lacking, &errors, said, &origins, &entries, linked,
+        alloc, text, skipped, &lacking, &errors, said, &origins, &entries, linked,
     )
 }
 
@@ -255,7 +260,7 @@ pub fn findings(alloc: Global, text: &str) -> Result<Vec<Finding>, AllocError>
     ensures { IfOk result (λ found. AreFindings text.now found.items) }
 {
     let recovery = RawBibliography::recover_parts(alloc, text)?;
-    let mut found = findings_of(alloc, text, &recovery)?;
+    let mut found = findings_of(alloc, text, &[], &recovery)?;
     add_unused(alloc, &mut found, &recovery)?;
     sorted_by_place(found)
 }

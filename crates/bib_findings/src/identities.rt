@@ -1,14 +1,17 @@
-//! The identities of entries: a DOI, an ISBN, or a title with its first person and its year. Also the fields that tell entries apart.
+//! The identities of entries: a DOI, an ISBN, or a title with its first person and its year. Also what tells entries apart.
 
-ghost use Rattle.std.specs.Prelude.{◌≡◌, ◌++◌, map, IfOk, OnOk, [], encode_utf8_all};
-ghost use Rattle.std.specs.List.{list_any};
+ghost use Rattle.std.specs.Prelude.{◌≡◌, ◌++◌, ◌&&◌, ◌||◌, not, map, IfOk, OnOk, [], encode_utf8_all};
+ghost use Rattle.std.specs.List.{list_all, list_any};
 ghost use Rattle.std.specs.String.{string_bytes};
 ghost use Rattle.bib_tables.specs.Requirements.{texts};
 ghost use Rattle.bib_syntax.specs.Views.{entry_reading_of, piece_of};
-ghost use Rattle.bib_findings.specs.Identities.{are_different, are_told_apart, differs_in, doi_of, first_four, first_person, identities, identity, is_brace, is_whole_book, isbn_of, literal_text, or_else, first_person_of, plain_words, squeezed, own_literal, title_of, unhyphened, without_prefixes, work_of, work_text, year_of};
+ghost use Rattle.bib_findings.specs.Identities.{are_book_and_part, are_different, are_other_parts, are_same, are_told_apart, differs_in, doi_of, end_in_others, first_four, first_person, have_open_list, have_other_people, identities, identity, is_part_of_book, is_brace, is_whole_book, isbn_of, literal_text, or_else, first_person_of, own_people, plain_words, right_doi, right_isbn, share_doi, share_isbn, squeezed, own_literal, title_of, unhyphened, without_prefixes, work_of, work_text, year_of};
+ghost use Rattle.bib_findings.specs.CheckDigits as spec;
 ghost use Rattle.bib_findings.specs.Words.{ends_before, spaced_word, without_braces, words_text};
 
+use crate::check_digits::{are_digits_or_x, is_isbn};
 use crate::nearest::is_among;
+use crate::people::{has_end, has_start};
 use crate::places::last_named;
 use bib_syntax::raw::{RawChunk, RawEntry};
 use bib_text::spanned::Spanned;
@@ -152,13 +155,23 @@ fn without_prefixes<'t>(text: &'t str, prefixes: &[&'static str]) -> &'t str
     text
 }
 
+// Returns a text if it begins with `10.`, as each DOI does, and otherwise the empty text.
+fn right_doi(text: &str) -> &str
+    ensures { result.now ≡ right_doi text.now }
+{
+    if has_start(text, "10.") { text } else { "" }
+}
+
 /// Returns the DOI of an entry in lowercase, without braces, white space and a link or a scheme before it; the empty text if the
 /// entry has none as one literal.
 pub(crate) fn doi(alloc: Global, said: &Spanned<RawEntry<'_>>) -> Result<String, AllocError>
     ensures { IfOk result (λ text. string_bytes text ≡ doi_of (entry_reading_of said.now)) }
 {
     let text = squeezed(alloc, own_literal(said, "doi"))?;
-    String::from_str(alloc, without_prefixes(text.as_str(), &DOI_PREFIXES))
+    String::from_str(
+        alloc,
+        right_doi(without_prefixes(text.as_str(), &DOI_PREFIXES)),
+    )
 }
 
 // The types of whole books: the ISBN of a part, such as a chapter, is that of its book.
@@ -175,6 +188,33 @@ static WHOLE_TYPES: [&str; 10] = [
     "reference",
 ];
 
+// The types of parts of books: the DOI of a part may be that of its book.
+static PART_TYPES: [&str; 8] = [
+    "inbook",
+    "bookinbook",
+    "suppbook",
+    "incollection",
+    "suppcollection",
+    "inproceedings",
+    "conference",
+    "inreference",
+];
+
+// Returns whether an entry is a part of a book.
+fn is_part_of_book(said: &Spanned<RawEntry<'_>>) -> bool
+    ensures { result ≡ is_part_of_book (entry_reading_of said.now) }
+{
+    is_among(&PART_TYPES, said.v.kind.v)
+}
+
+// Returns whether one entry is a whole book, and the other a part of a book.
+fn are_book_and_part(said: &Spanned<RawEntry<'_>>, other: &Spanned<RawEntry<'_>>) -> bool
+    ensures { result ≡ are_book_and_part (entry_reading_of said.now) (entry_reading_of other.now) }
+{
+    (is_whole_book(said) && is_part_of_book(other))
+        || (is_part_of_book(said) && is_whole_book(other))
+}
+
 // Returns whether an entry is a whole book.
 fn is_whole_book(said: &Spanned<RawEntry<'_>>) -> bool
     ensures { result ≡ is_whole_book (entry_reading_of said.now) }
@@ -190,6 +230,24 @@ fn unhyphened(alloc: Global, text: &str) -> Result<String, AllocError>
     text.as_str().chars().filter(|c| *c != '-').collect(alloc)
 }
 
+// Returns whether a text has the length, the digits and the check digit of an ISBN.
+fn is_right_isbn(text: &[u8]) -> bool
+    ensures { result ≡ (list_all spec.is_digit_or_x text.now && spec.is_isbn text.now) }
+{
+    are_digits_or_x(text) && is_isbn(text)
+}
+
+// Returns a text if it has the length, the digits and the check digit of an ISBN, and otherwise the empty text.
+fn right_isbn(text: &str) -> &str
+    ensures { result.now ≡ right_isbn text.now }
+{
+    if is_right_isbn(text.as_bytes()) {
+        text
+    } else {
+        ""
+    }
+}
+
 /// Returns the ISBN of a whole book in lowercase, without hyphens, braces and white space. The text is empty if the entry has no ISBN as
 /// one literal, or isn't a whole book.
 pub(crate) fn isbn(alloc: Global, said: &Spanned<RawEntry<'_>>) -> Result<String, AllocError>
@@ -198,7 +256,8 @@ pub(crate) fn isbn(alloc: Global, said: &Spanned<RawEntry<'_>>) -> Result<String
     if !is_whole_book(said) {
         return Ok(String::new(alloc));
     }
-    unhyphened(alloc, own_literal(said, "isbn"))
+    let text = unhyphened(alloc, own_literal(said, "isbn"))?;
+    String::from_str(alloc, right_isbn(text.as_str()))
 }
 
 // The fields that tell parts, volumes and editions of one title apart.
@@ -233,7 +292,112 @@ fn differ_in(
     Ok(false)
 }
 
-/// Returns whether one of the fields `volume`, `number`, `pages`, `chapter`, `part`, `edition` and `subtitle` tells two entries apart.
+// Returns whether some people end in `and others`, which means further people.
+fn end_in_others(alloc: Global, people: &str) -> Result<bool, AllocError>
+    ensures { IfOk result (λ others. others ≡ end_in_others people.now) }
+{
+    let words = plain_words(alloc, people)?;
+    Ok(has_end(words.as_str(), " and others "))
+}
+
+/// Returns whether the people of one of two entries end in `and others`.
+pub(crate) fn have_open_list(
+    alloc: Global,
+    said: &Spanned<RawEntry<'_>>,
+    other: &Spanned<RawEntry<'_>>,
+) -> Result<bool, AllocError>
+    ensures { IfOk result (λ has. has ≡ have_open_list (entry_reading_of said.now) (entry_reading_of other.now)) }
+{
+    if end_in_others(alloc, own_people(said))? {
+        return Ok(true);
+    }
+    end_in_others(alloc, own_people(other))
+}
+
+// Returns whether two entries have different people, as `are_different` compares them. A list that ends in `and others` isn't compared.
+fn have_other_people(
+    alloc: Global,
+    said: &Spanned<RawEntry<'_>>,
+    other: &Spanned<RawEntry<'_>>,
+) -> Result<bool, AllocError>
+    ensures { IfOk result (λ differ. differ ≡ have_other_people (entry_reading_of said.now) (entry_reading_of other.now)) }
+{
+    if have_open_list(alloc, said, other)? {
+        return Ok(false);
+    }
+    are_different(alloc, own_people(said), own_people(other))
+}
+
+// Returns whether two texts are equal, and not empty.
+fn are_same(text: &str, other: &str) -> bool
+    ensures { result ≡ are_same text.now other.now }
+{
+    !text.is_empty() && text == other
+}
+
+/// Returns whether two entries have the same DOI.
+pub(crate) fn share_doi(
+    alloc: Global,
+    said: &Spanned<RawEntry<'_>>,
+    other: &Spanned<RawEntry<'_>>,
+) -> Result<bool, AllocError>
+    ensures { IfOk result (λ same. same ≡ share_doi (entry_reading_of said.now) (entry_reading_of other.now)) }
+{
+    let text = doi(alloc, said)?;
+    let other = doi(alloc, other)?;
+    Ok(are_same(text.as_str(), other.as_str()))
+}
+
+/// Returns whether two entries have the same ISBN of whole books.
+pub(crate) fn share_isbn(
+    alloc: Global,
+    said: &Spanned<RawEntry<'_>>,
+    other: &Spanned<RawEntry<'_>>,
+) -> Result<bool, AllocError>
+    ensures { IfOk result (λ same. same ≡ share_isbn (entry_reading_of said.now) (entry_reading_of other.now)) }
+{
+    let text = isbn(alloc, said)?;
+    let other = isbn(alloc, other)?;
+    Ok(are_same(text.as_str(), other.as_str()))
+}
+
+// Returns whether two entries have neither a DOI nor an ISBN in common, and have different people.
+fn are_other_works(
+    alloc: Global,
+    said: &Spanned<RawEntry<'_>>,
+    other: &Spanned<RawEntry<'_>>,
+) -> Result<bool, AllocError>
+    ensures { IfOk result (λ differ. differ ≡ (not (share_doi (entry_reading_of said.now) (entry_reading_of other.now)
+        || share_isbn (entry_reading_of said.now) (entry_reading_of other.now))
+        && have_other_people (entry_reading_of said.now) (entry_reading_of other.now))) }
+{
+    if share_doi(alloc, said, other)? || share_isbn(alloc, said, other)? {
+        return Ok(false);
+    }
+    have_other_people(alloc, said, other)
+}
+
+// Returns whether two entries are parts of books with different titles.
+fn are_other_parts(
+    alloc: Global,
+    said: &Spanned<RawEntry<'_>>,
+    other: &Spanned<RawEntry<'_>>,
+) -> Result<bool, AllocError>
+    ensures { IfOk result (λ differ. differ ≡ are_other_parts (entry_reading_of said.now) (entry_reading_of other.now)) }
+{
+    if !is_part_of_book(said) || !is_part_of_book(other) {
+        return Ok(false);
+    }
+    are_different(
+        alloc,
+        own_literal(said, "title"),
+        own_literal(other, "title"),
+    )
+}
+
+/// Returns whether two entries are told apart: one is a part of a book and the other a whole book, both are parts with different titles, they
+/// differ in one of the fields `volume`, `number`, `pages`, `chapter`, `part`, `edition` and `subtitle`, or they have neither a DOI nor an
+/// ISBN in common and have different people.
 pub(crate) fn are_told_apart(
     alloc: Global,
     said: &Spanned<RawEntry<'_>>,
@@ -241,7 +405,13 @@ pub(crate) fn are_told_apart(
 ) -> Result<bool, AllocError>
     ensures { IfOk result (λ told. told ≡ are_told_apart (entry_reading_of said.now) (entry_reading_of other.now)) }
 {
-    differ_in(alloc, said, other, &TELLING_FIELDS)
+    if are_book_and_part(said, other) || are_other_parts(alloc, said, other)? {
+        return Ok(true);
+    }
+    if differ_in(alloc, said, other, &TELLING_FIELDS)? {
+        return Ok(true);
+    }
+    are_other_works(alloc, said, other)
 }
 
 /// Returns the year of an entry: its field `year`, or else the first four characters of its date. The words are in
@@ -272,13 +442,19 @@ pub(crate) fn title(alloc: Global, said: &Spanned<RawEntry<'_>>) -> Result<Strin
     plain_words(alloc, own_literal(said, "title"))
 }
 
+// Returns the authors of an entry, or else its editors. A field that isn't one literal counts as missing.
+fn own_people<'s>(said: &Spanned<RawEntry<'s>>) -> &'s str
+    ensures { result.now ≡ own_people (entry_reading_of said.now) }
+{
+    or_else(own_literal(said, "author"), own_literal(said, "editor"))
+}
+
 /// Returns the first author of an entry, or else its first editor. The words are in lowercase and without braces, each
 /// followed by a space. A field that isn't one literal counts as missing. The text is empty if the entry has neither.
 pub fn person(alloc: Global, said: &Spanned<RawEntry<'_>>) -> Result<String, AllocError>
     ensures { IfOk result (λ text. string_bytes text ≡ first_person_of (entry_reading_of said.now)) }
 {
-    let people = or_else(own_literal(said, "author"), own_literal(said, "editor"));
-    first_person(alloc, people)
+    first_person(alloc, own_people(said))
 }
 
 // Returns the title, the first person and the year of an entry, or the empty text if it lacks one of them.

@@ -10,12 +10,14 @@
 //! `codes` contains the codes and their explanations. `places` finds fields in an entry, and `cuts` finds the entries of skipped
 //! blocks. `lacking` finds the entries of which fields may be lost: those of skipped blocks, and those that refer to one by
 //! `crossref` or `xdata`, directly or through others. `demands` has the fields that BibLaTeX requires. `nearest` finds the known name
-//! that may be meant, `marks` selects the entries that may be the same work as another, and `outside` finds the text outside braces.
+//! that may be meant, `marks` selects the entries that may be the same work as another, `check_digits` tests ISBNs and ISSNs,
+//! `other_digits` tests texts for the digits of other scripts, and `outside` finds the text outside braces.
 //! `errors`, `types`, `entries`, `names`, `fields`, `standard_numbers`, `urls`, `malformed_dates`, `people`,
 //! `special_characters`, `html`, `years`, `stray`, `references`, `duplicates`, `key_cases`, `foreign`, `parent_order`, `definitions` and
 //! `unused_definitions` make the findings; `duplicates` uses `identities`.
 #![tactic(auto)]
 
+mod check_digits;
 pub mod codes;
 mod cuts;
 mod definitions;
@@ -36,6 +38,8 @@ mod malformed_dates;
 mod marks;
 mod names;
 mod nearest;
+mod once;
+mod other_digits;
 mod outside;
 mod parent_order;
 mod people;

@@ -12,6 +12,7 @@ ghost use Rattle.bib_findings.specs.MalformedDates.{date_findings, dates_among, 
 use crate::codes::Code;
 use crate::entries::field_finding;
 use crate::finding::Finding;
+use crate::other_digits::is_other_year;
 use crate::places::last_named;
 use bib_chunks::chunk::making::normal;
 use bib_chunks::chunk::{ChunksRef, format_verbatim};
@@ -23,7 +24,7 @@ use bib_text::spanned::Spanned;
 use std::alloc::{AllocError, Global};
 
 // The fields that should be a date.
-static DATE_FIELDS: [&str; 4] = ["date", "urldate", "eventdate", "origdate"];
+pub(crate) static DATE_FIELDS: [&str; 4] = ["date", "urldate", "eventdate", "origdate"];
 
 // The numbers in place of a month for seasons, quarters and other divisions of a year, each with a hyphen before it.
 static YEAR_DIVISIONS: [&str; 21] = [
@@ -160,10 +161,11 @@ fn has_decimals(alloc: Global, side: &str) -> Result<bool, AllocError>
 }
 
 // Returns whether a text may be a side of a range, or a whole date.
+#[tactic(auto, unfolding(crate::specs::MalformedDates::is_side))]
 fn is_side(alloc: Global, side: &str) -> Result<bool, AllocError>
     ensures { IfOk result (λ is. is ≡ spec.is_side side.now) }
 {
-    if is_open(side) || is_special_year(side) {
+    if is_open(side) || is_special_year(side) || is_other_year(side) {
         return Ok(true);
     }
     if reads_as_date(alloc, side)? {

@@ -1,13 +1,13 @@
-//! Field names that BibLaTeX knows, and findings of fields with any other name.
+//! Field names that BibLaTeX knows, and findings of fields with a misspelled one.
 
-ghost use Rattle.std.specs.Prelude.{◌≡◌, ◌∷◌, [], IfOk, OnOk, option_copied};
+ghost use Rattle.std.specs.Prelude.{◌≡◌, ◌∷◌, [], true, IfOk, OnOk, option_copied};
 ghost use Rattle.std.specs.BTreeMap.{get_by_text};
 ghost use Rattle.std.specs.Str.{str_to_ascii_lowercase};
 ghost use Rattle.bib_syntax.specs.Views.{entry_reading_of, field_of};
 ghost use Rattle.bib_findings.specs.Adding.{Adds};
 ghost use Rattle.bib_findings.specs.Met.{AreFieldNames, IsFieldName};
 ghost use Rattle.bib_findings.specs.Names as spec;
-ghost use Rattle.bib_findings.specs.Names.{AreOfUnknown, AreUnknownOf, IsOfUnknown, known_fields};
+ghost use Rattle.bib_findings.specs.Names.{AreMisspelledOf, AreOfMisspelled, IsOfUnknown, known_fields};
 ghost use Rattle.bib_findings.specs.Nearest.{IsNearest};
 
 use crate::codes::Code;
@@ -274,7 +274,9 @@ fn is_known_field(name: &str) -> bool
 /// The classification of a field name.
 #[derive(Debug, Clone, Copy, PartialEq, Eq)]
 pub(crate) enum FieldName {
-    /// BibLaTeX knows this name, or another program uses it.
+    /// Another program uses this name.
+    Foreign,
+    /// BibLaTeX knows this name.
     Known,
     /// Any other name, with the known name that it may mean, if there is one.
     Unknown(Option<&'static str>),
@@ -284,7 +286,10 @@ pub(crate) enum FieldName {
 fn look_up(alloc: Global, name: &str) -> Result<FieldName, AllocError>
     ensures { IfOk result (IsFieldName name.now) }
 {
-    if is_known_field(name) || is_foreign(name) {
+    if is_foreign(name) {
+        return Ok(FieldName::Foreign);
+    }
+    if is_known_field(name) {
         return Ok(FieldName::Known);
     }
     let lowercase = name.to_ascii_lowercase(alloc)?;
@@ -292,8 +297,8 @@ fn look_up(alloc: Global, name: &str) -> Result<FieldName, AllocError>
     Ok(FieldName::Unknown(meant))
 }
 
-// Classifies a field name, with a cache: a file has few names, and each occurs often.
-fn meet(
+/// Classifies a field name, with a cache: a file has few names, and each occurs often.
+pub(crate) fn meet(
     alloc: Global,
     met: &mut BTreeMap<String, FieldName>,
     name: &str,
@@ -328,8 +333,27 @@ fn unknown_finding(
     })
 }
 
-// Appends a finding for a field of the entry with this key, if neither BibLaTeX nor another program uses its name.
-fn add_if_unknown(
+// Appends the finding of an unknown field of the entry with this key, if there is the suggestion `meant`.
+fn add_if_meant(
+    alloc: Global,
+    found: &mut Vec<Finding>,
+    key: &str,
+    field: &Pair<'_>,
+    meant: Option<&'static str>,
+) -> Result<(), AllocError>
+    requires unknown { spec.is_unknown_field field.now.key.v.now ≡ true }
+    requires nearest { IsNearest known_fields (str_to_ascii_lowercase field.now.key.v.now) (option_copied meant) }
+    ensures { OnOk result (Adds (AreMisspelledOf key.now (field_of field.now ∷ [])) found.old.items found.new.items) }
+{
+    if meant.is_none() {
+        return Ok(());
+    }
+    found.push(unknown_finding(alloc, key, field, meant)?)?;
+    Ok(())
+}
+
+// Appends a finding for a field of the entry with this key, if its name is unknown and there is a suggestion.
+fn add_if_misspelled(
     alloc: Global,
     found: &mut Vec<Finding>,
     met: &mut BTreeMap<String, FieldName>,
@@ -338,19 +362,17 @@ fn add_if_unknown(
 ) -> Result<(), AllocError>
     requires { AreFieldNames (get_by_text met.old) }
     ensures met { OnOk result (AreFieldNames (get_by_text met.new)) }
-    ensures added { OnOk result (Adds (AreUnknownOf key.now (field_of field.now ∷ [])) found.old.items found.new.items) }
+    ensures added { OnOk result (Adds (AreMisspelledOf key.now (field_of field.now ∷ [])) found.old.items found.new.items) }
 {
     match meet(alloc, met, field.key.v)? {
+        FieldName::Foreign => Ok(()),
         FieldName::Known => Ok(()),
-        FieldName::Unknown(meant) => {
-            found.push(unknown_finding(alloc, key, field, meant)?)?;
-            Ok(())
-        }
+        FieldName::Unknown(meant) => add_if_meant(alloc, found, key, field, meant),
     }
 }
 
-// Appends a finding for each unknown field of an entry. `met` caches the field names.
-pub(crate) fn add_unknown_fields(
+// Appends a finding for each misspelled field of an entry. `met` caches the field names.
+pub(crate) fn add_misspelled_fields(
     alloc: Global,
     found: &mut Vec<Finding>,
     met: &mut BTreeMap<String, FieldName>,
@@ -358,10 +380,10 @@ pub(crate) fn add_unknown_fields(
 ) -> Result<(), AllocError>
     requires { AreFieldNames (get_by_text met.old) }
     ensures met { OnOk result (AreFieldNames (get_by_text met.new)) }
-    ensures added { OnOk result (Adds (AreOfUnknown (entry_reading_of said.now)) found.old.items found.new.items) }
+    ensures added { OnOk result (Adds (AreOfMisspelled (entry_reading_of said.now)) found.old.items found.new.items) }
 {
     'fields: for field in &said.v.fields {
-        add_if_unknown(alloc, found, met, said.v.key.v, field)?;
+        add_if_misspelled(alloc, found, met, said.v.key.v, field)?;
     }
     Ok(())
 }

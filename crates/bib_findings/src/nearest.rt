@@ -18,13 +18,22 @@ pub(crate) fn is_among(names: &[&'static str], name: &str) -> bool
     names.iter().any(|known| known.eq_ignore_ascii_case(name))
 }
 
-// Returns the greatest number of edits in a typing error of a name with this number of bytes.
-fn most_edits(size: usize) -> usize
-    ensures { result ≡ spec.most_edits size }
+// Returns whether a name begins like a known one, up to the last three bytes of the known one.
+fn begins_like(name: &str, known: &str) -> bool
+    ensures { result ≡ spec.begins_like name.now known.now }
 {
-    if size < 4 {
+    let known = known.as_bytes();
+    name.as_bytes()
+        .starts_with(&known[..known.len().saturating_sub(3)])
+}
+
+// Returns the greatest number of edits in a typing error of a name for a known one.
+fn most_edits(name: &str, known: &str) -> usize
+    ensures { result ≡ spec.most_edits name.now known.now }
+{
+    if name.len() < 4 {
         0
-    } else if size < 6 {
+    } else if name.len() < 8 || begins_like(name, known) {
         1
     } else {
         2
@@ -62,7 +71,7 @@ fn is_extension(name: &str, known: &str) -> bool
 fn plausible_distance(alloc: Global, name: &str, known: &str) -> Result<Option<usize>, AllocError>
     ensures { IfOk result (λ edits. edits ≡ plausible_distance name.now known.now) }
 {
-    let most = most_edits(name.len());
+    let most = most_edits(name, known);
     if !begin_alike(name, known)
         || !are_of_like_length(most, name, known)
         || is_extension(name, known)

@@ -120,14 +120,14 @@ fn comma_count(name: &str) -> usize
 }
 
 // Returns whether a name begins with a text.
-fn has_start(name: &str, start: &str) -> bool
+pub(crate) fn has_start(name: &str, start: &str) -> bool
     ensures { result ≡ starts_with eqb name.now start.now }
 {
     name.starts_with(start)
 }
 
 // Returns whether a name ends with a text.
-fn has_end(name: &str, end: &str) -> bool
+pub(crate) fn has_end(name: &str, end: &str) -> bool
     ensures { result ≡ ends_with eqb name.now end.now }
 {
     name.ends_with(end)

@@ -1,18 +1,21 @@
 //! Findings of keys that entries refer to and no kept entry has.
 
 ghost use Rattle.std.specs.Prelude.{◌≡◌, ◌++◌, ◌<◌, All, length, map, IfOk, OnOk, filter};
-ghost use Rattle.std.specs.List.{flat_map};
+ghost use Rattle.std.specs.List.{flat_map, list_any};
 ghost use Rattle.std.specs.String.{string_bytes};
 ghost use Rattle.bib_chunks.specs.Styled.{styled};
 ghost use Rattle.bib_tables.specs.Requirements.{texts};
+ghost use Rattle.bib_entry.specs.declared.entry.Entry.{Entry as AnEntry};
+ghost use Rattle.bib_queries.specs.Names.{comma_parts, name_if_filled};
 ghost use Rattle.bib_syntax.specs.Views.{entry_reading_of};
 ghost use Rattle.bib_findings.specs.Adding.{Adds};
 ghost use Rattle.bib_findings.specs.Entries.{AreOfEach};
-ghost use Rattle.bib_findings.specs.References.{AreReferences, entry_references, field_references, is_unknown, keys_in, keys_of, reference_finding, reference_message};
+ghost use Rattle.bib_findings.specs.References.{AreReferences, entry_references, field_references, is_unknown, keys_in, keys_of, reference_finding, reference_message, tested_keys, written_keys};
 
 use crate::codes::Code;
 use crate::entry_names::entry_name;
 use crate::finding::Finding;
+use crate::identities::own_literal;
 use crate::places::field_place;
 use bib_chunks::chunk::{ChunksRef, format_styled};
 use bib_chunks::lists::comma_texts;
@@ -49,6 +52,65 @@ fn keys_in(alloc: Global, entry: &Entry, field: &str) -> Result<Vec<Text>, Alloc
         Some(chunks) => keys_of(alloc, field, chunks),
         None => Ok(Vec::new(alloc)),
     }
+}
+
+// Appends a key unless it is empty.
+fn push_key(alloc: Global, keys: &mut Vec<Text>, key: &str) -> Result<(), AllocError>
+    ensures { OnOk result (keys.new.items ≡ keys.old.items ++ name_if_filled key.now) }
+{
+    if key.is_empty() {
+        return Ok(());
+    }
+    keys.push(Text::from_string(String::from_str(alloc, key)?))?;
+    Ok(())
+}
+
+// Returns the parts of a comma list, without the white space around them and without empty parts.
+fn comma_parts(alloc: Global, list: &str) -> Result<Vec<Text>, AllocError>
+    ensures { IfOk result (λ parts. parts.items ≡ comma_parts list.now) }
+{
+    let mut parts = Vec::new(alloc);
+    'parts: for part in list.split(',') {
+        push_key(alloc, &mut parts, part.trim())?;
+    }
+    Ok(parts)
+}
+
+// Returns the keys in the text of a field, as they are in the file: the text of `crossref` without the white space around it, and the parts
+// of the comma list of any other field.
+fn written_keys(alloc: Global, field: &str, text: &str) -> Result<Vec<Text>, AllocError>
+    ensures { IfOk result (λ keys. keys.items ≡ written_keys field.now text.now) }
+{
+    if field == CROSSREF {
+        let mut keys = Vec::new(alloc);
+        keys.push(Text::from_string(String::from_str(alloc, text.trim())?))?;
+        return Ok(keys);
+    }
+    comma_parts(alloc, text)
+}
+
+// Returns the keys in a field of an entry as they are in the file, if its value is one literal; otherwise `keys`.
+fn tested_keys(
+    alloc: Global,
+    said: &Spanned<RawEntry<'_>>,
+    field: &str,
+    keys: Vec<Text>,
+) -> Result<Vec<Text>, AllocError>
+    ensures { IfOk result (λ tested. (entry : AnEntry) → keys.items ≡ keys_in entry field.now
+        → tested.items ≡ tested_keys (entry_reading_of said.now) entry field.now) }
+{
+    let text = own_literal(said, field);
+    if text.is_empty() {
+        return Ok(keys);
+    }
+    written_keys(alloc, field, text)
+}
+
+// Returns whether one of these keys isn't empty, and no kept entry has it.
+fn has_unknown(names: &Names, keys: &[Text]) -> bool
+    ensures { result ≡ list_any (is_unknown names.now) keys.now }
+{
+    keys.iter().any(|key| is_unknown(names, key.as_str()))
 }
 
 // Returns whether a key isn't empty, and no kept entry has it as its key or in its field `ids`.
@@ -122,6 +184,10 @@ fn add_field_references(
         field_references names.now (entry_reading_of said.now) entry.now field.now) }
 {
     let keys = keys_in(alloc, entry, field)?;
+    if !has_unknown(names, &keys) {
+        return Ok(());
+    }
+    let keys = tested_keys(alloc, said, field, keys)?;
     add_unknown(alloc, found, names, said, field, &keys)
 }
 

@@ -1,10 +1,12 @@
-//! Entry types that BibLaTeX knows, and findings of entries with any other type.
+//! Entry types that BibLaTeX knows, and findings of entries with a misspelled one.
 
-ghost use Rattle.std.specs.Prelude.{◌≡◌, IfOk, OnOk};
+ghost use Rattle.std.specs.Prelude.{◌≡◌, IfOk, OnOk, option_copied};
+ghost use Rattle.std.specs.Str.{str_to_ascii_lowercase};
 ghost use Rattle.bib_syntax.specs.Views.{entry_reading_of};
 ghost use Rattle.bib_findings.specs.Adding.{Adds};
 ghost use Rattle.bib_findings.specs.Types as spec;
-ghost use Rattle.bib_findings.specs.Types.{AreOfType, IsOfUnknownType};
+ghost use Rattle.bib_findings.specs.Types.{AreOfType, IsOfUnknownType, known_types};
+ghost use Rattle.bib_findings.specs.Nearest.{IsNearest};
 
 use crate::codes::Code;
 use crate::finding::Finding;
@@ -75,20 +77,32 @@ static KNOWN_TYPES: [&str; 57] = [
     "xdata",
 ];
 
-// Returns whether BibLaTeX knows an entry type, in any ASCII case.
-fn is_known_type(name: &str) -> bool
+/// Returns whether BibLaTeX knows an entry type, in any ASCII case.
+pub(crate) fn is_known_type(name: &str) -> bool
     ensures { result ≡ spec.is_known_type name.now }
 {
     is_among(&KNOWN_TYPES, name)
 }
 
-// Returns the finding of an entry with an unknown type.
-fn unknown_finding(alloc: Global, said: &Spanned<RawEntry<'_>>) -> Result<Finding, AllocError>
+/// Returns the known type that an unknown one may mean, or `None` if there is no such type.
+pub(crate) fn meant_type(alloc: Global, name: &str) -> Result<Option<&'static str>, AllocError>
+    ensures { IfOk result (λ meant. IsNearest known_types (str_to_ascii_lowercase name.now) (option_copied meant)) }
+{
+    let lowercase = name.to_ascii_lowercase(alloc)?;
+    let meant = nearest(alloc, &KNOWN_TYPES, &lowercase)?;
+    Ok(meant)
+}
+
+// Returns the finding of an entry with an unknown type, with `meant` as the suggestion.
+fn unknown_finding(
+    alloc: Global,
+    said: &Spanned<RawEntry<'_>>,
+    meant: Option<&'static str>,
+) -> Result<Finding, AllocError>
+    requires { IsNearest known_types (str_to_ascii_lowercase said.now.v.kind.v.now) (option_copied meant) }
     ensures { IfOk result (IsOfUnknownType (entry_reading_of said.now)) }
 {
     let kind = &said.v.kind;
-    let lowercase = kind.v.to_ascii_lowercase(alloc)?;
-    let meant = nearest(alloc, &KNOWN_TYPES, &lowercase)?;
     let message = unknown_message(alloc, said.v.key.v, "unknown entry type", kind.v, meant)?;
     Ok(Finding {
         code: Code::UnknownType,
@@ -97,8 +111,8 @@ fn unknown_finding(alloc: Global, said: &Spanned<RawEntry<'_>>) -> Result<Findin
     })
 }
 
-// Appends a finding if BibLaTeX doesn't know the type of an entry.
-pub(crate) fn add_unknown_type(
+// Appends a finding if BibLaTeX doesn't know the type of an entry, and there is a suggestion.
+pub(crate) fn add_misspelled_type(
     alloc: Global,
     found: &mut Vec<Finding>,
     said: &Spanned<RawEntry<'_>>,
@@ -108,6 +122,10 @@ pub(crate) fn add_unknown_type(
     if is_known_type(said.v.kind.v) {
         return Ok(());
     }
-    found.push(unknown_finding(alloc, said)?)?;
+    let suggested = meant_type(alloc, said.v.kind.v)?;
+    if suggested.is_none() {
+        return Ok(());
+    }
+    found.push(unknown_finding(alloc, said, suggested)?)?;
     Ok(())
 }

@@ -1,8 +1,8 @@
 -- Meaning: words of public contracts.
 -- The items in a text of CSL-JSON, or the first fault of the text.
-use Rattle.std.specs.Prelude.{ℕ, ◌+◌, Bool, true, false, ◌==◌, ◌&&◌, ◌||◌, if◌then◌else◌, List, [], ◌∷◌, ◌++◌, codes, bytes_eq, encode_utf8_all, nat_eq, Option, Some, None, is_some}
+use Rattle.std.specs.Prelude.{ℕ, ◌+◌, Bool, true, false, ◌==◌, ◌&&◌, ◌||◌, if◌then◌else◌, List, [], ◌∷◌, ◌++◌, codes, bytes_eq, encode_utf8_all, Option, Some, None, is_some}
 use Rattle.std.specs.Char.{is_ascii_digit}
-use Rattle.std.specs.List.{list_all, before_first, after_first, starts_with}
+use Rattle.std.specs.List.{list_all, before_first, after_first}
 use Rattle.std.specs.Option.{option_map_or}
 use Rattle.std.specs.Str.{chars}
 use Rattle.json.specs.Json.{Json, document}
@@ -20,7 +20,7 @@ use Rattle.bib_from_csl.specs.declared.reading.ItemsReading.TheVariants.{Are, Re
 use Rattle.bib_from_csl.specs.GivenDates.{date_given, is_whole_date}
 use Rattle.bib_from_csl.specs.GivenNames.{are_objects, are_whole_names, given_names}
 use Rattle.bib_from_csl.specs.Objects.{array_elements, object_members, string_under, text_in, text_under}
-use Rattle.bib_from_csl.specs.OwnTitles.{is_own_title, protected_title}
+use Rattle.bib_from_csl.specs.OwnTitles.{is_english_tag, is_own_title, protected_title}
 use Rattle.bib_from_csl.specs.Values.{replaced}
 use Rattle.bib_from_csl.specs.Variables.{is_date, is_names, is_text}
 
@@ -141,9 +141,9 @@ item_with name id kind (Some fields) = Says (record { key_member = name; id = id
 abbrev pub item_of_members : Bool → List ℕ → List ℕ → List ℕ → List (List ℕ × Json) → ItemReading
 item_of_members keeps_case name id kind ms = item_with name id kind (members_read keeps_case id ms)
 
--- whether an object has no member `language`, or one that begins with `en`
+-- whether an object has no member `language`, or an English one
 abbrev pub is_english : Json → Bool
-is_english j = option_map_or (λ tag. starts_with nat_eq tag (codes "en")) (text_under (codes "language") j) true
+is_english j = option_map_or is_english_tag (text_under (codes "language") j) true
 
 -- the item of an object with these members; the last two arguments are the text of the member with this name and the type
 abbrev pub item_of_parts : Bool → List (List ℕ × Json) → List ℕ → Option (List ℕ) → Option (List ℕ) → ItemReading

@@ -6,7 +6,7 @@ ghost use Rattle.bib_from_csl.specs.GivenItems.{items_read};
 
 use crate::given::GivenItem;
 use crate::losses::{Loss, all_losses};
-use crate::places::{place_of_element, place_of_fault};
+use crate::places::{place_of_fault, place_of_item};
 use crate::reading::{Fault, ItemsReading, items_in};
 use crate::writing::{entries_text, key_of};
 use bib_text::items::Items;
@@ -96,23 +96,13 @@ fn items_of(alloc: Global, text: &str) -> Result<ItemsReading, AllocError>
     }
 }
 
-// Returns whether a JSON text is an array.
-fn is_array(text: &str) -> bool {
-    text.trim_start().starts_with('[')
-}
-
 // Returns the byte offset of a fault.
 fn place_of(alloc: Global, text: &str, element: usize, fault: Fault) -> Result<usize, AllocError>
     ensures { IfOk result (λ place. place ≤ length text.now) }
 {
     match fault {
         Fault::NotJson => place_of_fault(alloc, text),
-        _ => {
-            if is_array(text) {
-                return place_of_element(alloc, text, element);
-            }
-            Ok(text.len() - text.trim_start().len())
-        }
+        _ => place_of_item(alloc, text, element),
     }
 }
 

@@ -8,8 +8,8 @@ ghost use Rattle.bib_values.specs.Numbers.{decimal_of};
 
 use json::Value;
 
-// Returns the elements of an array, or `None` for another value.
-pub(crate) fn elements<'v, 'a>(value: &'v Value<'a>) -> Option<&'v [Value<'a>]>
+/// Returns the elements of an array, or `None` for another value.
+pub fn elements<'v, 'a>(value: &'v Value<'a>) -> Option<&'v [Value<'a>]>
     ensures { option_map (λ all. map value_view all.now) result ≡ spec.array_elements (value_view value.now) }
 {
     match value {
@@ -18,8 +18,8 @@ pub(crate) fn elements<'v, 'a>(value: &'v Value<'a>) -> Option<&'v [Value<'a>]>
     }
 }
 
-// Returns the members of an object, or `None` for another value.
-pub(crate) fn members<'v, 'a>(value: &'v Value<'a>) -> Option<&'v [(&'a str, Value<'a>)]>
+/// Returns the members of an object, or `None` for another value.
+pub fn members<'v, 'a>(value: &'v Value<'a>) -> Option<&'v [(&'a str, Value<'a>)]>
     ensures { option_map (λ all. map (λ m. (m.0.now, value_view m.1)) all.now) result ≡ spec.object_members (value_view value.now) }
 {
     match value {
@@ -28,8 +28,8 @@ pub(crate) fn members<'v, 'a>(value: &'v Value<'a>) -> Option<&'v [(&'a str, Val
     }
 }
 
-// Returns the number of members of an object, or 0 for another value.
-pub(crate) fn size(value: &Value<'_>) -> usize
+/// Returns the number of members of an object, or 0 for another value.
+pub fn size(value: &Value<'_>) -> usize
     ensures { result ≡ spec.object_size (value_view value.now) }
 {
     match members(value) {
@@ -48,8 +48,8 @@ pub(crate) fn text_in<'a>(value: &Value<'a>) -> Option<&'a str>
     }
 }
 
-// Returns the text of the member with a name.
-pub(crate) fn string_under<'a>(value: &Value<'a>, name: &str) -> Option<&'a str>
+/// Returns the text of the member with a name, or `None` if there is no such member or it is no text.
+pub fn string_under<'a>(value: &Value<'a>, name: &str) -> Option<&'a str>
     ensures { option_map (λ text. text.now) result ≡ spec.string_under name.now (value_view value.now) }
 {
     let member = value.get(name)?;
@@ -80,8 +80,8 @@ pub(crate) fn whole_number(value: &Value<'_>) -> Option<i64>
     decimal(text)
 }
 
-// Returns 1 for true and 0 for false.
-pub(crate) fn one_if(is_there: bool) -> usize
+/// Returns 1 for true and 0 for false.
+pub fn one_if(is_there: bool) -> usize
     ensures { result ≡ spec.one_if is_there }
 {
     if is_there { 1 } else { 0 }

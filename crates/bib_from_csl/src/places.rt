@@ -104,7 +104,7 @@ fn inside(place: usize, end: usize) -> usize
 /// Returns the byte offset at which a text stops being JSON: its end if it is cut off. For a text without the colon after a key, or with a
 /// colon after another text, it is the start of this text. Too deep nesting isn't found, so the result is a later place for it: the end of
 /// the text if it has no other fault.
-pub(crate) fn place_of_fault(alloc: Global, text: &str) -> Result<usize, AllocError>
+pub fn place_of_fault(alloc: Global, text: &str) -> Result<usize, AllocError>
     ensures { IfOk result (λ place. place ≤ length text.now) }
 {
     let mut scratch = Scratch::new(alloc);
@@ -123,8 +123,8 @@ pub(crate) fn place_of_fault(alloc: Global, text: &str) -> Result<usize, AllocEr
     Ok(inside(place, text.len()))
 }
 
-/// Returns the byte offset at which the element with this index of an array begins.
-pub(crate) fn place_of_element(alloc: Global, text: &str, index: usize) -> Result<usize, AllocError>
+// Returns the byte offset at which the element with this index of an array begins.
+fn place_of_element(alloc: Global, text: &str, index: usize) -> Result<usize, AllocError>
     ensures { IfOk result (λ place. place ≤ length text.now) }
 {
     let mut scratch = Scratch::new(alloc);
@@ -143,4 +143,19 @@ pub(crate) fn place_of_element(alloc: Global, text: &str, index: usize) -> Resul
         place = reader.offset();
     }
     Ok(inside(place, text.len()))
+}
+
+// Returns whether a JSON text is an array.
+fn is_array(text: &str) -> bool {
+    text.trim_start().starts_with('[')
+}
+
+/// Returns the byte offset at which the element with this index begins. For JSON that is no array, it is the start of the value.
+pub fn place_of_item(alloc: Global, text: &str, index: usize) -> Result<usize, AllocError>
+    ensures { IfOk result (λ place. place ≤ length text.now) }
+{
+    if is_array(text) {
+        return place_of_element(alloc, text, index);
+    }
+    Ok(text.len() - text.trim_start().len())
 }

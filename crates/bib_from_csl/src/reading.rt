@@ -12,7 +12,7 @@ use crate::dates::{given_date, is_whole_date};
 use crate::given::{Given, GivenItem};
 use crate::names::{are_objects, are_whole_names, given_names};
 use crate::objects::{elements, members, string_under, text_in, text_under};
-use crate::titles::{is_own_title, protected_title};
+use crate::titles::{is_english_tag, is_own_title, protected_title};
 use crate::values::replaced;
 use crate::variables::{is_date, is_names, is_text};
 use bib_csl::item::Content;
@@ -310,12 +310,12 @@ fn item_of_members(
     }
 }
 
-// Returns whether an object has no member `language`, or one that begins with `en`.
+// Returns whether an object has no member `language`, or an English one.
 fn is_english(value: &Value<'_>) -> bool
     ensures { result ≡ spec.is_english (value_view value.now) }
 {
     match text_under(value, "language") {
-        Some(tag) => tag.starts_with("en"),
+        Some(tag) => is_english_tag(tag),
         None => true,
     }
 }

@@ -10,10 +10,20 @@ use std::alloc::{AllocError, Global};
 use unicode::properties::is_uppercase;
 
 /// Returns whether a variable is the title of the work itself, whole or short.
-pub(crate) fn is_own_title(name: &str) -> bool
+pub fn is_own_title(name: &str) -> bool
     ensures { result ≡ spec.is_own_title name.now }
 {
     matches!(name, "title" | "title-short")
+}
+
+/// Returns whether the tag or the name of a language is English: it begins with `en`, in any ASCII case.
+pub fn is_english_tag(tag: &str) -> bool
+    ensures { result ≡ spec.is_english_tag tag.now }
+{
+    match tag.as_bytes().get(..2) {
+        Some(start) => start.eq_ignore_ascii_case(b"en"),
+        None => false,
+    }
 }
 
 // Returns whether a word contains an uppercase letter.
@@ -67,8 +77,8 @@ fn may_have_tags(text: &str) -> bool
 }
 
 /// Returns the title of an item in English: without tags, each word with a capital, except the first, keeps its case in all styles. A title
-/// that may have tags stays as it is.
-pub(crate) fn protected_title(alloc: Global, text: &str) -> Result<Text, AllocError>
+/// that may have tags stays as it is. The only error is out of memory.
+pub fn protected_title(alloc: Global, text: &str) -> Result<Text, AllocError>
     ensures { IfOk result (λ title. title ≡ spec.protected_title text.now) }
 {
     if may_have_tags(text) {

@@ -3,11 +3,13 @@
 use Rattle.std.specs.Prelude.{ℕ, Bool, false, true, not, ◌==◌, ◌&&◌, ◌||◌, if◌then◌else◌, List, [], ◌∷◌, ◌++◌, length, codes, bytes_eq, encode_utf8_all, Option, Some, None}
 use Rattle.std.specs.Char.{is_ascii_digit}
 use Rattle.std.specs.List.{flat_map, list_all, list_any, slice_split}
+use Rattle.std.specs.Option.{option_map_or}
 use Rattle.bib_text.specs.Characters as char
 use Rattle.bib_csl.specs.declared.item.Content.TheVariants as content
 use Rattle.bib_csl.specs.declared.item.ItemDate.{ItemDate}
 use Rattle.bib_csl.specs.declared.item.Name.{Name}
 use Rattle.bib_from_csl.specs.declared.given.Given.{Given}
+use Rattle.bib_from_csl.specs.OwnTitles.{is_english_tag, is_own_title, protected_title}
 use Rattle.bib_from_ris.specs.Lines.{right_of_hyphen, left_of_hyphen}
 use Rattle.bib_from_ris.specs.RisDates.{has_whole_date, is_year_of, ris_date}
 use Rattle.bib_from_ris.specs.RisNames.{ris_name}
@@ -48,6 +50,27 @@ if_text name (Some text) = text_given name text ∷ []
 -- the members of a variable with one text
 unfoldable pub text_members : List ℕ → List VariableLine → List Given
 text_members name lines = if_text name (variable_text name lines) ++ other_members name lines
+
+-- ---- titles
+
+-- whether a record has no language, or an English one
+abbrev pub is_english_record : List VariableLine → Bool
+is_english_record lines = option_map_or is_english_tag (variable_text (codes "language") lines) true
+
+-- the text of a title; in English, its words with capitals keep their case, as those of an item do
+abbrev pub record_title : Bool → List ℕ → List ℕ
+record_title is_in_english text = if is_in_english then protected_title text else text
+
+-- the member of a title, if it has a text
+abbrev pub if_title : Bool → List ℕ → Option (List ℕ) → List Given
+if_title is_in_english name None = []
+if_title is_in_english name (Some text) = text_given name (record_title is_in_english text) ∷ []
+
+-- the members of a title
+unfoldable pub title_members : List ℕ → List VariableLine → List Given
+title_members name lines = if_title (is_english_record lines) name (variable_text name lines) ++ other_members name lines
+
+-- ---- names, dates and pages
 
 -- the name in a line, if the line has this variable
 abbrev pub name_in : List ℕ → VariableLine → List Name
@@ -151,6 +174,7 @@ pages_members lines =
 unfoldable pub members_of : List VariableLine → List ℕ → List Given
 members_of lines name =
     if is_name_list name then names_members name lines
+    else if is_own_title name then title_members name lines
     else if bytes_eq name (codes "issued") then issued_members lines
     else if bytes_eq name (codes "accessed") then access_members lines
     else if bytes_eq name (codes "page") then pages_members lines

@@ -3,9 +3,9 @@
 //! RIS is the text format that reference managers and publishers export.
 //!
 //! `lines` parses the lines of a text, and `sections` finds the records among them. `types` and `tags` choose the item type of a record and
-//! the variable of each line, and `variables` finds the lines of a variable. `members` makes the members of an item, `names` and `dates`
-//! parse their contents, and `items` makes the items of all records. `converting` writes them as entries, in the same way as items of
-//! CSL-JSON, and `outside` finds the lines that are in no record.
+//! the variable of each line, and `variables` finds the lines of a variable. `members` and `text_members` make the members of an item,
+//! `names` and `dates` parse their contents, and `items` makes the items of all records. `converting` writes them as entries, in the same
+//! way as items of CSL-JSON, and `outside` finds the lines that are in no record.
 #![tactic(auto)]
 
 pub mod converting;
@@ -18,5 +18,6 @@ mod names;
 mod outside;
 pub mod sections;
 mod tags;
+mod text_members;
 mod types;
 pub mod variables;

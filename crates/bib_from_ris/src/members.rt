@@ -9,107 +9,18 @@ use crate::cuts::at_hyphen;
 use crate::dates::{is_whole_date, is_year_of, ris_date};
 use crate::names::ris_name;
 use crate::tags::{is_names, variable_names};
+use crate::text_members::{
+    push_lost, push_others, push_text, push_text_members, push_title_members,
+};
 use crate::types::known_type;
 use crate::variables::{VariableLine, text_of};
 use bib_csl::item::{Content, Name};
 use bib_from_csl::given::Given;
+use bib_from_csl::titles::is_own_title;
 use bib_text::digits::are_digits;
 use bib_text::items::Items;
 use bib_text::text::Text;
 use std::alloc::{AllocError, Global};
-
-// Appends a member without content for a line that no variable contains.
-fn push_lost(alloc: Global, out: &mut Items<Given>, tag: &str) -> Result<(), AllocError>
-    ensures { OnOk result (out.new ≡ out.old ++ spec.member_without_content tag.now ∷ []) }
-{
-    out.push(Given {
-        name: Text::from_str(alloc, tag)?,
-        content: None,
-        is_whole: false,
-    })?;
-    Ok(())
-}
-
-// Appends the member of a variable with this text.
-fn push_text(
-    alloc: Global,
-    out: &mut Items<Given>,
-    name: &str,
-    text: &str,
-) -> Result<(), AllocError>
-    ensures { OnOk result (out.new ≡ out.old ++ spec.text_given name.now text.now ∷ []) }
-{
-    out.push(Given {
-        name: Text::from_str(alloc, name)?,
-        content: Some(Content::Text(Text::from_str(alloc, text)?)),
-        is_whole: true,
-    })?;
-    Ok(())
-}
-
-// Appends a member without content for a line of a variable that has another text.
-fn push_other(
-    alloc: Global,
-    out: &mut Items<Given>,
-    name: &str,
-    text: &str,
-    line: &VariableLine,
-) -> Result<(), AllocError>
-    ensures { OnOk result (out.new ≡ out.old ++ spec.other_line name.now text.now line.now) }
-{
-    if line.variable.as_str() == name && line.value.as_str() != text {
-        return push_lost(alloc, out, line.tag.as_str());
-    }
-    Ok(())
-}
-
-// Appends the members of the lines of a variable that don't have its text.
-#[tactic(auto, unfolding(crate::specs::Members::other_members))]
-fn push_others(
-    alloc: Global,
-    out: &mut Items<Given>,
-    lines: &[VariableLine],
-    name: &str,
-) -> Result<(), AllocError>
-    ensures { OnOk result (out.new ≡ out.old ++ spec.other_members name.now lines.now) }
-{
-    let Some(text) = text_of(lines, name) else {
-        return Ok(());
-    };
-    'lines: for line in lines {
-        push_other(alloc, out, name, text, line)?;
-    }
-    Ok(())
-}
-
-// Appends the member of a variable, if it has a text.
-fn push_if_text(
-    alloc: Global,
-    out: &mut Items<Given>,
-    name: &str,
-    text: Option<&str>,
-) -> Result<(), AllocError>
-    ensures { OnOk result (out.new ≡ out.old ++ spec.if_text name.now (option_map (λ text. text.now) text.entry)) }
-{
-    match text {
-        Some(text) => push_text(alloc, out, name, text),
-        None => Ok(()),
-    }
-}
-
-// Appends the members of a variable with one text.
-#[tactic(auto, unfolding(crate::specs::Members::text_members))]
-fn push_text_members(
-    alloc: Global,
-    out: &mut Items<Given>,
-    lines: &[VariableLine],
-    name: &str,
-) -> Result<(), AllocError>
-    ensures { OnOk result (out.new ≡ out.old ++ spec.text_members name.now lines.now) }
-{
-    push_if_text(alloc, out, name, text_of(lines, name))?;
-    push_others(alloc, out, lines, name)
-}
 
 // Appends the name in a line, if the line has this variable.
 fn push_name_in(
@@ -402,6 +313,9 @@ fn push_members_of(
 {
     if is_names(name) {
         return push_names_members(alloc, out, lines, name);
+    }
+    if is_own_title(name) {
+        return push_title_members(alloc, out, lines, name);
     }
     match name {
         "issued" => push_issued(alloc, out, lines),

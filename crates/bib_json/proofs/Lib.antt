@@ -2,4 +2,4 @@ mod ArrayFacts
 mod GapFacts
 mod LawFacts
 mod PlainFacts
-mod ReadingFacts
+pub mod ReadingFacts

@@ -30,7 +30,7 @@ use Rattle.serde_json.specs.View.{items_of}
 use Rattle.serde_json.specs.Written.{has_float, items_have_float, members_have_float}
 use Rattle.bib_json.specs.Chunks.{chunk_members, chunk_json, chunks_json}
 use Rattle.bib_json.specs.Dates.{offset_minutes, offset_json, time_members, time_json, counted_json, datetime_members, datetime_json, members_of_date, date_json, date_start, date_end}
-use Rattle.bib_json.specs.Entries.{entry_members, entry_object}
+use Rattle.bib_json.specs.Entries.{entry_date, entry_members, entry_object}
 use Rattle.bib_json.specs.Fields.{field_members, field_json, field_member}
 use Rattle.bib_json.specs.Objects.{Member, with_given, with_members, object_of, array_of}
 use Rattle.bib_json.specs.ValueTypes.{value_type}
@@ -261,13 +261,20 @@ fields_plain : (fields : List (List ℕ × Value)) → AreGivenPlain 4 (map fiel
 fields_plain [] = tt
 fields_plain (field ∷ rest) = (field_plain field.0 field.1, fields_plain rest)
 
+-- the object of an entry has the date of depth 3 beside the fields of depth 5
+three_five : {d : Data} → IsPlain 3 d → IsPlain 5 d
+three_five {d} p = deeper d (omega arith) p
+
 whole_plain : (entry : Entry) → IsPlain 6 (entry_object entry)
 whole_plain entry =
     object_plain (entry_members entry) (
       leaf _ refl refl,
       (
         leaf _ refl refl,
-        (object_plain (map field_member (entries entry.fields)) (fields_plain (entries entry.fields)), tt),
+        (
+          object_plain (map field_member (entries entry.fields)) (fields_plain (entries entry.fields)),
+          (mapped_plain date_json (entry_date entry) (λ d. three_five (date_plain d)), tt),
+        ),
       ),
     )
 

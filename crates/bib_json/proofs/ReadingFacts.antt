@@ -247,17 +247,40 @@ not_deep n h = omega arith
 one_deeper : (n : ℕ) → n ≤ 126 → suc n ≤ max_depth
 one_deeper n h = omega arith
 
--- the text of an array of such values is parsed as the array
-pub array_read : (ds : List Data) → AreRead ds → read (array_text (map compact_text ds)) ≡ Some (array (items_of ds))
-array_read ds r =
+-- the text of an array of such values has the tokens of the array
+array_tokens : (ds : List Data) → AreRead ds → tokens (array_text (map compact_text ds)) ≡ json_tokens (outline (array (items_of ds)))
+array_tokens ds r =
     let d = array (items_of ds) in
     let gaps = gaps_of_whole ds in
     let printable : ArePrintable (map (λ p. p.1) (whole ds)) =
     subst ArePrintable (sym (tokens_of_whole ds)) (ArePrintable-json_tokens (outline d) (items_numbers ds r)) in
-    let same = with_line_feed (whole ds) gaps printable ∙ tokens-print_spaced (whole ds) gaps printable ∙ tokens_of_whole ds in
-    let shallow : depth d ≤ max_depth = one_deeper (items_depth (items_of ds)) (items_shallow ds r) in
-    ap read (whole_text ds) ∙ ap (λ ts. option_and_then of_json (parsed ts)) same ∙ ap (option_and_then of_json) (parsed_value d shallow)
-    ∙ ap (option_map array) (items_converted ds r)
+    ap tokens (whole_text ds) ∙ with_line_feed (whole ds) gaps printable ∙ tokens-print_spaced (whole ds) gaps printable
+    ∙ tokens_of_whole ds
+
+-- such an array is not too deep
+array_shallow : (ds : List Data) → AreRead ds → depth (array (items_of ds)) ≤ max_depth
+array_shallow ds r = one_deeper (items_depth (items_of ds)) (items_shallow ds r)
+
+-- the text of an array of such values is parsed as the array
+pub array_read : (ds : List Data) → AreRead ds → read (array_text (map compact_text ds)) ≡ Some (array (items_of ds))
+array_read ds r =
+    ap (λ ts. option_and_then of_json (parsed ts)) (array_tokens ds r)
+    ∙ ap (option_and_then of_json) (parsed_value (array (items_of ds)) (array_shallow ds r)) ∙ ap (option_map array) (items_converted ds r)
+
+less_deep : (n : ℕ) → n ≤ max_depth → n ≤ json.max_depth
+less_deep n h = omega arith
+
+-- a JSON parser that keeps numbers as texts parses it as the outline of the array
+array_document : (ds : List Data) → AreRead ds
+    → json.document (array_text (map compact_text ds)) ≡ Some (outline (array (items_of ds)))
+array_document ds r =
+    let d = array (items_of ds) in
+    let j = outline d in
+    let shallow : tree.depth j ≤ json.max_depth =
+    less_deep (tree.depth j) (subst (λ n. n ≤ max_depth) (sym (depth_outline d)) (array_shallow ds r)) in
+    ap (λ ts. option_and_then (λ p. json.if_last p.0 p.1) (json.value json.max_depth ts))
+    (array_tokens ds r ∙ sym (append-nil (json_tokens j)))
+    ∙ ap (option_and_then (λ p. json.if_last p.0 p.1)) (value-json_tokens j json.max_depth [] shallow)
 
 -- ---- entries
 
@@ -290,3 +313,10 @@ pub entries_read : (entries : List Entry) → AllByRecursion IsReadBack entries
 entries_read entries h =
     ap (λ texts. read (array_text texts)) (sym (texts_are entries))
     ∙ array_read (map entry_object entries) (are_read entries h)
+
+-- and a JSON parser that keeps numbers as texts parses it as the outline of that array
+pub entries_document : (entries : List Entry) → AllByRecursion IsReadBack entries
+    → json.document (array_text (map json_text_of entries)) ≡ Some (outline (array_of entry_object entries))
+entries_document entries h =
+    ap (λ texts. json.document (array_text texts)) (sym (texts_are entries))
+    ∙ array_document (map entry_object entries) (are_read entries h)

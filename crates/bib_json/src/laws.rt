@@ -1,6 +1,6 @@
 //! Laws of the JSON output. These functions have no code: their clauses are theorems about definitions.
 
-ghost use Rattle.std.specs.Prelude.{◌≡◌, ℕ, List, map, codes, true, Some, option_and_then};
+ghost use Rattle.std.specs.Prelude.{◌≡◌, ℕ, List, map, codes, true, Some, is_some, option_and_then};
 ghost use Rattle.std.specs.FinMap as by_name;
 ghost use Rattle.std.specs.List.{AllByRecursion};
 ghost use Rattle.std.specs.Option.{option_map};
@@ -16,6 +16,12 @@ ghost use Rattle.bib_json.specs.Objects.{array_of};
 pub fn fields_are_found()
     ensures { (entry : Entry) (name : List ℕ) → option_and_then (get name) (get (codes "fields") (entry_object entry)) ≡
         option_map (field_json name) (by_name.get entry.fields name) }
+{}
+
+/// States that, if an entry has a field `date`, the date in its JSON is the value of this field.
+pub fn date_is_that_of_its_field()
+    ensures { (entry : Entry) → is_some (by_name.get entry.fields (codes "date")) ≡ true → get (codes "date") (entry_object entry) ≡
+        option_and_then (get (codes "value")) (option_and_then (get (codes "date")) (get (codes "fields") (entry_object entry))) }
 {}
 
 /// States that the elements of an array, each after the text before it, and the text after the last one are the whole array.

@@ -5,7 +5,7 @@ use Rattle.std.specs.Prelude.{is_none, length, map, Option, Some, None, option_a
 use Rattle.std.specs.Borrow.{Bor}
 use Rattle.std.specs.Global.{Vec}
 use Rattle.std.specs.List.{flat_map}
-use Rattle.std.specs.Option.{option_map_or}
+use Rattle.std.specs.Option.{option_map_or, option_or}
 use Rattle.std.specs.Str.{trim}
 use Rattle.bib_findings.specs.Codes.{code_named}
 use Rattle.bib_findings.specs.declared.codes.Code.{Code}
@@ -15,6 +15,8 @@ use Rattle.bib_tables.specs.declared.dialects.Dialect.TheVariants.{Biblatex, Bib
 use Rattle.bib_text.specs.Enums.{value_named}
 use Rattle.bibkit_commands.specs.declared.importing.Source.{Source}
 use Rattle.bibkit_commands.specs.declared.importing.Source.TheVariants as source
+use Rattle.bib_csl.specs.declared.sentence_items.TitleCase.{TitleCase}
+use Rattle.bib_csl.specs.declared.sentence_items.TitleCase.TheVariants.{AsWritten, Sentence}
 use Rattle.bibkit_convert.specs.declared.target.Target.{Target}
 use Rattle.bibkit_convert.specs.declared.target.Target.TheVariants.{Csl, Json, Ris}
 use Rattle.bibkit_core.specs.Rules.{rule_named, rules_named}
@@ -217,19 +219,23 @@ targets = (codes "json", Json) ∷ (codes "ris", Ris) ∷ []
 abbrev pub dialect_for : Option (List ℕ) → Option Dialect
 dialect_for value = option_and_then (value_named dialects) value
 
+-- the case of titles in items: sentence case if it is asked for
+abbrev pub title_case : Bool → TitleCase
+title_case sentence = if sentence then Sentence else AsWritten
+
 -- the format for a value of `--to` that names no dialect
-abbrev pub target_for : Option (List ℕ) → Target
-target_for value = unwrap_or (option_and_then (value_named targets) value) Csl
+abbrev pub target_for : TitleCase → Option (List ℕ) → Target
+target_for titles value = unwrap_or (option_and_then (value_named targets) value) (Csl titles)
 
--- the formats of items and records by their names
+-- the formats of items, records and objects by their names
 abbrev pub sources : List (List ℕ × Source)
-sources = (codes "csl", source.Csl) ∷ (codes "ris", source.Ris) ∷ []
+sources = (codes "csl", source.Csl) ∷ (codes "ris", source.Ris) ∷ (codes "json", source.Json) ∷ []
 
--- the format of items or records for a value of `--from`, if it names one
+-- the format of items, records or objects for a value of `--from`, if it names one
 abbrev pub source_for : Option (List ℕ) → Option Source
 source_for value = option_and_then (value_named sources) value
 
--- the format of items or records that `--from` names, if it names one
+-- the format of items, records or objects that `--from` names, if it names one
 abbrev pub source_asked : Arguments → Option Source
 source_asked arguments = source_for (argument_value arguments (codes "from"))
 
@@ -245,6 +251,7 @@ has_conditions arguments = not (length (argument_values arguments (codes "where"
 abbrev pub dialect_required : Source → List ℕ
 dialect_required source.Csl = codes "`--from csl` requires `--to biblatex` or `--to bibtex`"
 dialect_required source.Ris = codes "`--from ris` requires `--to biblatex` or `--to bibtex`"
+dialect_required source.Json = codes "`--from json` requires `--to biblatex` or `--to bibtex`"
 
 -- the reason why options of `convert` can't be used together: an import needs a dialect, and conditions another format
 abbrev pub conversion_refused : Option Source → Option Dialect → Bool → Option (List ℕ)
@@ -256,24 +263,45 @@ conversion_refused _ _ _ = None
 abbrev pub dialect_asked : Arguments → Option Dialect
 dialect_asked arguments = dialect_for (argument_value arguments (codes "to"))
 
+-- the reason why the formats and the conditions of `convert` can't be used together
+abbrev pub wrong_formats : Arguments → Option (List ℕ)
+wrong_formats arguments = conversion_refused (source_asked arguments) (dialect_asked arguments) (has_conditions arguments)
+
+-- whether a value of `--to` means CSL-JSON, which is the format without a value
+abbrev pub is_csl : Option (List ℕ) → Bool
+is_csl value = option_map_or (λ name. bytes_eq name (codes "csl")) value true
+
+-- whether sentence case is asked for, and the format isn't CSL-JSON
+abbrev pub is_case_wrong : Arguments → Bool
+is_case_wrong arguments = has_flag arguments (codes "sentence-case") && not (is_csl (argument_value arguments (codes "to")))
+
+-- the reason why sentence case can't be used, if it can't
+abbrev pub case_refused : Bool → Option (List ℕ)
+case_refused wrong = if wrong then Some (codes "`--sentence-case` requires `--to csl`") else None
+
 -- the reason why the options of `convert` can't be used together
 abbrev pub wrong_conversion : Arguments → Option (List ℕ)
-wrong_conversion arguments = conversion_refused (source_asked arguments) (dialect_asked arguments) (has_conditions arguments)
+wrong_conversion arguments = option_or (case_refused (is_case_wrong arguments)) (wrong_formats arguments)
 
--- the request of `convert`: it is refused if its options can't be used together. If `--to` names a dialect, entries are imported from
--- items or records, or files are rewritten, and otherwise the entries that meet the conditions are printed in another format
-abbrev pub IsConvertOf : Arguments → Asked → Type 0
-IsConvertOf arguments (variant.Wrong reason) = wrong_conversion arguments ≡ Some reason.now
-IsConvertOf arguments (variant.Import dialect from) =
-    (wrong_conversion arguments ≡ None) × (source_asked arguments ≡ Some from) × (dialect_asked arguments ≡ Some dialect)
-IsConvertOf arguments (variant.Rewrite dialect by_ending) =
-    (wrong_conversion arguments ≡ None) × (source_asked arguments ≡ None) × (dialect_asked arguments ≡ Some dialect)
-    × (by_ending ≡ is_by_ending arguments)
-IsConvertOf arguments (variant.Convert converting) =
-    (wrong_conversion arguments ≡ None) × (dialect_asked arguments ≡ None)
-    × (converting.target ≡ target_for (argument_value arguments (codes "to")))
+-- the request of `convert`; `wrong` is the reason why its options can't be used together, if there is one. If `--to` names a dialect,
+-- entries are imported from items, records or objects, or files are rewritten. Otherwise the entries that meet the conditions are printed
+-- in another format
+abbrev pub IsConversionOf : Option (List ℕ) → Arguments → Asked → Type 0
+IsConversionOf wrong arguments (variant.Wrong reason) = wrong ≡ Some reason.now
+IsConversionOf wrong arguments (variant.Import dialect from) =
+    (wrong ≡ None) × (source_asked arguments ≡ Some from) × (dialect_asked arguments ≡ Some dialect)
+IsConversionOf wrong arguments (variant.Rewrite dialect by_ending) =
+    (wrong ≡ None) × (source_asked arguments ≡ None) × (dialect_asked arguments ≡ Some dialect) × (by_ending ≡ is_by_ending arguments)
+IsConversionOf wrong arguments (variant.Convert converting) =
+    (wrong ≡ None) × (dialect_asked arguments ≡ None)
+    × (converting.target
+    ≡ target_for (title_case (has_flag arguments (codes "sentence-case"))) (argument_value arguments (codes "to")))
     × (map (λ text. text.now) converting.conditions.items ≡ argument_values arguments (codes "where"))
-IsConvertOf arguments _ = ⊥
+IsConversionOf wrong arguments _ = ⊥
+
+-- the request of `convert`
+abbrev pub IsConvertOf : Arguments → Asked → Type 0
+IsConvertOf arguments asked = IsConversionOf (wrong_conversion arguments) arguments asked
 
 -- ---- keys, get, grep, select, resolve, cited and stats
 

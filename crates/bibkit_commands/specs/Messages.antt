@@ -9,6 +9,8 @@ use Rattle.bib_from_csl.specs.declared.losses.LossKind.{LossKind}
 use Rattle.bib_from_csl.specs.declared.losses.LossKind.TheVariants as loss
 use Rattle.bib_from_csl.specs.declared.reading.Fault.{Fault}
 use Rattle.bib_from_csl.specs.declared.reading.Fault.TheVariants as fault
+use Rattle.bib_from_json.specs.declared.reading.Fault.{Fault as ObjectFault}
+use Rattle.bib_from_json.specs.declared.reading.Fault.TheVariants as object
 use Rattle.bib_recode.specs.declared.decoding.DecodeError.{DecodeError}
 use Rattle.bib_recode.specs.declared.decoding.DecodeError.TheVariants as decode
 use Rattle.bib_source.specs.declared.positions.Position.{Position}
@@ -98,6 +100,26 @@ fault_text fault.NoId = codes "expected a text or a number as the `citation-key`
 fault_text fault.NoType = codes "expected a text as the `type` of the item"
 fault_text fault.WrongForm = codes "a variable of the item has a form that CSL doesn't allow"
 fault_text fault.KeyTwice = codes "the item has the key of an earlier one"
+
+-- the message for a fault of a text whose objects can't be converted
+abbrev pub object_fault_text : ObjectFault → List ℕ
+object_fault_text object.NotJson = codes "expected JSON"
+object_fault_text object.NotEntries = codes "expected an array of entries, or one entry"
+object_fault_text object.NotAnObject = codes "expected an entry, which is an object"
+object_fault_text object.NoKey = codes "expected a text as the `key` of the entry"
+object_fault_text object.NoType = codes "expected a text as the `type` of the entry"
+object_fault_text object.NoFields = codes "expected an object as the `fields` of the entry"
+object_fault_text object.EntryMember = codes "expected one `type`, one `key`, one `fields`, one `date` or none, and no other member"
+object_fault_text object.FieldTwice = codes "two fields have one name"
+object_fault_text object.NoChunks = codes "expected an object with an array as `chunks`"
+object_fault_text object.FieldMember = codes "expected one `chunks`, one `value` or none, and no other member"
+object_fault_text object.NotAChunk = codes "expected chunks with texts as `kind` and `text`"
+object_fault_text object.ChunkMember = codes "expected no other members of a chunk than `kind`, `text`, `start` and `end`, once each"
+object_fault_text object.WrongKind = codes "expected `normal`, `verbatim` or `math` as the `kind` of a chunk"
+object_fault_text object.KeyTwice = codes "an earlier entry has this key, or has it in `ids`"
+object_fault_text object.NotWritable = codes "the written entry can't be parsed as one entry with this type and key"
+object_fault_text object.OtherFields = codes "the written entry would be parsed with other fields"
+object_fault_text object.OtherText = codes "the written field would be parsed as another text"
 
 -- the end of the note on a member of an item that is lost or changed in the entry
 abbrev pub loss_text : LossKind → List ℕ

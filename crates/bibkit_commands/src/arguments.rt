@@ -5,8 +5,8 @@ ghost use Rattle.clap.specs.Simple.{subcommand_rows_of};
 ghost use Rattle.bibkit_settings.specs.StyleSettings as style;
 ghost use Rattle.bibkit_commands.specs.Arguments.{arguments_of, argument_number, argument_value};
 ghost use Rattle.bibkit_commands.specs.Asked as spec;
-ghost use Rattle.bibkit_commands.specs.Asked.{AreStyleSettingsOf, IsAskedBy, IsConvertOf, IsFormatOf, IsGetOf, IsKeysOf};
-ghost use Rattle.bibkit_commands.specs.Asked.{IsSortOf, IsSortRefused, dialect_for, files_of, mode_asked, source_for, target_for};
+ghost use Rattle.bibkit_commands.specs.Asked.{AreStyleSettingsOf, IsAskedBy, IsConversionOf, IsConvertOf, IsFormatOf, IsGetOf, IsKeysOf};
+ghost use Rattle.bibkit_commands.specs.Asked.{IsSortOf, IsSortRefused, dialect_for, files_of, mode_asked, source_for, target_for, wrong_formats};
 ghost use Rattle.bibkit_commands.specs.CommandLine.{IsCommandLineOf, IsCommandOf};
 ghost use Rattle.bibkit_commands.specs.Commands.{reading_command_named};
 ghost use Rattle.bibkit_commands.specs.EditsAsked.{IsEditingOf};
@@ -18,6 +18,7 @@ use crate::edits::{Editing, Mode};
 use crate::importing::Source;
 use crate::lint_arguments::lint_asked;
 use crate::selecting::{Printed, Selecting};
+use bib_csl::sentence_items::TitleCase;
 use bib_queries::request::{Request as Excerpts, Search};
 use bib_tables::dialects::Dialect;
 use bibkit_convert::target::Target;
@@ -70,7 +71,7 @@ pub enum Asked<'a> {
         /// Whether files whose names end in `.json` or `.ris` are read as CSL-JSON or RIS.
         is_by_ending: bool,
     },
-    /// Prints the entries of the items or records of files, with the types and fields of a dialect.
+    /// Prints the entries of the items, records or objects of files, with the types and fields of a dialect.
     Import {
         /// The dialect.
         dialect: Dialect,
@@ -235,24 +236,36 @@ fn dialect_named(name: Option<&str>) -> Option<Dialect>
     }
 }
 
-// Returns the format of entries with this name, or CSL-JSON for any other name and for a missing one.
-fn target_named(name: Option<&str>) -> Target
-    ensures { result ≡ target_for (option_map (λ name. name.now) name.entry) }
+// Returns the case of titles in items: sentence case if it is asked for.
+fn title_case(is_sentence: bool) -> TitleCase
+    ensures { result ≡ spec.title_case is_sentence }
+{
+    if is_sentence {
+        TitleCase::Sentence
+    } else {
+        TitleCase::AsWritten
+    }
+}
+
+// Returns the format of entries with this name, or CSL-JSON with titles in this case for any other name and for a missing one.
+fn target_named(titles: TitleCase, name: Option<&str>) -> Target
+    ensures { result ≡ target_for titles (option_map (λ name. name.now) name.entry) }
 {
     match name {
         Some("json") => Target::Json,
         Some("ris") => Target::Ris,
-        _ => Target::Csl,
+        _ => Target::Csl(titles),
     }
 }
 
-// Returns the format of items or records with this name, or `None` for any other name and for a missing one.
+// Returns the format of items, records or objects with this name, or `None` for any other name and for a missing one.
 fn source_named(name: Option<&str>) -> Option<Source>
     ensures { result ≡ source_for (option_map (λ name. name.now) name.entry) }
 {
     match name {
         Some("csl") => Some(Source::Csl),
         Some("ris") => Some(Source::Ris),
+        Some("json") => Some(Source::Json),
         _ => None,
     }
 }
@@ -264,6 +277,7 @@ fn dialect_required(source: Source) -> &'static str
     match source {
         Source::Csl => "`--from csl` requires `--to biblatex` or `--to bibtex`",
         Source::Ris => "`--from ris` requires `--to biblatex` or `--to bibtex`",
+        Source::Json => "`--from json` requires `--to biblatex` or `--to bibtex`",
     }
 }
 
@@ -277,12 +291,30 @@ fn is_by_ending(matches: &ArgMatches<'_>) -> bool
     }
 }
 
-// Returns the request of `convert`.
-fn convert_asked<'a>(alloc: Global, matches: &ArgMatches<'a>) -> Result<Asked<'a>, AllocError>
-    ensures { IfOk result (IsConvertOf (arguments_of matches.now)) }
+// Returns whether a value of `--to` means CSL-JSON, which is the format without a value.
+fn is_csl(name: Option<&str>) -> bool
+    ensures { result ≡ spec.is_csl (option_map (λ name. name.now) name.entry) }
+{
+    match name {
+        Some(name) => name == "csl",
+        None => true,
+    }
+}
+
+// Returns whether sentence case is asked for, and the format isn't CSL-JSON.
+fn is_case_wrong(matches: &ArgMatches<'_>) -> bool
+    ensures { result ≡ spec.is_case_wrong (arguments_of matches.now) }
+{
+    has_flag(matches, "sentence-case") && !is_csl(value(matches, "to"))
+}
+
+// Returns the request of `convert`, if sentence case can be used.
+fn conversion_asked<'a>(alloc: Global, matches: &ArgMatches<'a>) -> Result<Asked<'a>, AllocError>
+    ensures { IfOk result (IsConversionOf (wrong_formats (arguments_of matches.now)) (arguments_of matches.now)) }
 {
     let conditions = texts(alloc, matches, "where")?;
     let source = source_named(value(matches, "from"));
+    let titles = title_case(has_flag(matches, "sentence-case"));
     let asked = match (dialect_named(value(matches, "to")), source) {
         (None, Some(source)) => Asked::Wrong(dialect_required(source)),
         (Some(_), _) if !conditions.is_empty() => {
@@ -294,11 +326,21 @@ fn convert_asked<'a>(alloc: Global, matches: &ArgMatches<'a>) -> Result<Asked<'a
             is_by_ending: is_by_ending(matches),
         },
         (None, None) => Asked::Convert(Converting {
-            target: target_named(value(matches, "to")),
+            target: target_named(titles, value(matches, "to")),
             conditions,
         }),
     };
     Ok(asked)
+}
+
+// Returns the request of `convert`.
+fn convert_asked<'a>(alloc: Global, matches: &ArgMatches<'a>) -> Result<Asked<'a>, AllocError>
+    ensures { IfOk result (IsConvertOf (arguments_of matches.now)) }
+{
+    if is_case_wrong(matches) {
+        return Ok(Asked::Wrong("`--sentence-case` requires `--to csl`"));
+    }
+    conversion_asked(alloc, matches)
 }
 
 // Returns the request of `keys`.

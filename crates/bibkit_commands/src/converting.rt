@@ -1,14 +1,16 @@
 //! Runs `convert` from bibliography files to CSL-JSON, JSON and RIS.
 
-use crate::readable::{error_lines, readable_text};
+use crate::readable::{error_lines, readable_text, without_blocks};
 use crate::selecting::parse_conditions;
+use crate::several::{TextFile, joined_texts, lines_of_all, move_spans};
 use crate::stops::{Stop, bytes_of, output_stop, say};
 use bib_select::selection::Selection;
 use bib_source::decoding::decode;
+use bib_syntax::raw::JoinedFiles;
 use bibkit_convert::converting::{ConvertError, print_entries, print_entry};
 use bibkit_convert::target::Target;
 use bibkit_core::conditions::selected_keys;
-use biblatex::{Bibliography, Output, Sink};
+use biblatex::{Bibliography, Output, RawRecovery, Sink};
 use edit_entries::document::RawDocument;
 use edit_resolve::resolving::resolve;
 use std::alloc::{AllocError, Global};
@@ -31,16 +33,6 @@ struct Progress {
     is_empty: bool,
     // The greatest status so far.
     status: u8,
-}
-
-impl Progress {
-    // Returns the progress with the greater of both statuses.
-    fn with_status(self, status: u8) -> Progress {
-        Progress {
-            status: self.status.max(status),
-            ..self
-        }
-    }
 }
 
 // Returns a text with its references `crossref` and `xdata` resolved by the rules of BibLaTeX. Returns `None` if that is the same text, if
@@ -71,7 +63,7 @@ fn resolved_text(alloc: Global, text: &str) -> Result<Option<String>, AllocError
 fn printed_text(alloc: Global, target: Target, text: &str) -> Result<Option<String>, AllocError> {
     match target {
         Target::Json => Ok(None),
-        Target::Csl | Target::Ris => resolved_text(alloc, text),
+        Target::Csl(_) | Target::Ris => resolved_text(alloc, text),
     }
 }
 
@@ -199,6 +191,24 @@ fn print_readable<K: Sink>(
     print_text(alloc, &printing, is_first, &readable, output)
 }
 
+// Returns the progress after errors were reported and the other entries were printed.
+fn after_errors(
+    alloc: Global,
+    progress: Progress,
+    printed: Result<bool, ConvertError>,
+) -> Result<Progress, Stop> {
+    match printed {
+        Ok(is_empty) => Ok(Progress {
+            is_empty,
+            status: progress.status.max(1),
+        }),
+        Err(error) => {
+            let _not_taken = error.unless_out_of_memory()?;
+            Err(output_stop(alloc)?)
+        }
+    }
+}
+
 // Reports the errors of a file's text, and prints those entries that can be parsed and meet all conditions; in CSL-JSON and RIS no `xdata`
 // entries.
 fn convert_readable<K: Sink>(
@@ -211,16 +221,8 @@ fn convert_readable<K: Sink>(
 ) -> Result<Progress, Stop> {
     let lines = error_lines(rt.alloc(), name, text)?;
     let _ = eprint!(rt; "{lines}");
-    match print_readable(rt.alloc(), printing, progress.is_empty, text, output) {
-        Ok(is_empty) => Ok(Progress {
-            is_empty,
-            status: progress.status.max(1),
-        }),
-        Err(error) => {
-            let _not_taken = error.unless_out_of_memory()?;
-            Err(output_stop(rt.alloc())?)
-        }
-    }
+    let printed = print_readable(rt.alloc(), printing, progress.is_empty, text, output);
+    after_errors(rt.alloc(), progress, printed)
 }
 
 // Prints the entries of a file's text that meet all conditions; in CSL-JSON and RIS no `xdata` entries. If parsing it as a bibliography
@@ -245,24 +247,173 @@ fn convert_text<K: Sink>(
     }
 }
 
-// Prints the entries of a file that meet all conditions; in CSL-JSON and RIS no `xdata` entries. Reports the errors of the file, or that it
-// can't be read.
-fn convert_file<K: Sink>(
+// Several files that were read as one database.
+#[derive(Clone, Copy)]
+struct Database<'n, 't, 'f> {
+    // The files.
+    files: &'f [TextFile<'n>],
+    // Their texts in one text.
+    texts: &'t JoinedFiles,
+    // The content of this text.
+    recovery: &'f RawRecovery<'t>,
+}
+
+// Prints the objects of the entries of several files that meet all conditions. The spans of an object are in the file of the entry. `text`
+// is the text of all files, maybe without its skipped blocks.
+fn print_objects<K: Sink>(
+    alloc: Global,
+    printing: &Printing<'_>,
+    is_first: bool,
+    database: Database<'_, '_, '_>,
+    text: &str,
+    output: &mut K,
+) -> Result<bool, ConvertError> {
+    let Database {
+        texts,
+        recovery,
+        ..
+    } = database;
+    let mut printed = bibliography_of(alloc, printing.reading, text)?;
+    let keys = wanted_keys(alloc, printing.selections, &printed)?;
+    move_spans(alloc, texts.ends(), recovery, &mut printed)?;
+    print_wanted(alloc, printing.target, is_first, &keys, &printed, output)
+}
+
+// Prints the entries of several files that meet all conditions; in CSL-JSON and RIS no `xdata` entries. `text` is the text of all files,
+// maybe without its skipped blocks. If it can't be parsed, prints nothing and returns the error.
+fn print_database<K: Sink>(
+    alloc: Global,
+    printing: &Printing<'_>,
+    is_first: bool,
+    database: Database<'_, '_, '_>,
+    text: &str,
+    output: &mut K,
+) -> Result<bool, ConvertError> {
+    match printing.target {
+        Target::Json => print_objects(alloc, printing, is_first, database, text, output),
+        Target::Csl(_) | Target::Ris => print_text(alloc, printing, is_first, text, output),
+    }
+}
+
+// Reports the errors of several files, and prints those of their entries that can be parsed and meet all conditions.
+fn convert_rest<K: Sink>(
     rt: &HostRuntime,
     printing: &Printing<'_>,
     progress: Progress,
-    name: &str,
+    database: Database<'_, '_, '_>,
     output: &mut K,
 ) -> Result<Progress, Stop> {
-    match bytes_of(rt, name) {
-        Ok(bytes) => {
-            let decoded = decode(rt.alloc(), &bytes)?;
-            convert_text(rt, printing, progress, name, &decoded.text, output)
+    let Database {
+        files,
+        texts,
+        recovery,
+    } = database;
+    let lines = lines_of_all(rt.alloc(), files, texts, recovery)?;
+    let _ = eprint!(rt; "{lines}");
+    let readable = without_blocks(rt.alloc(), texts.text(), &recovery.skipped)?;
+    let printing = Printing {
+        reading: Reading::Parts,
+        ..*printing
+    };
+    let printed = print_database(
+        rt.alloc(),
+        &printing,
+        progress.is_empty,
+        database,
+        &readable,
+        output,
+    );
+    after_errors(rt.alloc(), progress, printed)
+}
+
+// Prints the entries of several files that meet all conditions; in CSL-JSON and RIS no `xdata` entries. If parsing them as one bibliography
+// fails, reports the errors, and prints those entries that can be parsed.
+fn convert_recovered<K: Sink>(
+    rt: &HostRuntime,
+    printing: &Printing<'_>,
+    progress: Progress,
+    database: Database<'_, '_, '_>,
+    output: &mut K,
+) -> Result<Progress, Stop> {
+    if !database.recovery.skipped.is_empty() {
+        return convert_rest(rt, printing, progress, database, output);
+    }
+    let is_first = progress.is_empty;
+    let text = database.texts.text();
+    match print_database(rt.alloc(), printing, is_first, database, text, output) {
+        Ok(is_empty) => Ok(Progress {
+            is_empty,
+            ..progress
+        }),
+        Err(error) => match error.unless_out_of_memory()? {
+            ConvertError::File(_) => convert_rest(rt, printing, progress, database, output),
+            _ => Err(output_stop(rt.alloc())?),
+        },
+    }
+}
+
+// Prints the entries of several files as one database, as `convert_recovered` does.
+fn convert_database<K: Sink>(
+    rt: &HostRuntime,
+    printing: &Printing<'_>,
+    progress: Progress,
+    files: &[TextFile<'_>],
+    output: &mut K,
+) -> Result<Progress, Stop> {
+    let texts = joined_texts(rt.alloc(), files)?;
+    let recovery = texts.recover_parts(rt.alloc())?;
+    let database = Database {
+        files,
+        texts: &texts,
+        recovery: &recovery,
+    };
+    convert_recovered(rt, printing, progress, database, output)
+}
+
+// The files that were read, and the status of reading them.
+#[derive(Drop)]
+struct Inputs<'a> {
+    files: Vec<TextFile<'a>>,
+    status: u8,
+}
+
+// Reads files, and reports each file that can't be read.
+fn read_files<'a>(rt: &HostRuntime, names: &[&'a str]) -> Result<Inputs<'a>, AllocError> {
+    let mut inputs = Inputs {
+        files: Vec::new(rt.alloc()),
+        status: 0,
+    };
+    'names: for name in names {
+        match bytes_of(rt, name) {
+            Ok(bytes) => {
+                let text = decode(rt.alloc(), &bytes)?.text;
+                inputs.files.push(TextFile { name: *name, text })?;
+            }
+            Err(stop) => {
+                let stop = stop.unless_out_of_memory()?;
+                inputs.status = say(rt, &stop).max(inputs.status);
+            }
         }
-        Err(stop) => {
-            let stop = stop.unless_out_of_memory()?;
-            Ok(progress.with_status(say(rt, &stop)))
-        }
+    }
+    Ok(inputs)
+}
+
+// Prints the entries of files that meet all conditions; in CSL-JSON and RIS no `xdata` entries. Several files are one database. Reports
+// the errors of the files, and each file that can't be read.
+fn convert_inputs<K: Sink>(
+    rt: &HostRuntime,
+    printing: &Printing<'_>,
+    names: &[&str],
+    output: &mut K,
+) -> Result<Progress, Stop> {
+    let Inputs { files, status } = read_files(rt, names)?;
+    let progress = Progress {
+        is_empty: true,
+        status,
+    };
+    match files.as_slice() {
+        [file] => convert_text(rt, printing, progress, file.name, &file.text, output),
+        files => convert_database(rt, printing, progress, files, output),
     }
 }
 
@@ -289,18 +440,12 @@ fn convert_files(
 ) -> Result<u8, Stop> {
     let selections = parse_conditions(rt.alloc(), &converting.conditions)?;
     let mut output = Output::new(io::writer(rt));
-    let mut progress = Progress {
-        is_empty: true,
-        status: 0,
-    };
     let printing = Printing {
         target: converting.target,
         selections: &selections,
         reading: Reading::Whole,
     };
-    'names: for name in names {
-        progress = convert_file(rt, &printing, progress, name, &mut output)?;
-    }
+    let progress = convert_inputs(rt, &printing, names, &mut output)?;
     print_end(
         rt.alloc(),
         converting.target,

@@ -1,4 +1,4 @@
-//! Runs `convert --from csl` and `--from ris`, which convert items of CSL-JSON and records of RIS to entries.
+//! Runs `convert --from csl`, `--from ris` and `--from json`, which convert items of CSL-JSON, records of RIS and objects to entries.
 
 ghost use Rattle.std.specs.Prelude.{◌≡◌, Some, IfOk, codes};
 ghost use Rattle.bib_source.specs.Positions.{position_at};
@@ -10,19 +10,23 @@ use crate::stops::{Stop, bytes_of, error_line, say};
 use bib_from_csl::converting::{Converted, ItemsError, Refusal, entries_of};
 use bib_from_csl::losses::{Loss, LossKind};
 use bib_from_csl::reading::Fault;
+use bib_from_json::converting::{EntriesError, Refusal as ObjectRefusal, entries_of_json};
+use bib_from_json::reading::Fault as ObjectFault;
 use bib_from_ris::converting::{RisError, entries_of_ris};
 use bib_tables::dialects::Dialect;
 use bibkit_edits::edit::Edit;
 use std::alloc::{AllocError, Global};
 use std::str::from_utf8;
 
-/// The format of items or records that become entries.
+/// The format of items, records or objects that become entries.
 #[derive(Debug, Clone, Copy, PartialEq, Eq)]
 pub enum Source {
     /// CSL-JSON.
     Csl,
     /// RIS.
     Ris,
+    /// The JSON that `convert --to json` prints.
+    Json,
 }
 
 /// Returns the format of a file by the ending of its name: CSL-JSON for `.json`, and RIS for `.ris`. Returns `None` for any other ending.
@@ -111,7 +115,67 @@ fn records_stop(alloc: Global, name: &str, error: RisError) -> Result<Stop, Allo
     }
 }
 
-// Converts the items or records of a text to entries.
+// Returns the message for a fault of a text whose objects can't be converted.
+fn object_fault_text(fault: ObjectFault) -> &'static str
+    ensures { result.now ≡ spec.object_fault_text fault }
+{
+    match fault {
+        ObjectFault::NotJson => "expected JSON",
+        ObjectFault::NotEntries => "expected an array of entries, or one entry",
+        ObjectFault::NotAnObject => "expected an entry, which is an object",
+        ObjectFault::NoKey => "expected a text as the `key` of the entry",
+        ObjectFault::NoType => "expected a text as the `type` of the entry",
+        ObjectFault::NoFields => "expected an object as the `fields` of the entry",
+        ObjectFault::EntryMember =>
+            "expected one `type`, one `key`, one `fields`, one `date` or none, and no other member",
+        ObjectFault::FieldTwice => "two fields have one name",
+        ObjectFault::NoChunks => "expected an object with an array as `chunks`",
+        ObjectFault::FieldMember =>
+            "expected one `chunks`, one `value` or none, and no other member",
+        ObjectFault::NotAChunk => "expected chunks with texts as `kind` and `text`",
+        ObjectFault::ChunkMember =>
+            "expected no other members of a chunk than `kind`, `text`, `start` and `end`, once each",
+        ObjectFault::WrongKind =>
+            "expected `normal`, `verbatim` or `math` as the `kind` of a chunk",
+        ObjectFault::KeyTwice => "an earlier entry has this key, or has it in `ids`",
+        ObjectFault::NotWritable =>
+            "the written entry can't be parsed as one entry with this type and key",
+        ObjectFault::OtherFields => "the written entry would be parsed with other fields",
+        ObjectFault::OtherText => "the written field would be parsed as another text",
+    }
+}
+
+// Returns the message for a fault of a text whose objects can't be converted, with the key and the field, if they are known.
+fn object_message(alloc: Global, refusal: &ObjectRefusal) -> Result<String, AllocError> {
+    let said = object_fault_text(refusal.unfit.fault);
+    let (key, field) = (refusal.unfit.key.as_str(), refusal.unfit.field.as_str());
+    if key.is_empty() {
+        return String::from_str(alloc, said);
+    }
+    if field.is_empty() {
+        return format!(in alloc; "`{key}`: {said}");
+    }
+    format!(in alloc; "`{key}`: `{field}`: {said}")
+}
+
+// Returns the message and status 1 for an error of converting objects.
+fn objects_stop(
+    alloc: Global,
+    name: &str,
+    text: &str,
+    error: EntriesError,
+) -> Result<Stop, AllocError> {
+    match error.unless_out_of_memory()? {
+        EntriesError::Refused(refusal) => {
+            let said = object_message(alloc, &refusal)?;
+            let line = error_line(alloc, name, text.as_bytes(), refusal.at, &said)?;
+            Ok(Stop::Said(line, 1))
+        }
+        _ => unread_stop(alloc, name),
+    }
+}
+
+// Converts the items, records or objects of a text to entries.
 fn convert_items(alloc: Global, source: Source, name: &str, text: &str) -> Result<Converted, Stop> {
     match source {
         Source::Csl => match entries_of(alloc, text) {
@@ -121,6 +185,10 @@ fn convert_items(alloc: Global, source: Source, name: &str, text: &str) -> Resul
         Source::Ris => match entries_of_ris(alloc, text) {
             Ok(converted) => Ok(converted),
             Err(error) => Err(records_stop(alloc, name, error)?),
+        },
+        Source::Json => match entries_of_json(alloc, text) {
+            Ok(converted) => Ok(converted),
+            Err(error) => Err(objects_stop(alloc, name, text, error)?),
         },
     }
 }
@@ -224,8 +292,17 @@ fn edit_of<'a>(dialect: Dialect) -> Edit<'a> {
     }
 }
 
-// Prints the entries of the items or records of a text, and notes on members that are lost or changed. `is_last` says whether the process ends after
-// this text.
+// Returns what a file of this format contains.
+fn things(source: Source) -> &'static str {
+    match source {
+        Source::Csl => "items",
+        Source::Ris => "records",
+        Source::Json => "entries",
+    }
+}
+
+// Prints the entries of the items, records or objects of a text, and notes on members that are lost or changed. `is_last` says whether the
+// process ends after this text.
 fn import_text(
     rt: &HostRuntime,
     dialect: Dialect,
@@ -243,7 +320,7 @@ fn import_text(
         is_last,
     )?;
     if converted.text.is_empty() {
-        let _ = eprint!(rt; "{name}: note: no items\n");
+        let _ = eprint!(rt; "{name}: note: no {}\n", things(source));
     }
     say_losses(rt, name, converted.losses.as_slice())?;
     Ok(())
@@ -258,7 +335,7 @@ fn encoding_stop(alloc: Global, name: &str, bytes: &[u8], at: usize) -> Result<S
     Ok(Stop::Said(line, 1))
 }
 
-// Prints the entries of the items or records of a file. `is_last` says whether it is the last one.
+// Prints the entries of the items, records or objects of a file. `is_last` says whether it is the last one.
 fn import_file(
     rt: &HostRuntime,
     dialect: Dialect,
@@ -274,7 +351,7 @@ fn import_file(
     }
 }
 
-/// Prints the entries of the items or records of each file in turn, with the types and fields of a dialect. Returns the greatest status.
+/// Prints the entries of the items, records or objects of each file in turn, with the types and fields of a dialect. Returns the greatest status.
 pub fn run_import(rt: &HostRuntime, dialect: Dialect, source: Source, names: &[&str]) -> u8 {
     let mut status = 0;
     'names: for (index, name) in names.iter().enumerate() {

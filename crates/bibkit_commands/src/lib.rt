@@ -26,6 +26,7 @@ mod replacing;
 mod resolving;
 mod rewriting;
 mod selecting;
+mod several;
 pub mod start;
 mod stops;
 mod unsetting;

@@ -21,9 +21,9 @@ fn push_blank(blanked: &mut String, text: &str) -> Result<(), AllocError> {
     Ok(())
 }
 
-// Returns a text without its skipped blocks. A space replaces each of their bytes except line ends, so each byte offset stays the same, and
-// each line keeps its number.
-fn without_blocks(
+/// Returns a text without its skipped blocks. A space replaces each of their bytes except line ends, so each byte offset stays the same, and
+/// each line keeps its number.
+pub fn without_blocks(
     alloc: Global,
     text: &str,
     skipped: &[SkippedBlock],
@@ -61,15 +61,29 @@ fn prevents_parsing(finding: &Finding) -> bool {
     )
 }
 
-/// Returns the lines of the errors for which parsing the text of the file `name` as a bibliography fails, as `lint` prints them.
-pub fn error_lines(alloc: Global, name: &str, text: &str) -> Result<String, AllocError> {
-    let mut positions = Positions::new(text);
-    let mut lines = String::new(alloc);
-    'found: for finding in &findings(alloc, text)? {
+/// Appends the lines of those of these findings for which parsing a bibliography fails, as `lint` prints them. The findings are in order of
+/// their places in a text. They are about the file `name`, which begins at the offset `start` in that text and has the text `of_file`.
+pub fn push_error_lines(
+    lines: &mut String,
+    alloc: Global,
+    name: &str,
+    of_file: &str,
+    start: usize,
+    found: &[Finding],
+) -> Result<(), AllocError> {
+    let mut positions = Positions::new(of_file);
+    'found: for finding in found {
         if prevents_parsing(finding) {
-            let position = positions.position(finding.span.start);
+            let position = positions.position(finding.span.start.saturating_sub(start));
             lines.push_str(&finding_line(alloc, name, position, finding)?)?;
         }
     }
+    Ok(())
+}
+
+/// Returns the lines of the errors for which parsing the text of the file `name` as a bibliography fails, as `lint` prints them.
+pub fn error_lines(alloc: Global, name: &str, text: &str) -> Result<String, AllocError> {
+    let mut lines = String::new(alloc);
+    push_error_lines(&mut lines, alloc, name, text, 0, &findings(alloc, text)?)?;
     Ok(lines)
 }

@@ -7,8 +7,8 @@ use Rattle.biblatex.specs.Syntax.{Bibliography, Entry}
 use Rattle.bib_tables.specs.declared.mechanics.EntryType.{EntryType}
 use Rattle.bib_tables.specs.declared.mechanics.EntryType.TheVariants.{XData}
 use Rattle.serde_json.specs.Written.{compact_text}
-use Rattle.bib_csl.specs.Items.{item_of_entry}
 use Rattle.bib_csl.specs.Json.{json_of as item_json}
+use Rattle.bib_csl.specs.SentenceItems.{item_of_entry_in}
 use Rattle.bib_json.specs.Arrays.{array_end, before_element}
 use Rattle.bib_json.specs.Entries.{json_text_of}
 use Rattle.bib_ris.specs.Records.{ris_of}
@@ -25,24 +25,24 @@ is_xdata _ = false
 -- whether a format has an entry: JSON has each entry, CSL-JSON and RIS have no entry of the type `xdata`
 abbrev pub is_written : Target → Entry → Bool
 is_written Json e = true
-is_written Csl e = not (is_xdata e.entry_type)
+is_written (Csl titles) e = not (is_xdata e.entry_type)
 is_written Ris e = not (is_xdata e.entry_type)
 
 -- the text of an entry in a format
 abbrev pub exported_entry : Target → Entry → List ℕ
-exported_entry Csl e = compact_text (item_json (item_of_entry e))
+exported_entry (Csl titles) e = compact_text (item_json (item_of_entry_in titles e))
 exported_entry Json e = json_text_of e
 exported_entry Ris e = ris_of e
 
 -- the separator before an entry, by whether it is the first
 abbrev pub before_next : Target → Bool → List ℕ
-before_next Csl is_first = before_element is_first
+before_next (Csl titles) is_first = before_element is_first
 before_next Json is_first = before_element is_first
 before_next Ris is_first = []
 
 -- the text after the last entry; `is_empty` says whether no entry is printed
 abbrev pub end : Target → Bool → List ℕ
-end Csl is_empty = array_end is_empty
+end (Csl titles) is_empty = array_end is_empty
 end Json is_empty = array_end is_empty
 end Ris is_empty = []
 

@@ -4,7 +4,8 @@ ghost use Rattle.std.specs.Prelude.{◌≡◌, IfOk};
 ghost use Rattle.std.specs.String.{string_bytes};
 ghost use Rattle.bibkit_convert.specs.Converted as spec;
 
-use bib_csl::objects::item_text;
+use bib_csl::objects::item_text_in;
+use bib_csl::sentence_items::TitleCase;
 use bib_json::arrays::{array_end, before_element};
 use bib_ris::records::record_text;
 use biblatex::{Entry, EntryType};
@@ -13,8 +14,8 @@ use std::alloc::{AllocError, Global};
 /// A format that a bibliography is converted to.
 #[derive(Debug, Clone, Copy, PartialEq, Eq)]
 pub enum Target {
-    /// CSL-JSON items, which citation processors read.
-    Csl,
+    /// CSL-JSON items, which citation processors read, with their titles in this case.
+    Csl(TitleCase),
     /// Entries with chunks and typed values, as JSON.
     Json,
     /// RIS records, which reference managers import.
@@ -28,7 +29,7 @@ impl Target {
     {
         match self {
             Target::Json => true,
-            Target::Csl | Target::Ris => entry.entry_type != EntryType::XData,
+            Target::Csl(_) | Target::Ris => entry.entry_type != EntryType::XData,
         }
     }
 
@@ -37,7 +38,7 @@ impl Target {
         ensures { IfOk result (λ text. string_bytes text ≡ spec.exported_entry self entry.now) }
     {
         match self {
-            Target::Csl => item_text(alloc, entry),
+            Target::Csl(titles) => item_text_in(alloc, titles, entry),
             Target::Json => bib_json::entries::entry_text(alloc, entry),
             Target::Ris => record_text(alloc, entry),
         }
@@ -48,7 +49,7 @@ impl Target {
         ensures { result.now ≡ spec.before_next self is_first }
     {
         match self {
-            Target::Csl | Target::Json => before_element(is_first),
+            Target::Csl(_) | Target::Json => before_element(is_first),
             Target::Ris => "",
         }
     }
@@ -58,7 +59,7 @@ impl Target {
         ensures { result.now ≡ spec.end self is_empty }
     {
         match self {
-            Target::Csl | Target::Json => array_end(is_empty),
+            Target::Csl(_) | Target::Json => array_end(is_empty),
             Target::Ris => "",
         }
     }

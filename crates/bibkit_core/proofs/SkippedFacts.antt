@@ -48,10 +48,11 @@ none_of_each : {A : Type 0} {Are : EntryReading → A → List Finding → Type 
 none_of_each none = refl
 
 -- without errors, kept entries and findings between entries, the findings of a file are those of its skipped blocks
-pub findings_of_blocks : {skipped : List SkippedBlock} {lacking : List Bool} {said : List EntryReading} {between found : List Finding}
-    → between ≡ [] → AreFindingsIn skipped lacking [] said [] [] between found → AreSortedByPlace (map (block_finding said) skipped) found
-findings_of_blocks {skipped} {said = said} {found = found} no_others are =
-    let blocks = map (block_finding said) skipped in
+pub findings_of_blocks : {text : List ℕ} {skipped : List SkippedBlock} {lacking : List Bool} {said : List EntryReading}
+    {between found : List Finding} → between ≡ [] → AreFindingsIn text skipped lacking [] said [] [] between found
+    → AreSortedByPlace (map (block_finding text said) skipped) found
+findings_of_blocks {text} {skipped} {said = said} {found = found} no_others are =
+    let blocks = map (block_finding text said) skipped in
     subst (λ all. AreSortedByPlace all found)
     (ap (λ others. blocks ++ (are.of_entries ++ others)) no_others
     ∙ ap (λ of_entries. blocks ++ (of_entries ++ [])) (none_of_each are.reports) ∙ append-nil blocks) are.sorted

@@ -41,7 +41,7 @@ pub record AreOfDatabase (lint : Lint) (document : Option Document) (texts : Fil
   pub skipped : List SkippedBlock
   pub recovery : AreFilesRecovered texts says skipped
   pub of_files : List Finding
-  pub are : AreFindingsOf texts.text says skipped of_files
+  pub are : AreFindingsOf texts.text texts.ends says skipped of_files
   pub found : List Finding
   pub sorted : AreSortedByPlace (of_files ++ unused_by document says.entries) found
   pub reported : List Finding

@@ -21,7 +21,7 @@ pub record AreBlockFindings (text : List ℕ) (found : List Finding) : Type 0 wh
   pub says : FileReading
   pub skipped : List SkippedBlock
   pub recovery : IsFullRecovery text says skipped
-  pub sorted : AreSortedByPlace (map (block_finding says.entries) skipped) found
+  pub sorted : AreSortedByPlace (map (block_finding text says.entries) skipped) found
 
 -- `lines` are the lines for the file with this name and this decoded text: one for each skipped block, and none else
 pub record AreSkippedLines (name text lines : List ℕ) : Type 0 where

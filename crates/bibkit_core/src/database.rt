@@ -117,7 +117,7 @@ fn find(
         × (found.missing.items ≡ spec.missing_by document.now says.entries)) }
 {
     let recovery = texts.recover_parts(alloc)?;
-    let mut found = findings_of(alloc, texts.text(), &recovery)?;
+    let mut found = findings_of(alloc, texts.text(), texts.ends(), &recovery)?;
     let mut unused = unused_by(alloc, document, &recovery.raw.entries)?;
     let missing = missing_by(alloc, document, &recovery.raw.entries)?;
     found.append(&mut unused)?;

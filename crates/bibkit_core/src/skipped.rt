@@ -21,6 +21,7 @@ fn block_findings(alloc: Global, text: &str) -> Result<Vec<Finding>, AllocError>
     let recovery = RawBibliography::recover_parts(alloc, text)?;
     let found = findings_in(
         alloc,
+        text,
         &recovery.skipped,
         &[],
         &[],

@@ -7,6 +7,7 @@ use Rattle.biblatex.specs.BibliographyRecovery.{IsRecoveredBibliography}
 use Rattle.biblatex.specs.Syntax.{Bibliography, biblatex_entry, bibtex_entry, entries_text}
 use Rattle.bib_syntax.specs.declared.raw.ParseError.{ParseError}
 use Rattle.bib_syntax.specs.declared.raw.recovery.SkippedBlock.{SkippedBlock}
+use Rattle.bib_csl.specs.declared.sentence_items.TitleCase.TheVariants.{AsWritten}
 use Rattle.bibkit_convert.specs.declared.target.Target.TheVariants as target
 use Rattle.biblatex_c.specs.Calls.{exported_text}
 use Rattle.biblatex_c.specs.declared.recovering.ExportFormat.{ExportFormat}
@@ -28,7 +29,7 @@ abbrev pub written_in : ExportFormat → Bibliography → List ℕ
 written_in Biblatex b = entries_text biblatex_entry b.entries
 written_in Bibtex b = entries_text bibtex_entry b.entries
 written_in Json b = exported_text target.Json b
-written_in Csl b = exported_text target.Csl b
+written_in Csl b = exported_text (target.Csl AsWritten) b
 
 -- the text that bytes decode to: the bytes themselves if they are UTF-8, otherwise their text in Windows-1252
 pub data IsTextOf (bytes : List ℕ) : List ℕ → Type 0 where

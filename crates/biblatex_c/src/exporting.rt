@@ -4,11 +4,13 @@ ghost use Rattle.std.specs.Prelude.{◌≡◌, ⊤, Some, IfErr, IfOk};
 ghost use Rattle.std.specs.String.{string_bytes};
 ghost use Rattle.biblatex_c.specs.Calls.{IsNoBibliography, IsNumberedEnd, IsWrittenAs, TextFails, exported_text};
 ghost use Rattle.biblatex_c.specs.declared.status.Status.TheVariants.{OutOfMemory};
+ghost use Rattle.bib_csl.specs.declared.sentence_items.TitleCase.TheVariants.{AsWritten};
 ghost use Rattle.bibkit_convert.specs.declared.target.Target.TheVariants.{Csl, Json};
 
 use crate::buffers::end;
 use crate::reading::bibliography_of;
 use crate::status::Status;
+use bib_csl::sentence_items::TitleCase;
 use bibkit_convert::converting::{ConvertError, print_entries};
 use bibkit_convert::target::Target;
 use biblatex::{Bibliography, ParseError, Sink};
@@ -95,8 +97,13 @@ pub extern "C" fn biblatex_json(alloc: Global, text: &[u8], out: &mut [u8], size
 /// text fails.
 #[unsafe(no_mangle)]
 pub extern "C" fn biblatex_csl(alloc: Global, text: &[u8], out: &mut [u8], size: &mut usize) -> u32
-    ensures { IsNumberedEnd (IsWrittenAs Csl text.now) (TextFails (IsNoBibliography text.now) text.now)
+    ensures { IsNumberedEnd (IsWrittenAs (Csl AsWritten) text.now) (TextFails (IsNoBibliography text.now) text.now)
         out.old size.old out.new size.new result }
 {
-    end(bibliography_as(alloc, Target::Csl, text), out, size).number()
+    end(
+        bibliography_as(alloc, Target::Csl(TitleCase::AsWritten), text),
+        out,
+        size,
+    )
+    .number()
 }

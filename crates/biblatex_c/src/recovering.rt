@@ -9,6 +9,7 @@ ghost use Rattle.biblatex_c.specs.declared.status.Status.TheVariants.{OutOfMemor
 use crate::buffers::end;
 use crate::exporting::entries_as;
 use crate::status::Status;
+use bib_csl::sentence_items::TitleCase;
 use bibkit_convert::target::Target;
 use biblatex::{Bibliography, decode};
 use std::alloc::Global;
@@ -55,7 +56,7 @@ fn text_in(
         ExportFormat::Biblatex => Ok(bibliography.to_biblatex_string(alloc)?),
         ExportFormat::Bibtex => Ok(bibliography.to_bibtex_string(alloc)?),
         ExportFormat::Json => entries_as(alloc, Target::Json, bibliography),
-        ExportFormat::Csl => entries_as(alloc, Target::Csl, bibliography),
+        ExportFormat::Csl => entries_as(alloc, Target::Csl(TitleCase::AsWritten), bibliography),
     }
 }
 

@@ -19,11 +19,11 @@ fn found(alloc: Global, file: &str) -> Result<Vec<Finding>, AllocError> {
         origins,
         mut errors,
     } = keep(alloc, &raw)?;
-    let between = between(alloc, file, &skipped, &said, &origins, &names, &entries, &raw.abbreviations)?;
+    let between = between(alloc, file, &[], &skipped, &said, &origins, &names, &entries, &raw.abbreviations)?;
     let lacking = lacking_flags(alloc, &skipped, &names, &said, &origins, &entries)?;
     let mut unresolved = resolve_readable(alloc, &spans, &names, &mut entries)?;
     errors.append(&mut unresolved)?;
-    findings_in(alloc, &skipped, &lacking, &errors, &said, &origins, &entries, between)
+    findings_in(alloc, file, &skipped, &lacking, &errors, &said, &origins, &entries, between)
 }
 
 // Each finding's place, code and message.

@@ -149,7 +149,7 @@ static DELIMITERS: [&str; 3] = ["keep", "braces", "quotes"];
 static TARGETS: [&str; 5] = ["csl", "json", "ris", "biblatex", "bibtex"];
 
 // The values of `--from` of `convert`.
-static SOURCES: [&str; 3] = ["bib", "csl", "ris"];
+static SOURCES: [&str; 4] = ["bib", "csl", "ris", "json"];
 
 /// Returns the argument for the files that a command reads.
 pub fn files<'a>(alloc: Global) -> Arg<'a> {

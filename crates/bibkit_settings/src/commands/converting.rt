@@ -83,11 +83,12 @@ const FMT: [Argument; 13] = [
 const CONVERT_HELP: &str = "\
 csl, json and ris print the entries of all files, or those that meet --where, with inherited fields: by the rules of BibLaTeX for csl and
 ris, and by those of `bib` for json, which has byte offsets of the file. --where requires one of these three. A file with errors is printed
-as far as it can be parsed, and each error is reported.
+as far as it can be parsed, and each error is reported. Several files are one database.
 
 biblatex and bibtex change dates and the names of types and fields, and keep all other text. A file with errors is not printed, and its
 first error is reported. --from csl converts each item of CSL-JSON to an entry, and --from ris each record of RIS. What is lost or changed is
-reported. Without --from, files whose names end in .json or .ris are read so.
+reported. --from json converts the output of --to json back to entries. Without --from, files whose names end in .json or .ris are read as
+CSL-JSON or RIS.
 
 Examples:
   bibkit convert --to csl refs.bib >refs.json
@@ -97,7 +98,7 @@ Examples:
 Status: 0 done, 1 a file has errors or no entry meets --where, 2 wrong usage, or a file or the output failed, 3 out of memory";
 
 // The arguments of `convert`.
-const CONVERT: [Argument; 3] = [
+const CONVERT: [Argument; 4] = [
     Argument {
         name: "to",
         takes: Takes::Choice(Choice::Target),
@@ -106,7 +107,12 @@ const CONVERT: [Argument; 3] = [
     Argument {
         name: "from",
         takes: Takes::Choice(Choice::Source),
-        help: "Bibliography files, CSL-JSON or RIS [default: csl for names that end in .json, ris for .ris]",
+        help: "Bibliography files, CSL-JSON, RIS, or the JSON of --to json [default: csl for names that end in .json, ris for .ris]",
+    },
+    Argument {
+        name: "sentence-case",
+        takes: Takes::Flag(Flag::Plain),
+        help: "Write English titles in sentence case, as CSL recommends; requires --to csl",
     },
     WHERE,
 ];

@@ -5,4 +5,4 @@ use Rattle.bib_findings.proofs.errors.add_blocks.Given as goal
 
 abbrev pub invariant-skipped : goal.invariant-skipped
 invariant-skipped l =
-    l.found.items ≡ l.initial.found.items ++ map (block_finding (map entry_reading_of l.said)) (take l.block-index l.blocks)
+    l.found.items ≡ l.initial.found.items ++ map (block_finding l.text (map entry_reading_of l.said)) (take l.block-index l.blocks)

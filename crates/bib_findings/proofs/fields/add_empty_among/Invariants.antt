@@ -5,7 +5,8 @@ use Rattle.bib_syntax.specs.Views.{field_of}
 use Rattle.bib_findings.specs.Fields.{empty_of}
 use Rattle.bib_findings.proofs.fields.add_empty_among.Given as goal
 
--- a finding was appended for each of the first fields that is empty and not missing
+-- a finding was appended for each of the first fields that is empty, reported and not missing
 abbrev pub invariant-fields : goal.invariant-fields
 invariant-fields l =
-    l.found.items ≡ l.initial.found.items ++ flat_map (empty_of l.key (texts l.missing)) (map field_of (take l.field-index l.fields))
+    l.found.items ≡ l.initial.found.items
+    ++ flat_map (empty_of l.key (texts l.missing) l.inherits) (map field_of (take l.field-index l.fields))

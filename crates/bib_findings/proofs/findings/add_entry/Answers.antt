@@ -1,11 +1,20 @@
+use Rattle.std.proofs.Common.{Result, Ok, Err, OnOk}
 use Rattle.bib_tables.specs.Requirements.{texts}
 use Rattle.bib_syntax.specs.Views.{entry_reading_of}
 use Rattle.bib_findings.proofs.AddingFacts.{entry_added}
 use Rattle.bib_findings.proofs.findings.add_entry.Goals as goal
 
+-- a fact holds for any result
+for_any : {A E : Type 0} (r : Result A E) (P : Type 0) → P → OnOk r P
+for_any (Ok a) P fact = fact
+for_any (Err e) P fact = tt
+
+pub returns-clause-met : goal.returns-clause-met
+returns-clause-met c = for_any c.add_single.result _ c.in_ok-add_misspelled_fields.ensures.met
+
 pub returns-clause-added : goal.returns-clause-added
 returns-clause-added c =
     entry_added (texts c.args.missing.now) (entry_reading_of c.args.said.now) c.args.entry.now c.args.found.now.items
-    c.add_unknown_type.new.found.items c.add_report.new.found.items c.add_unknown_fields.new.found.items c.add_single.new.found.items
-    c.add_single.result c.in_ok-add_unknown_type.ensures c.in_ok-add_report.ensures c.in_ok-add_unknown_fields.ensures.added
+    c.add_misspelled_type.new.found.items c.add_report.new.found.items c.add_misspelled_fields.new.found.items c.add_single.new.found.items
+    c.add_single.result c.in_ok-add_misspelled_type.ensures c.in_ok-add_report.ensures c.in_ok-add_misspelled_fields.ensures.added
     c.add_single.ensures

@@ -63,7 +63,8 @@ returns c =
     let resolved = subst (λ p. AreRecovered p names own entries of_references) c.deref-9.ensures.value
     (subst (λ es. AreRecovered c.deref-9.result.now names es entries of_references) c.deref_mut.ensures.value
     c.in_ok-unresolved.ensures.recovered) in
-    let are_between = between_of c.args.text.now c.deref.result.now skipped names (entries_said c.deref-2.result.now) says.entries
+    let are_between = between_of c.args.text.now c.args.ends.now c.deref.result.now skipped names (entries_said c.deref-2.result.now)
+    says.entries
     c.deref-3.result.now origins c.deref-4.result.now own (map field_of c.as_slice-definitions.result.now) says.abbreviations linked
     c.deref.ensures.value (ap (map entry_reading_of) c.deref-2.ensures.value) c.deref-3.ensures.value c.deref-4.ensures.value
     (ap (map field_of) c.as_slice-definitions.ensures.value) c.in_ok-linked.ensures in
@@ -74,9 +75,9 @@ returns c =
     c.in_ok-lacking.ensures in
     if_ok_more
     (λ found.
-    AreFindingsIn c.deref-10.result.now c.deref-11.result.now c.deref-12.result.now (entries_said c.deref-13.result.now)
+    AreFindingsIn c.args.text.now c.deref-10.result.now c.deref-11.result.now c.deref-12.result.now (entries_said c.deref-13.result.now)
     c.deref-14.result.now c.deref-15.result.now linked found.items)
-    (λ found. AreFindingsOf c.args.text.now says skipped found.items) c.findings_in.result
+    (λ found. AreFindingsOf c.args.text.now c.args.ends.now says skipped found.items) c.findings_in.result
     (λ found are. record {
       own = own;
       names = names;
@@ -92,8 +93,9 @@ returns c =
       between = linked;
       are_between = are_between;
       are =
-          findings_of c.deref-10.result.now skipped c.deref-11.result.now lacking c.deref-12.result.now (of_entries ++ of_references)
-          (entries_said c.deref-13.result.now) says.entries c.deref-14.result.now origins c.deref-15.result.now entries
+          findings_of c.args.text.now c.deref-10.result.now skipped c.deref-11.result.now lacking c.deref-12.result.now
+          (of_entries ++ of_references) (entries_said c.deref-13.result.now) says.entries
+          c.deref-14.result.now origins c.deref-15.result.now entries
           linked found.items
           c.deref-10.ensures.value c.deref-11.ensures.value (c.deref-12.ensures.value ∙ c.in_ok-append.ensures.items)
           (ap (map entry_reading_of) c.deref-13.ensures.value) c.deref-14.ensures.value

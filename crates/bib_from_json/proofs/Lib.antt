@@ -1,0 +1,4 @@
+mod ConvertingFacts
+mod LawFacts
+mod ReadingFacts
+mod SameFacts
