@@ -15,7 +15,7 @@ use Rattle.bib_csl.specs.declared.sentence.Sentence.{Sentence}
 use Rattle.bib_csl.specs.declared.sentence.Sentence.TheVariants.{Begins, AfterMark, AfterStop, Inside}
 use Rattle.bib_csl.specs.Sentence.{cased, cased_from, context_after, context_in_text, begins_by, begins_tag, keeps_case, is_letter_or_digit, is_plain_in_title, continues_word, is_in_word_after, is_ordinary_word, is_enclosing, sentence_part_after, after_space, first_letter, capital, small, title_start, title_in_sentence_case}
 
--- characters that stay in a context, after which each next one is in such a context, stay one after another
+-- if characters that pass the test stay in such a context, and the context after each of them is such a one, too, then a text of them stays
 run_stays : (test : ℕ → Bool) (Stays : Context → Type 0)
     → ((at : Context) (c : ℕ) (after : List ℕ) → Stays at → test c ≡ true → (cased at c after ≡ c) × Stays (context_after at c after))
     → (at : Context) → Stays at → (text rest : List ℕ) → list_all test text ≡ true
@@ -305,7 +305,8 @@ outside_stays : (at : Context) (c : ℕ) (after : List ℕ) → IsOutside at →
 unfolding context_in_text
 outside_stays at c after outside less dollar = rw (in_text at c after outside.0 less) (refl, rw dollar outside.1, outside.2)
 
--- outside of these, the sentence after such a character depends only on the sentence before it
+-- outside of these, the part of the sentence after a character that isn't a less-than sign depends only on this character and on the part
+-- before it
 sentence_outside : (at : Context) (c : ℕ) (after : List ℕ) → IsOutside at → (c == 60) ≡ false
     → (context_after at c after).sentence ≡ sentence_part_after at.sentence c
 unfolding context_in_text

@@ -1,6 +1,6 @@
 -- Meaning: words of public contracts.
--- English titles in sentence case, as CSL recommends: a word loses the capital at its start, except at the start of a sentence. A text is a
--- list of its bytes. The rules are those of pandoc's reader; docs/DECISIONS.md lists the exceptions.
+-- English titles in sentence case, as CSL recommends: an ordinary word loses the capital at its start, unless it begins a sentence or
+-- follows a full stop. A text is a list of its bytes. The rules are those of pandoc's reader; docs/DECISIONS.md lists the exceptions.
 use Rattle.std.specs.Prelude.{ℕ, ◌+◌, ◌-◌, Bool, true, false, not, nat_lt, ◌==◌, ◌&&◌, ◌||◌, if◌then◌else◌, List, [], ◌∷◌, ◌++◌, codes, eqb, encode_utf8, encode_utf8_all}
 use Rattle.std.specs.Char.{is_whitespace}
 use Rattle.std.specs.Char.Unicode.Alphabetic.{is_alphabetic}
@@ -93,7 +93,8 @@ capital c = single (to_uppercase c) c
 unfoldable pub small : ℕ → ℕ
 small c = single (to_lowercase c) c
 
--- the first letter of a word: a capital if a sentence begins, and unchanged after a full stop, which may be that of an abbreviation
+-- the first letter of a word: a capital if a sentence begins, unchanged after a full stop and white space, and otherwise a small letter.
+-- The full stop may be that of an abbreviation
 abbrev pub first_letter : Sentence → ℕ → ℕ
 first_letter Begins c = capital c
 first_letter FollowsStop c = c
@@ -118,7 +119,7 @@ cased at c after =
 unfoldable pub is_enclosing : ℕ → Bool
 is_enclosing c = list_any (λ mark. c == mark) (codes "\"'`()[]“”‘’«»„‚‹›")
 
--- white space after a mark that ends a sentence, or after a full stop
+-- the part of a sentence after white space, by the part before it
 abbrev pub after_space : Sentence → Sentence
 after_space Begins = Begins
 after_space FollowsStop = FollowsStop
@@ -126,7 +127,7 @@ after_space AfterMark = Begins
 after_space AfterStop = FollowsStop
 after_space Inside = Inside
 
--- the sentence after a character
+-- the part of a sentence after a character
 unfoldable pub sentence_part_after : Sentence → ℕ → Sentence
 sentence_part_after before c =
     if is_whitespace c then after_space before
@@ -135,7 +136,7 @@ sentence_part_after before c =
     else if c == char.question || (c == exclamation_mark || c == char.colon) then AfterMark
     else Inside
 
--- whether a character after this one continues a word: also after math, and after the backslash of a command
+-- whether a character after this one continues a word: also after a dollar sign, and after a backslash
 unfoldable pub is_in_word_after : Bool → ℕ → Bool
 is_in_word_after is_in_word c =
     is_letter_or_digit c || (c == char.dollar || (c == char.backslash || (is_in_word && continues_word c)))

@@ -20,7 +20,7 @@ use Rattle.bib_csl.specs.Sentence.{title_in_sentence_case}
 unfoldable pub has_journal : Entry → Bool
 has_journal entry = is_some (field_or entry (codes "journaltitle") (codes "journal"))
 
--- whether an entry has no language, or one whose tag begins with `en`
+-- whether an entry has no language, or its tag, or else its text, begins with `en`
 unfoldable pub has_english_titles : Entry → Bool
 has_english_titles entry =
     length (language_of (language_value entry)) == 0 || starts_with eqb (language_of (language_value entry)) (codes "en")

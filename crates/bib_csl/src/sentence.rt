@@ -17,13 +17,14 @@ use std::alloc::{AllocError, Global};
 /// The part of a sentence that a character is in.
 #[derive(Debug, Clone, Copy, PartialEq, Eq)]
 pub enum Sentence {
-    /// The next word begins the title, or follows a colon, a question mark or an exclamation mark.
+    /// The next word begins the title, or follows white space after a colon, a question mark or an exclamation mark.
     Begins,
-    /// The next word follows a full stop, which may be that of an abbreviation.
+    /// The next word follows a full stop and white space. The full stop may be that of an abbreviation.
     FollowsStop,
-    /// A colon, a question mark or an exclamation mark is directly before the character.
+    /// A colon, a question mark or an exclamation mark is before the character, with nothing but quotation marks, brackets and tags
+    /// between.
     AfterMark,
-    /// A full stop is directly before the character.
+    /// A full stop is before the character, with nothing but quotation marks, brackets and tags between.
     AfterStop,
     /// Any other part.
     Inside,
@@ -165,7 +166,8 @@ fn small(c: char) -> char
     }
 }
 
-// Returns the first letter of a word: a capital if a sentence begins, and the letter as it is after a full stop.
+// Returns the first letter of a word: a capital if a sentence begins, the letter as it is after a full stop and white space, and otherwise
+// a small letter.
 fn first_letter(sentence: Sentence, c: char) -> char
     ensures { result ≡ spec.first_letter sentence c }
 {
@@ -371,8 +373,8 @@ fn title_start() -> Context
     }
 }
 
-/// Returns an English title in sentence case. Text in tags that keep their case and text between dollar signs stay as they are. The only
-/// error is out of memory.
+/// Returns an English title in sentence case. Text in elements that keep their case and text between dollar signs stay as they are. The
+/// only error is out of memory.
 #[tactic(auto, unfolding(crate::specs::Sentence::title_in_sentence_case))]
 pub fn title_in_sentence_case(alloc: Global, title: &str) -> Result<Text, AllocError>
     ensures { IfOk result (λ out. out ≡ spec.title_in_sentence_case title.now) }

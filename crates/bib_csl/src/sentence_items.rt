@@ -18,8 +18,8 @@ use std::alloc::{AllocError, Global};
 pub enum TitleCase {
     /// Titles have the capitals of the file.
     AsWritten,
-    /// English titles are in sentence case, as CSL recommends: only the first word of a sentence, names with other capitals or digits, and
-    /// protected words have capitals. The variable container-title stays if it is the title of a journal.
+    /// English titles are in sentence case, as CSL recommends: by the rules in `sentence`, words lose the capital at their start. The
+    /// variable container-title stays if it is the title of a journal.
     Sentence,
 }
 
@@ -31,7 +31,7 @@ fn has_journal(entry: &Entry) -> bool
     field_or(entry, "journaltitle", "journal").is_some()
 }
 
-// Returns whether an entry has no language, or one whose tag begins with `en`.
+// Returns whether an entry has no language, or its tag, or else its text, begins with `en`.
 #[tactic(auto, unfolding(crate::specs::SentenceItems::has_english_titles))]
 fn has_english_titles(alloc: Global, entry: &Entry) -> Result<bool, AllocError>
     ensures { IfOk result (λ is. is ≡ spec.has_english_titles entry.now) }

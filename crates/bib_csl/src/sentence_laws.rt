@@ -16,7 +16,7 @@ pub fn only_first_letters_change()
         ≡ encode_utf8 (spec.cased at c (encode_utf8_all (word ++ rest))) ++ (encode_utf8_all word ++ spec.cased_from end rest)) }
 {}
 
-/// States that a text without tags stays as it is in an element that keeps its case.
+/// States that a text without less-than signs stays as it is in an element that keeps its case.
 pub fn kept_text_stays()
     ensures { (at : AContext) (text rest : List ℕ) → 0 < at.depth → at.is_in_tag ≡ false
         → list_all (λ c. not (c == char.less)) text ≡ true

@@ -30,7 +30,7 @@ text_turned f g = by (have_one_text f g) (have_one_text g f) refl refl where
   by true false one other = one ∙ sym (bytes_turned (lowercase_part g) (lowercase_part f) ∙ one)
   by false true one other = bytes_turned (lowercase_part f) (lowercase_part g) ∙ other ∙ sym other
 
--- parts with one text pass the test for a text alike
+-- if two parts have one text, either both or neither have the text of a third
 text_alike : (g f e : Part) → have_one_text f e ≡ true → have_one_text g f ≡ have_one_text g e
 text_alike g f e same = ap (λ n. bytes_eq (lowercase_part g) n) ((bytes_eq-Decides (lowercase_part f) (lowercase_part e)).0 same)
 

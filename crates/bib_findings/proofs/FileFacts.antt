@@ -1,4 +1,4 @@
--- The findings of fields that are reported once for each name, file by file.
+-- The findings of names that are reported once in a file, file by file.
 use Rattle.std.proofs.Common.{◌≡◌, ℕ, zero, suc, true, false, cond, List, [], ◌∷◌, ◌++◌, ◌+◌, ◌<◌, ◌≤◌, nat_le, length, get_or, drop, take, map, Some, refl, sym, ap, ◌∙◌, arith}
 use Rattle.std.specs.Prelude.{slice_get}
 use Rattle.std.specs.List.{All, cons_option}

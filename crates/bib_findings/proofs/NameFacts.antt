@@ -62,14 +62,14 @@ unknown_alone key field old none =
     other_alone key field old
     (ap (λ b. is_unknown_field field.name.text && b) none ∙ and-false (is_unknown_field field.name.text))
 
--- no name passes a test that none of the names passes
+-- no name passes a test if each of them fails it
 none_passes : (p : List ℕ → Bool) (all : Names) → All (λ one. p one ≡ false) all → list_any p all ≡ false
 none_passes p [] none = refl
 none_passes p (one ∷ all) none =
     ap (λ b. b || list_any p all) (All-head (λ one. p one ≡ false) one all none)
     ∙ none_passes p all (All-tail (λ one. p one ≡ false) one all none)
 
--- a test passes for one of some names if a name is left of those that pass it
+-- one of some names passes a test if the list of those that pass it isn't empty
 one_passes : (p : List ℕ → Bool) (all before : Names) (known : List ℕ) (after : Names) → filter p all ≡ before ++ known ∷ after
     → list_any p all ≡ true
 one_passes p [] [] known after is = absurd (let clash : ◌≡◌ {A = Names} [] (known ∷ after) = is in cc)

@@ -15,13 +15,13 @@ use Rattle.bib_findings.specs.declared.finding.Finding.{Finding}
 abbrev pub entries_at : List EntryReading → List ℕ → List EntryReading
 entries_at said indices = filter_map (slice_get said) indices
 
--- the words for the people of two entries with the same first person, if their people aren't different
+-- the words for the title, the year and the people that two entries share: only the first person if `and others` ends a list of people
 abbrev pub shared_people : EntryReading → EntryReading → List ℕ
 shared_people said first =
     if have_open_list said first then codes "title, year and first person"
     else codes "title, year and people"
 
--- the words for the identity that two entries share, which are likely the same work
+-- the words for the identity that two entries share, if they are likely the same work
 abbrev pub common_ground : EntryReading → EntryReading → List ℕ
 common_ground said first =
     if share_doi said first then codes "DOI"

@@ -90,8 +90,8 @@ begins_with_separator _ = false
 abbrev pub may_end_file : List ℕ → ℕ → Bool
 may_end_file text at = begins_with_separator (drop at text)
 
--- the note about BibTeX and Biber for a block's error in this text. The text is empty if they don't read this form either, or if a file may
--- end there
+-- the note about BibTeX and Biber for a block's error in this text. The note is empty if it isn't one of these forms, or if a file may end
+-- there
 abbrev pub other_form : List ℕ → ParseError → List ℕ
 other_form text e =
     if may_end_file text e.span.start then [] else option_map_or (form_at e.kind) (slice_get text e.span.start) []

@@ -42,7 +42,7 @@ empty_finding key f = finding_at EmptyField (part_range f.name) (named_message k
 abbrev pub is_reported_empty : Bool → List ℕ → Bool
 is_reported_empty inherits name = inherits || is_known_name fields_of_dates name
 
--- the finding of a field if its value is empty, and its name isn't one of the missing fields
+-- the finding of a field if its value is empty, such a field is reported if empty, and its name isn't one of the missing fields
 abbrev pub empty_of : List ℕ → Names → Bool → FieldReading → List Finding
 empty_of key missing inherits f =
     if is_empty_value f && (is_reported_empty inherits f.name.text && not (is_known_name missing f.name.text))

@@ -205,7 +205,7 @@ abbrev pub are_other_parts : EntryReading → EntryReading → Bool
 are_other_parts said other = is_part_of_book said && is_part_of_book other && differs_in said other (codes "title")
 
 -- whether two entries are told apart: one is a part of a book and the other a whole book, both are parts with different titles, they differ
--- in a field, or they have neither a DOI nor an ISBN in common and have different people
+-- in one of `telling_fields`, or they have neither a DOI nor an ISBN in common and have different people
 abbrev pub are_told_apart : EntryReading → EntryReading → Bool
 are_told_apart said other =
     are_book_and_part said other || are_other_parts said other || list_any (differs_in said other) telling_fields

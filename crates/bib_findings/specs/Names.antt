@@ -1,5 +1,5 @@
 -- Meaning: words of public contracts.
--- The field names that BibLaTeX knows, and the findings of fields with any other name.
+-- The field names that BibLaTeX knows, and the findings of fields with a misspelled one.
 use Rattle.std.specs.Prelude.{◌≡◌, ℕ, Bool, not, ◌==◌, ◌&&◌, ◌||◌, List, ◌++◌, codes, Option, if◌then◌else◌}
 use Rattle.std.specs.List.{AllZip, after_first, before_first, filter, list_any}
 use Rattle.std.specs.Str.{str_eq_ignore_ascii_case, str_to_ascii_lowercase}

@@ -1,6 +1,6 @@
 -- Meaning: words of public contracts.
 -- Names that are reported once in a file: fields that other programs write for themselves, and unknown fields and entry types without a
--- suggestion, which a style or a program of the user's own may have.
+-- suggestion, which a style or a program of the user may define.
 use Rattle.std.specs.Prelude.{ℕ, Bool, not, ◌||◌, ◌&&◌, ◌-◌, ◌^◌, ◌==◌, List, [], ◌∷◌, ◌++◌, codes, count_by, drop, if◌then◌else◌, map, min, nat_le, take}
 use Rattle.std.specs.Fmt.{decimal}
 use Rattle.std.specs.List.{filter, flat_map, list_any, prefix_len}
@@ -20,7 +20,7 @@ abbrev pub is_type_once : List ℕ → Bool
 is_type_once kind = not (is_known_type kind) && not (has_type_suggestion kind)
 
 -- whether the name of a field, of an entry with this type, is reported once in a file. If BibLaTeX doesn't know the type, a style may
--- define it, and fields for it, so unknown fields aren't reported
+-- define it, and fields for it, so unknown fields without a suggestion aren't reported
 abbrev pub is_field_once : List ℕ → List ℕ → Bool
 is_field_once kind name = is_foreign name || (is_known_type kind && (is_unknown_field name && not (has_suggestion name)))
 
@@ -51,13 +51,13 @@ unknown_names_message wrong name count =
     if count == 1 then unknown_name_message wrong name
     else wrong ++ (codes " `" ++ (name ++ (codes "`; " ++ (decimal count ++ codes " times"))))
 
--- the finding of so many fields with this name, the first of them
+-- the finding of so many fields with one name; `p` is the name of the first
 abbrev pub fields_finding : Part → ℕ → Finding
 fields_finding p count =
     if is_foreign p.text then finding_at ForeignField (part_range p) (foreign_message p.text count)
     else finding_at UnknownField (part_range p) (unknown_names_message (codes "unknown field") p.text count)
 
--- the finding of so many entries with this type, the first of them
+-- the finding of so many entries with one type; `p` is the type of the first
 abbrev pub types_finding : Part → ℕ → Finding
 types_finding p count = finding_at UnknownType (part_range p) (unknown_names_message (codes "unknown entry type") p.text count)
 
@@ -81,7 +81,7 @@ if_first earlier p = if list_any (have_one_text p) earlier then [] else p ∷ []
 abbrev pub first_parts : List Part → List Part
 first_parts parts = each_after if_first [] parts
 
--- one finding for each text of some parts: that of the first part with it, and of their number
+-- one finding for each text of some parts, made from the first part with this text and from the number of such parts
 abbrev pub once_each : (Part → ℕ → Finding) → List Part → List Finding
 once_each finding parts = map (λ p. finding p (count_of parts p).1) (first_parts parts)
 

@@ -37,7 +37,7 @@ keys_in entry field = option_map_or (λ chunks. keys_of field (styled chunks)) (
 abbrev pub written_keys : List ℕ → List ℕ → List (List ℕ)
 written_keys field text = if bytes_eq field (codes "crossref") then trim text ∷ [] else comma_parts text
 
--- the keys in a field of an entry as they are in the file, if its value is one literal; otherwise with the text of abbreviations
+-- the keys in a field of an entry: as they are in the file if its value is one literal, otherwise as the library parses them
 abbrev pub tested_keys : EntryReading → Entry → List ℕ → List (List ℕ)
 tested_keys said entry field =
     if length (own_literal said field) == 0 then keys_in entry field else written_keys field (own_literal said field)

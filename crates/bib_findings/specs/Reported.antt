@@ -66,7 +66,7 @@ begins_alphanumeric [] = false
 begins_alphanumeric (b ∷ rest) = is_ascii_alphanumeric b
 
 -- whether BibLaTeX knows the text of a field or prints it as it is, although it can't be parsed: the gender `pp`, and pages that begin with
--- a letter or a digit, such as `12A` or `xiv + 447`. Biber warns of ranges of pages without a start.
+-- an ASCII letter or digit, such as `12A` or `xiv + 447`. Biber warns of ranges of pages without a start.
 abbrev pub is_known_text : List ℕ → List ℕ → Bool
 is_known_text name text =
     (bytes_eq name (codes "gender") && bytes_eq text plural_gender) || (bytes_eq name (codes "pages") && begins_alphanumeric text)
@@ -75,16 +75,16 @@ is_known_text name text =
 abbrev pub has_empty : EntryReading → List ℕ → Bool
 has_empty said name = option_map_or is_empty_value (last_named said.fields name) false
 
--- whether the field of this name is empty, or one of the fields of the date if it is in separate fields
+-- whether the field of this name is empty or, for a date, one of the separate fields with its year, month and day
 abbrev pub is_empty_field : EntryReading → List ℕ → Bool
 is_empty_field said name = has_empty said name || list_any (has_empty said) (date_part_names name)
 
--- whether the field is a date, and the year of the entry is a number in the digits of another script, which Biber reads
+-- whether the field is `date`, and the year of the entry is a number in the digits of another script, which Biber reads
 abbrev pub has_year_in_other_digits : EntryReading → List ℕ → Bool
 has_year_in_other_digits said name = bytes_eq name (codes "date") && are_other_digits (trim (own_literal said (codes "year")))
 
--- whether the error of a field is reported. An empty field isn't malformed, and a text that BibLaTeX knows or a year that Biber reads isn't
--- reported
+-- whether the error of a field is reported. An empty field isn't malformed. A text that BibLaTeX knows or prints as it is, and a year that
+-- Biber reads aren't reported
 abbrev pub is_reported_field : EntryReading → List ℕ → Bool
 is_reported_field said name =
     not (is_empty_field said name) && not (is_known_text name (own_literal said name))

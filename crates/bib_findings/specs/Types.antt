@@ -1,5 +1,5 @@
 -- Meaning: words of public contracts.
--- The entry types that BibLaTeX knows, and the finding of an entry with any other type.
+-- The entry types that BibLaTeX knows, and the finding of an entry with a misspelled one.
 use Rattle.std.specs.Prelude.{◌≡◌, ℕ, Bool, MatchBool, not, ◌&&◌, List, [], ◌∷◌, ◌++◌, codes, Option}
 use Rattle.std.specs.List.{list_any}
 use Rattle.std.specs.Str.{str_to_ascii_lowercase}

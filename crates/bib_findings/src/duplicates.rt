@@ -123,7 +123,8 @@ fn remember(
     Ok(())
 }
 
-// Returns the words for the people of two entries with the same first person, if their people aren't different.
+// Returns the words for the title, the year and the people that two entries share: only the first person if `and others` ends a list of
+// people.
 fn shared_people(
     alloc: Global,
     said: &Spanned<RawEntry<'_>>,
@@ -137,7 +138,7 @@ fn shared_people(
     Ok("title, year and people")
 }
 
-// Returns the words for the identity that two entries share, which are likely the same work.
+// Returns the words for the identity that two entries share, if they are likely the same work.
 fn common_ground(
     alloc: Global,
     said: &Spanned<RawEntry<'_>>,

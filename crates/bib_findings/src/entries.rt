@@ -122,7 +122,7 @@ fn begins_alphanumeric(bytes: &[u8]) -> bool
 }
 
 // Returns whether BibLaTeX knows the text of a field or prints it as it is, although it can't be parsed: the gender `pp`, and pages that
-// begin with a letter or a digit.
+// begin with an ASCII letter or digit.
 fn is_known_text(name: &str, text: &str) -> bool
     ensures { result ≡ is_known_text name.now text.now }
 {
@@ -159,22 +159,22 @@ fn date_part_names(name: &str) -> &'static [&'static str]
     }
 }
 
-// Returns whether the field of this name is empty, or one of the fields of the date if it is in separate fields.
+// Returns whether the field of this name is empty or, for a date, one of the separate fields with its year, month and day.
 fn is_empty_field(said: &Spanned<RawEntry<'_>>, name: &str) -> bool
     ensures { result ≡ is_empty_field (entry_reading_of said.now) name.now }
 {
     has_empty(said, name) || has_empty_among(said, date_part_names(name))
 }
 
-// Returns whether the field is a date, and the year of the entry is a number in the digits of another script, which Biber reads.
+// Returns whether the field is `date`, and the year of the entry is a number in the digits of another script, which Biber reads.
 fn has_year_in_other_digits(said: &Spanned<RawEntry<'_>>, name: &str) -> bool
     ensures { result ≡ spec.has_year_in_other_digits (entry_reading_of said.now) name.now }
 {
     name == "date" && are_other_digits(own_literal(said, "year").trim())
 }
 
-// Returns whether the error of this field is reported. An empty field isn't malformed, and a text that BibLaTeX knows or a year that Biber
-// reads isn't reported.
+// Returns whether the error of this field is reported. An empty field isn't malformed. A text that BibLaTeX knows or prints as it is, and a
+// year that Biber reads aren't reported.
 fn is_reported(said: &Spanned<RawEntry<'_>>, name: &str) -> bool
     ensures { result ≡ is_reported_field (entry_reading_of said.now) name.now }
 {

@@ -127,8 +127,8 @@ fn is_reported_empty(inherits: bool, name: &str) -> bool
     inherits || is_among(&DATE_FIELDS, name)
 }
 
-// Appends the finding of a field, if its value is empty and its name isn't one of the missing fields. `inherits` says whether the entry can
-// inherit fields.
+// Appends the finding of a field, if its value is empty, such a field is reported if empty, and its name isn't one of the missing fields.
+// `inherits` says whether the entry can inherit fields.
 fn add_if_empty(
     alloc: Global,
     found: &mut Vec<Finding>,
@@ -147,8 +147,8 @@ fn add_if_empty(
     Ok(())
 }
 
-// Appends a finding for each of `fields` whose value is empty, if it is reported, except those in `missing`. `key` is the key of the entry,
-// and `inherits` says whether the entry can inherit fields.
+// Appends a finding for each of `fields` whose value is empty, if such a field is reported if empty, except those in `missing`. `key` is
+// the key of the entry, and `inherits` says whether the entry can inherit fields.
 fn add_empty_among(
     alloc: Global,
     found: &mut Vec<Finding>,
@@ -173,7 +173,8 @@ fn refers_to_parents(said: &Spanned<RawEntry<'_>>) -> bool
     has_own_field(said, "crossref") || has_own_field(said, "xdata")
 }
 
-/// Appends a finding for each empty field of an entry that is reported, except those that are reported as missing.
+/// Appends a finding for each empty field of an entry that can inherit fields, or for each empty date of any other entry. Fields that are
+/// reported as missing have none.
 pub(crate) fn add_empty(
     alloc: Global,
     found: &mut Vec<Finding>,

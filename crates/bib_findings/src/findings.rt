@@ -141,7 +141,7 @@ fn add_entries(
 /// entry refers to and no kept entry has; entries that are likely the same work as an earlier one; text after an entry that reads
 /// as a field; keys that differ only in ASCII case; parents that come before their children; names that are reported once in a file;
 /// abbreviations that are defined again with another value. `text` is the text of the file, `skipped` contains its skipped blocks, and
-/// `definitions` contains its definitions of abbreviations. If it is the text of several files, `ends` contains the offset at which each
+/// `definitions` contains its definitions of abbreviations. If `text` is that of several files, `ends` contains the offset at which each
 /// of them ends. `origins` contains the index of each entry in `said`, the raw entries of the file. An entry that begins where a skipped
 /// block begins is no likely duplicate, and the text after it isn't tested. Fails only if out of memory.
 pub fn between(
@@ -182,9 +182,9 @@ pub fn sorted_by_place(found: Vec<Finding>) -> Result<Vec<Finding>, AllocError>
 }
 
 /// Returns the findings of skipped blocks, of errors and of entries, and `between`, sorted by their starts. `text` is the recovered text.
-/// `skipped` contains its skipped blocks, `errors` the errors, `entries` the kept entries, and `between` the findings between them. `origins` contains the
-/// index of each entry in `said`, the raw entries of the file. `lacking` contains for each entry whether fields of it may be lost (see
-/// `lacking_flags`). Fails only if out of memory.
+/// `skipped` contains its skipped blocks, `errors` the errors, `entries` the kept entries, and `between` the findings between them.
+/// `origins` contains the index of each entry in `said`, the raw entries of the file. `lacking` contains for each entry whether fields of
+/// it may be lost (see `lacking_flags`). Fails only if out of memory.
 pub fn findings_in(
     alloc: Global,
     text: &str,

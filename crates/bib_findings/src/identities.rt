@@ -1,4 +1,4 @@
-//! The identities of entries: a DOI, an ISBN, or a title with its first person and its year. Also what tells entries apart.
+//! The identities of entries: a DOI, an ISBN, or a title with its first person and its year. Also tests whether entries are told apart.
 
 ghost use Rattle.std.specs.Prelude.{◌≡◌, ◌++◌, ◌&&◌, ◌||◌, not, map, IfOk, OnOk, [], encode_utf8_all};
 ghost use Rattle.std.specs.List.{list_all, list_any};
@@ -395,9 +395,9 @@ fn are_other_parts(
     )
 }
 
-/// Returns whether two entries are told apart: one is a part of a book and the other a whole book, both are parts with different titles, they
-/// differ in one of the fields `volume`, `number`, `pages`, `chapter`, `part`, `edition` and `subtitle`, or they have neither a DOI nor an
-/// ISBN in common and have different people.
+/// Returns whether two entries are told apart: one is a part of a book and the other a whole book, both are parts with different titles,
+/// they differ in one of the fields `volume`, `number`, `pages`, `chapter`, `part`, `edition` and `subtitle`, or they have neither a DOI
+/// nor an ISBN in common and have different people.
 pub(crate) fn are_told_apart(
     alloc: Global,
     said: &Spanned<RawEntry<'_>>,

@@ -1,19 +1,20 @@
 //! Finds errors and likely mistakes in a bibliography file, each with a code, a place and a message.
 //!
 //! `findings::findings` recovers a file in the steps of `Bibliography::recover`. It reports the skipped blocks and the errors of
-//! entries and references. For each entry it reports an unknown type, missing, superfluous and malformed fields, unknown field
-//! names, and the findings of its key and of single fields. `findings::between` reports unknown references, likely duplicates,
-//! text after an entry that reads as a field, keys that differ only in ASCII case, early parents, fields of other programs, and
-//! abbreviations that are defined again.
+//! entries and references. For each entry it reports a misspelled type, missing, superfluous and malformed fields, misspelled
+//! field names, and the findings of its key and of single fields. `findings::between` reports unknown references, likely
+//! duplicates, text after an entry that reads as a field, keys that differ only in ASCII case, early parents, names that are
+//! reported once in a file, and abbreviations that are defined again.
 //! `findings::findings_in` sorts all findings by their starts. `findings::findings` also reports the abbreviations that nothing uses.
 //!
 //! `codes` contains the codes and their explanations. `places` finds fields in an entry, and `cuts` finds the entries of skipped
 //! blocks. `lacking` finds the entries of which fields may be lost: those of skipped blocks, and those that refer to one by
 //! `crossref` or `xdata`, directly or through others. `demands` has the fields that BibLaTeX requires. `nearest` finds the known name
 //! that may be meant, `marks` selects the entries that may be the same work as another, `check_digits` tests ISBNs and ISSNs,
-//! `other_digits` tests texts for the digits of other scripts, and `outside` finds the text outside braces.
+//! `other_digits` tests texts for the digits of other scripts, `foreign` has the fields of other programs, and `outside` finds the
+//! text outside braces.
 //! `errors`, `types`, `entries`, `names`, `fields`, `standard_numbers`, `urls`, `malformed_dates`, `people`,
-//! `special_characters`, `html`, `years`, `stray`, `references`, `duplicates`, `key_cases`, `foreign`, `parent_order`, `definitions` and
+//! `special_characters`, `html`, `years`, `stray`, `references`, `duplicates`, `key_cases`, `parent_order`, `once`, `definitions` and
 //! `unused_definitions` make the findings; `duplicates` uses `identities`.
 #![tactic(auto)]
 

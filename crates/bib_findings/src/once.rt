@@ -162,16 +162,16 @@ fn types_finding(alloc: Global, counted: &Counted<'_, '_>) -> Result<Finding, Al
     Ok(finding_at_part(Code::UnknownType, counted.first, message))
 }
 
-// Returns whether an unknown field is reported once in a file, with `meant` as the suggestion. `has_known_type` says whether BibLaTeX knows the
-// type of its entry.
+// Returns whether an unknown field is reported once in a file. `meant` is the suggestion, if there is one. `has_known_type` says whether
+// BibLaTeX knows the type of its entry.
 fn is_unknown_once(has_known_type: bool, meant: Option<&'static str>) -> bool
     ensures { result ≡ (has_known_type && not (is_some (option_copied meant.entry))) }
 {
     has_known_type && meant.is_none()
 }
 
-// Returns whether a field with this name is reported once in a file. `has_known_type` says whether BibLaTeX knows the type of its entry, and
-// `met` caches the field names.
+// Returns whether a field with this name is reported once in a file. `has_known_type` says whether BibLaTeX knows the type of its entry,
+// and `met` caches the field names.
 fn is_field_once(
     alloc: Global,
     met: &mut BTreeMap<String, FieldName>,

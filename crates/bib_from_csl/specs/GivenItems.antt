@@ -48,8 +48,8 @@ single_page text =
     then before_first (λ b. b == char.hyphen) text
     else text
 
--- the text of a variable; page numbers are replaced by their `single_page`, with an en dash for each hyphen. If the flag says so, words of
--- the title with capitals keep their case
+-- the text of a variable; page numbers are replaced by their `single_page`, with an en dash for each hyphen. If the flag says so, a title
+-- is replaced by its `protected_title`
 unfoldable pub content_text : Bool → List ℕ → List ℕ → List ℕ
 content_text keeps_case name text =
     if has_dashes name text then dashed_text (single_page text)
@@ -141,7 +141,7 @@ item_with name id kind (Some fields) = Says (record { key_member = name; id = id
 abbrev pub item_of_members : Bool → List ℕ → List ℕ → List ℕ → List (List ℕ × Json) → ItemReading
 item_of_members keeps_case name id kind ms = item_with name id kind (members_read keeps_case id ms)
 
--- whether an object has no member `language`, or an English one
+-- whether an object has no member `language` that is a text or a number, or an English one
 abbrev pub is_english : Json → Bool
 is_english j = option_map_or is_english_tag (text_under (codes "language") j) true
 

@@ -24,12 +24,12 @@ has_capital word = list_any is_uppercase (chars word)
 abbrev pub kept_word : List ℕ → List ℕ
 kept_word word = if has_capital word then codes "<span class=\"nocase\">" ++ (word ++ codes "</span>") else word
 
--- a word of a title: the first one as it is, any other after a space
+-- a word of a title: the first one as it is, any other as its `kept_word` after a space
 abbrev pub title_word : Bool → List ℕ → List ℕ
 title_word true word = word
 title_word false word = codes " " ++ kept_word word
 
--- the words of a title
+-- the title of these words
 abbrev pub title_of_words : List (List ℕ) → List ℕ
 title_of_words [] = []
 title_of_words (first ∷ words) = first ++ flat_map (title_word false) words

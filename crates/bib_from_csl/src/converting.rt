@@ -155,8 +155,8 @@ fn unread(
 }
 
 /// Converts the items of a text of CSL-JSON to BibLaTeX entries, one for each item, in order. The text is an array of items, or one item,
-/// such as those from doi.org. Also returns the members of items that the entries lack or change. To find them, the source of the entries is parsed, and each entry is converted back to an item. Each member
-/// that isn't empty is compared with this item.
+/// such as those from doi.org. Also returns the members of items that the entries lack or change. To find them, the source of the entries
+/// is parsed, and each entry is converted back to an item. Each member that isn't empty is compared with this item.
 ///
 /// # Errors
 ///

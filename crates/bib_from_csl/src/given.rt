@@ -13,7 +13,7 @@ pub struct GivenItem {
     pub id: Text,
     /// The value of the member `type`.
     pub kind: Text,
-    /// The other members, including `citation-key` and `id` with another text.
+    /// The members except `type`, and except `citation-key` and `id` with this text.
     pub fields: Items<Given>,
 }
 

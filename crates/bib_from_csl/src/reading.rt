@@ -101,8 +101,8 @@ fn single_page(text: &str) -> &str
     }
 }
 
-// Returns the text of a variable. Page numbers are replaced by their `single_page`, with an en dash for each hyphen. If `keeps_case`, words
-// of the title with capitals keep their case.
+// Returns the text of a variable. Page numbers are replaced by their `single_page`, with an en dash for each hyphen. If `keeps_case`, a
+// title is replaced by its `protected_title`.
 #[tactic(auto, unfolding(crate::specs::GivenItems::content_text))]
 fn content_text(alloc: Global, keeps_case: bool, name: &str, text: &str) -> Result<Text, AllocError>
     ensures { IfOk result (λ content. content ≡ spec.content_text keeps_case name.now text.now) }
@@ -310,7 +310,7 @@ fn item_of_members(
     }
 }
 
-// Returns whether an object has no member `language`, or an English one.
+// Returns whether an object has no member `language` that is a text or a number, or an English one.
 fn is_english(value: &Value<'_>) -> bool
     ensures { result ≡ spec.is_english (value_view value.now) }
 {

@@ -45,7 +45,7 @@ fn push_kept(out: &mut Text, word: &str) -> Result<(), AllocError>
     out.push_str(word)
 }
 
-// Appends a word of a title: the first one as it is, any other after a space.
+// Appends a word of a title: the first one as it is, any other after a space, in a tag if it contains an uppercase letter.
 fn push_word(out: &mut Text, is_first: bool, word: &str) -> Result<(), AllocError>
     ensures { OnOk result (out.new ≡ out.old ++ spec.title_word is_first word.now) }
 {

@@ -241,7 +241,7 @@ elements_read : (index : ℕ) (all : List Entry)
 elements_read index [] = refl
 elements_read index (entry ∷ rest) = ap₂ (before_entries index) (entry_read entry) (elements_read (index + 1) rest)
 
--- the text of the array of entries is parsed as the entries
+-- the text of the array of entries is parsed as the entries, if the text of each parses back to its object
 pub text_read : (all : List Entry) → AllByRecursion IsReadBack all
     → entries_read (array_text (map json_text_of all)) ≡ Ok (map given_entry all)
 unfolding entries_read

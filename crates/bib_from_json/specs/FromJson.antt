@@ -34,8 +34,8 @@ pub record AreNotWritable (json : List ℕ) : Type 0 where
   pub of_json : entries_read json ≡ Ok given
   pub unread : (IsAcceptedText (entries_source given) → ⊥) ⊎ IsOfOthers given (entries_source given)
 
--- a refusal gives the fault of an element or of the text, or says that the entries can't be written. Then its fault, its element, its key
--- and its field are open
+-- a refusal gives the fault of an element or of the text, or says that the entries can't be written. In the latter case, nothing is stated
+-- about its fault, its element, its key and its field
 pub data IsEntriesRefusal (json : List ℕ) (r : Refusal) : Type 0 where
   no_entries : entries_read json ≡ Err (r.element, r.unfit) → r.at ≤ length json → IsEntriesRefusal json r
   not_writable : r.at ≤ length json → AreNotWritable json → IsEntriesRefusal json r

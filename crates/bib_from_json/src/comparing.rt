@@ -168,7 +168,8 @@ pub(crate) fn entry_fault(
     first_fault(alloc, key, given.fields.as_slice(), &entry.fields)
 }
 
-// Returns the index of the first given entry that isn't the same as the parsed one, with the fault, or `None` if all are the same.
+// Returns the index of the first given entry that isn't the same as the parsed one, with the fault, or `None` if all are the same. The
+// index is 0 if all given entries are the same, but more entries were parsed.
 pub(crate) fn entries_fault(
     alloc: Global,
     given: &[GivenEntry],

@@ -33,7 +33,8 @@ pub struct Refusal {
 pub enum EntriesError {
     /// The text has no entries of the schema, or an entry can't be written.
     Refused(Refusal),
-    /// The source of the entries can't be parsed, for this reason: entries that can be parsed alone refer to one another in a cycle.
+    /// The source of the entries can't be parsed, for this reason. Each entry can be parsed alone. For example, entries refer to one
+    /// another in a cycle, or an entry would inherit a date that can't be parsed.
     NotRead(ParseError),
     /// Out of memory.
     OutOfMemory,
@@ -175,19 +176,20 @@ fn unread(
     }
 }
 
-/// Converts the entries of a text of JSON to BibLaTeX entries, in order. docs/entries.schema.json describes the JSON. The text is an array of
-/// entries, or one entry. The source has the fields of each entry in their order. A value is written from its chunks. The members `value` of
-/// fields, the member `date` of an entry, and the positions `start` and `end` of chunks are ignored.
+/// Converts the entries of a text of JSON to BibLaTeX entries, in order. docs/entries.schema.json describes the JSON. The text is an array
+/// of entries, or one entry. The source has the fields of each entry in their order. A value is written from its chunks. The members
+/// `value` of fields, the member `date` of an entry, and the positions `start` and `end` of chunks are ignored.
 ///
-/// Nothing else is lost, so `losses` is empty: the source is parsed again, and has the same entries. Each has the given key, type and names of
-/// fields, and the styled texts of the given chunks.
+/// Nothing else is lost, so `losses` is empty: the source is parsed again, and has the same entries. Each has the given key, type and names
+/// of fields, and the styled texts of the given chunks.
 ///
 /// # Errors
 ///
 /// `Refused` if the text isn't an array of entries or one entry, or if the source of the entries can't be parsed as the same entries. The
-/// latter holds for keys and names that can't be written, two entries with one key, chunks that aren't settled, and entries that inherit
-/// fields that they lack. `NotRead` if each entry can be parsed alone, but not all entries together: entries refer to one another in a
-/// cycle. `OutOfMemory` if memory runs out.
+/// latter holds, for example, for keys and names that can't be written, two entries with one key, chunks that aren't settled, the field
+/// `xdata`, and entries that refer to themselves or inherit fields that they lack. `NotRead` if each entry can be parsed alone, but not all
+/// entries together: for example, entries refer to one another in a cycle, or an entry would inherit a date that can't be parsed.
+/// `OutOfMemory` if memory runs out.
 pub fn entries_of_json(alloc: Global, json: &str) -> Result<Converted, EntriesError>
     ensures made { IfOk result (spec.AreEntriesOfJson json.now) }
     ensures refused { IfErr result (spec.MayRefuseEntries json.now) }

@@ -36,7 +36,7 @@ pub enum Fault {
     NoChunks,
     /// A field has another member than `chunks` and `value`, or one of them twice.
     FieldMember,
-    /// A chunk is no object, or its `kind` or its `text` isn't a text.
+    /// A chunk is no object, or its `kind` or its `text` is missing or isn't a text.
     NotAChunk,
     /// A chunk has another member than `kind`, `text`, `start` and `end`, or one of them twice.
     ChunkMember,
@@ -44,10 +44,11 @@ pub enum Fault {
     WrongKind,
     /// Two entries have one key, or the `ids` of an earlier entry contain the key of a later one.
     KeyTwice,
-    /// If the entry is written, it can't be parsed, or not as one entry with its type and its key. So its type, its key or the name of a
-    /// field can't be written.
+    /// If the entry is written, it can't be parsed, or not as one entry with its type and its key. For example, its type, its key or the
+    /// name of a field can't be written, or the entry refers to itself.
     NotWritable,
-    /// If the entry is written, it isn't parsed as one with the same fields: it inherits other ones, or the name of a field can't be written.
+    /// If the entry is written, it isn't parsed as one with the same fields. For example, it inherits other ones, it has the field `xdata`,
+    /// or the name of a field can't be written.
     OtherFields,
     /// If the field is written, it isn't parsed as one with the same styled text.
     OtherText,

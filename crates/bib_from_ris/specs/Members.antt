@@ -1,5 +1,6 @@
 -- Meaning: words of public contracts.
--- The members of the item of a record. Each line of the record is in the content of a variable, or has a member without content.
+-- The members of the item of a record. Each line with a value is in the content of a variable, is the text of the key, or has a member
+-- without content.
 use Rattle.std.specs.Prelude.{ℕ, Bool, false, true, not, ◌==◌, ◌&&◌, ◌||◌, if◌then◌else◌, List, [], ◌∷◌, ◌++◌, length, codes, bytes_eq, encode_utf8_all, Option, Some, None}
 use Rattle.std.specs.Char.{is_ascii_digit}
 use Rattle.std.specs.List.{flat_map, list_all, list_any, slice_split}
@@ -28,7 +29,7 @@ member_without_content tag = record { name = tag; content = None; is_whole = fal
 abbrev pub text_given : List ℕ → List ℕ → Given
 text_given name text = record { name = name; content = Some (content.Text text); is_whole = true }
 
--- a member without content for a line of a variable that has another text
+-- a member without content for a line of a variable, if its value isn't this text
 abbrev pub other_line : List ℕ → List ℕ → VariableLine → List Given
 other_line name text line =
     if bytes_eq line.variable name && not (bytes_eq line.value text) then member_without_content line.tag ∷ [] else []
@@ -57,7 +58,7 @@ text_members name lines = if_text name (variable_text name lines) ++ other_membe
 abbrev pub is_english_record : List VariableLine → Bool
 is_english_record lines = option_map_or is_english_tag (variable_text (codes "language") lines) true
 
--- the text of a title; in English, its words with capitals keep their case, as those of an item do
+-- the text of a title; in English, its `protected_title`, as in an item
 abbrev pub record_title : Bool → List ℕ → List ℕ
 record_title is_in_english text = if is_in_english then protected_title text else text
 
@@ -85,7 +86,7 @@ member_of_names name names =
 unfoldable pub names_members : List ℕ → List VariableLine → List Given
 names_members name lines = member_of_names name (flat_map (name_in name) lines)
 
--- a text and the text of a line with a separator between them, or one of them if the other is empty
+-- a text and the text of a line with a separator between them, or only the latter if the former is empty
 abbrev pub joined_with : List ℕ → List ℕ → List ℕ → List ℕ
 joined_with separator before text = if length before == 0 then text else before ++ (separator ++ text)
 
@@ -104,7 +105,7 @@ joined_given name text = if length text == 0 then [] else text_given name text �
 unfoldable pub joined_members : List ℕ → List ℕ → List VariableLine → List Given
 joined_members name separator lines = joined_given name (joined_after name separator [] lines)
 
--- the member of a variable with this date
+-- the member of a variable with this date, or without content if there is no date
 abbrev pub dated_member : List ℕ → Option ItemDate → Bool → Given
 dated_member name None is_whole = member_without_content name
 dated_member name (Some date) is_whole = record { name = name; content = Some (content.Date date); is_whole = is_whole }
@@ -122,14 +123,14 @@ if_date name (Some text) = member_of_date name text ∷ []
 unfoldable pub access_members : List VariableLine → List Given
 access_members lines = if_date (codes "accessed") (variable_text (codes "accessed") lines) ++ other_members (codes "accessed") lines
 
--- the members of the date of publication with the texts of the tags PY and DA: if PY is the year of DA, the date is that of DA; if it is
--- another date, DA is lost
+-- the members of the date of publication with the texts of the tags PY, or else Y1, and DA: if PY is the year of DA, the date is that of
+-- DA; if it is another date, DA is lost
 abbrev pub year_or_day : List ℕ → List ℕ → List Given
 year_or_day year day =
     if bytes_eq year day || is_year_of year day then member_of_date (codes "issued") day ∷ []
     else member_of_date (codes "issued") year ∷ member_without_content (codes "DA") ∷ []
 
--- the members of the date of publication with the texts of the tags PY and DA, if there are any
+-- the members of the date of publication with the texts of the tags PY or Y1, and DA, if there are any
 abbrev pub issued_given : Option (List ℕ) → Option (List ℕ) → List Given
 issued_given year None = if_date (codes "issued") year
 issued_given None (Some day) = member_of_date (codes "issued") day ∷ []
@@ -169,7 +170,7 @@ pages_members lines =
     pages_given (variable_text (codes "page") lines) (variable_text (codes "last-page") lines)
     ++ (other_members (codes "page") lines ++ other_members (codes "last-page") lines)
 
--- the members of a variable. `day` and `last-page` have none of their own, but those of `issued` and `page`, and the text of `id` is the
+-- the members of a variable. `day` and `last-page` have none; those of `issued` and `page` include their lines. The text of `id` is the
 -- key.
 unfoldable pub members_of : List VariableLine → List ℕ → List Given
 members_of lines name =
@@ -203,6 +204,6 @@ unknown_line line = if is_variable line.variable then [] else member_without_con
 unfoldable pub type_member : List ℕ → List Given
 type_member kind = if length (known_item_type kind) == 0 then member_without_content (codes "TY") ∷ [] else []
 
--- the members of a record of this type: those of each variable, and those of the lines that have no variable
+-- the members of a record of this type: that of an unknown type, those of each variable, and those of the lines that have no variable
 unfoldable pub members : List ℕ → List VariableLine → List Given
 members kind lines = type_member kind ++ (flat_map (members_of lines) variables ++ flat_map unknown_line lines)

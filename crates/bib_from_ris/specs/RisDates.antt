@@ -73,6 +73,6 @@ is_only_year text = (length (month_portion text) == 0) && ((length (day_portion 
 abbrev pub has_year : List ℕ → List ℕ → Bool
 has_year year day = bytes_eq year (year_portion day) || bytes_eq year (left_of_hyphen day)
 
--- whether `year`, the text of the tag PY, is part of `day`, the text of the tag DA: it is only a year, and it is that of `day`
+-- whether `year`, the text of the tag PY or Y1, is part of `day`, the text of the tag DA: it is only a year, and it is that of `day`
 unfoldable pub is_year_of : List ℕ → List ℕ → Bool
 is_year_of year day = is_only_year year && has_year (year_portion year) day

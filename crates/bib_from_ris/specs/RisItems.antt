@@ -20,7 +20,7 @@ use Rattle.bib_from_ris.specs.declared.sections.Section.{Section}
 abbrev pub numbered_id : ℕ → List ℕ
 numbered_id number = codes "ris" ++ decimal number
 
--- the text that the key of a record comes from: the texts of the tags ID or DO, or else `ris` and the number of the record, from 1
+-- the text that the key of a record comes from: the text of the tag ID, or else of DO, or else `ris` and the number of the record, from 1
 abbrev pub id_with : Option (List ℕ) → Option (List ℕ) → ℕ → List ℕ
 id_with (Some id) doi number = id
 id_with None (Some doi) number = doi
@@ -53,7 +53,7 @@ ris_sections text = sections_of (lines_of_ris text)
 abbrev pub ris_items : List ℕ → List GivenItem
 ris_items text = record_items 1 (ris_sections text)
 
--- the loss of a line that is in no record: its name is the tag, or the text of a line without a tag, and its key is empty
+-- the loss of a line that is in no record, if it has a value: its name is the tag, or the text of a line without a tag. Its key is empty
 abbrev pub outside_loss : RisLine → List Loss
 outside_loss line =
     if length line.value == 0 then [] else record { id = []; name = first_name line.tag line.value; kind = NoField } ∷ []

@@ -15,7 +15,7 @@ is_book_itself = is_among_words (codes "BOOK EBOOK EDBOOK RPRT")
 abbrev pub is_in_series : List ℕ → Bool
 is_in_series = is_among_words (codes "BOOK EBOOK EDBOOK CHAP ECHAP CONF CPAPER ENCYC DICT PAMP")
 
--- the item type of a picture, a map, a film, a sound, a talk, or any other work; nothing for another type
+-- the item type of a picture, a map, a film, a sound, a talk, or a work of no special type (GEN); nothing for another type
 unfoldable pub media_type : List ℕ → List ℕ
 media_type kind =
     if is_among_words (codes "ART FIGURE") kind then codes "graphic"
@@ -51,7 +51,7 @@ grey_type kind =
     else if is_among_words (codes "UNPB MANSCPT") kind then codes "manuscript"
     else law_type kind
 
--- the item type of a book, a part of a book, or a part of a periodical, or `grey_type`
+-- the item type of a book, a periodical, or a part of one of these, or `grey_type`
 unfoldable pub known_item_type : List ℕ → List ℕ
 known_item_type kind =
     if is_among_words (codes "JOUR EJOUR INPR ABST") kind then codes "article-journal"

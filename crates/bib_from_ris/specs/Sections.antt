@@ -23,7 +23,7 @@ sections_after section [] = section ∷ []
 sections_after section (line ∷ rest) =
     if begins_section line then section ∷ sections_after (section_with line) rest else sections_after (section_and_line section line) rest
 
--- the sections of lines; the first has the lines before the first record, after `no_line`
+-- the sections of lines; the first has the lines before the first `TY` or `ER`, after `no_line`
 unfoldable pub sections_of : List RisLine → List Section
 sections_of lines = sections_after (section_with no_line) lines
 

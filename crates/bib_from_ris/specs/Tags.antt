@@ -66,7 +66,8 @@ number_variable kind =
 abbrev pub edition_variable : List ℕ → List ℕ
 edition_variable kind = if bytes_eq kind (codes "COMP") then codes "version" else codes "edition"
 
--- the variable for a serial number: an ISSN has nine characters, and an ISBN at least ten
+-- the variable for a serial number: ISSN for a periodical or for fewer than ten bytes. An ISSN has nine characters, and an ISBN at least
+-- ten
 abbrev pub serial_variable : List ℕ → List ℕ → List ℕ
 serial_variable kind value = if has_issues kind || nat_lt (length value) 10 then codes "ISSN" else codes "ISBN"
 

@@ -88,7 +88,7 @@ fn losses_of(
 
 /// Converts the records of a text of RIS to BibLaTeX entries, one for each record, in order. Also returns the lines that the entries
 /// lack or change. To find them, the source of the entries is parsed, and each entry is converted back to an item of CSL-JSON. Each
-/// member of the item of the record is compared with it. A line that is in no record has a loss with an empty key.
+/// member of the item of the record is compared with it. A line with a value that is in no record has a loss with an empty key.
 ///
 /// # Errors
 ///

@@ -159,7 +159,7 @@ fn has_year(year: &str, day: &str) -> bool
     year == year_in(day) || year == before
 }
 
-/// Returns whether `year`, the text of the tag PY, is part of `day`, the text of the tag DA: it is only a year, and it is that of `day`.
+/// Returns whether `year`, the text of the tag PY or Y1, is part of `day`, the text of the tag DA: it is only a year, and that of `day`.
 #[tactic(auto, unfolding(crate::specs::RisDates::is_year_of))]
 pub(crate) fn is_year_of(year: &str, day: &str) -> bool
     ensures { result ≡ spec.is_year_of year.now day.now }

@@ -1,4 +1,5 @@
-//! Makes the members of the item of a record. Each line of the record is in the content of a variable, or has a member without content.
+//! Makes the members of the item of a record. Each line with a value is in the content of a variable, is the text of the key, or has a
+//! member without content.
 
 ghost use Rattle.std.specs.Prelude.{◌≡◌, ◌∷◌, ◌++◌, [], codes, encode_utf8_all, OnOk, IfOk};
 ghost use Rattle.std.specs.List.{flat_map};
@@ -165,8 +166,8 @@ fn push_access(
     push_others(alloc, out, lines, "accessed")
 }
 
-// Appends the member of the date of publication with the texts of the tags PY and DA, which differ or not. If PY is the year of DA, the
-// date is that of DA. If it is another date, DA is lost.
+// Appends the members of the date of publication with the texts of the tags PY or Y1, and DA. If `year` is the year of `day`, the date is
+// that of DA. If it is another date, DA is lost.
 fn push_both_dates(
     alloc: Global,
     out: &mut Items<Given>,
@@ -182,7 +183,7 @@ fn push_both_dates(
     push_lost(alloc, out, "DA")
 }
 
-// Appends the member of the date of publication with the texts of the tags PY and DA, if there are any.
+// Appends the members of the date of publication with the texts of the tags PY or Y1, and DA, if there are any.
 fn push_issued_date(
     alloc: Global,
     out: &mut Items<Given>,
@@ -300,8 +301,8 @@ fn push_pages(
     push_others(alloc, out, lines, "last-page")
 }
 
-// Appends the members of a variable. `day` and `last-page` have none of their own, but those of `issued` and `page`, and the text of `id`
-// is the key.
+// Appends the members of a variable. `day` and `last-page` have none; those of `issued` and `page` include their lines. The text of `id` is
+// the key.
 #[tactic(auto, unfolding(crate::specs::Members::members_of))]
 fn push_members_of(
     alloc: Global,
@@ -394,7 +395,8 @@ fn push_type(alloc: Global, out: &mut Items<Given>, kind: &str) -> Result<(), Al
     Ok(())
 }
 
-/// Returns the members of a record of this type: those of each variable, and those of the lines that have no variable.
+/// Returns the members of a record of this type: that of an unknown type, those of each variable, and those of the lines that have no
+/// variable.
 #[tactic(auto, unfolding(crate::specs::Members::members))]
 pub(crate) fn members(
     alloc: Global,

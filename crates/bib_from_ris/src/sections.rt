@@ -8,7 +8,7 @@ use bib_text::items::Items;
 use bib_text::text::Text;
 use std::alloc::{AllocError, Global};
 
-/// A record, or the lines between two records.
+/// A record, or lines that are in no record.
 #[derive(Debug, Drop)]
 pub struct Section {
     /// The line with the tag `TY` or `ER` that begins the section; a line without a tag for the first section.
@@ -44,7 +44,7 @@ fn section_with(alloc: Global, head: RisLine) -> Section
     }
 }
 
-/// Returns the sections of lines. The first has the lines before the first record.
+/// Returns the sections of lines. The first has the lines before the first `TY` or `ER`.
 #[tactic(auto, unfolding(crate::specs::Sections::sections_of))]
 pub(crate) fn sections_of(alloc: Global, lines: &[RisLine]) -> Result<Items<Section>, AllocError>
     ensures { IfOk result (λ sections. sections ≡ spec.sections_of lines.now) }

@@ -128,7 +128,8 @@ fn edition_variable(kind: &str) -> &'static str
     if kind == "COMP" { "version" } else { "edition" }
 }
 
-// Returns the variable for a serial number: an ISSN has nine characters, and an ISBN at least ten.
+// Returns the variable for a serial number: ISSN for a periodical or for fewer than ten bytes. An ISSN has nine characters, and an ISBN at
+// least ten.
 fn serial_variable(kind: &str, value: &str) -> &'static str
     ensures { result.now ≡ spec.serial_variable kind.now value.now }
 {

@@ -41,7 +41,7 @@ pub(crate) fn push_text(
     Ok(())
 }
 
-// Appends a member without content for a line of a variable that has another text.
+// Appends a member without content for a line of a variable, if its value isn't this text.
 fn push_other(
     alloc: Global,
     out: &mut Items<Given>,
@@ -115,7 +115,7 @@ fn is_english_record(lines: &[VariableLine]) -> bool
     }
 }
 
-// Returns the text of a title. In English, its words with capitals keep their case.
+// Returns the text of a title. In English, this is its `protected_title`.
 fn record_title(alloc: Global, is_in_english: bool, text: &str) -> Result<Text, AllocError>
     ensures { IfOk result (λ title. title ≡ spec.record_title is_in_english text.now) }
 {

@@ -39,7 +39,8 @@ pub(crate) fn is_in_series(kind: &str) -> bool
     )
 }
 
-// Returns the item type of a picture, a map, a film, a sound, a talk, or any other work, or an empty text for another type.
+// Returns the item type of a picture, a map, a film, a sound, a talk, or a work of no special type (GEN), or an empty text for another
+// type.
 #[tactic(auto, unfolding(crate::specs::RisTypes::media_type))]
 fn media_type(kind: &str) -> &'static str
     ensures { result.now ≡ spec.media_type kind.now }

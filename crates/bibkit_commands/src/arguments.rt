@@ -270,7 +270,7 @@ fn source_named(name: Option<&str>) -> Option<Source>
     }
 }
 
-// Returns why a command line is wrong that requests this format, and no dialect.
+// Returns the reason why a command line that requests this format and no dialect is refused.
 fn dialect_required(source: Source) -> &'static str
     ensures { result.now ≡ spec.dialect_required source }
 {

@@ -90,7 +90,7 @@ fn items_stop(
     }
 }
 
-// Returns the message and status 1 for items or records whose entries can't be parsed.
+// Returns the message and status 1 for items, records or objects whose entries can't be parsed.
 fn unread_stop(alloc: Global, name: &str) -> Result<Stop, AllocError> {
     let line = format!(in alloc; "bibkit: {name}: the converted entries can't be parsed\n")?;
     Ok(Stop::Said(line, 1))
@@ -204,8 +204,7 @@ fn loss_text(kind: LossKind) -> &'static str
     }
 }
 
-// Returns the text of a note on members of an item for which the entry has no field. `names` has the first name, or several names with
-// commas between them.
+// Returns the end of the note on members of an item for which the entry has no field. `has_several` says whether there are several members.
 fn left_out_text(has_several: bool) -> &'static str
     ensures { result.now ≡ spec.left_out_text has_several }
 {
@@ -292,7 +291,7 @@ fn edit_of<'a>(dialect: Dialect) -> Edit<'a> {
     }
 }
 
-// Returns what a file of this format contains.
+// Returns the word for the contents of a file of this format.
 fn things(source: Source) -> &'static str {
     match source {
         Source::Csl => "items",
@@ -351,7 +350,8 @@ fn import_file(
     }
 }
 
-/// Prints the entries of the items, records or objects of each file in turn, with the types and fields of a dialect. Returns the greatest status.
+/// Prints the entries of the items, records or objects of each file in turn, with the types and fields of a dialect. Returns the greatest
+/// status.
 pub fn run_import(rt: &HostRuntime, dialect: Dialect, source: Source, names: &[&str]) -> u8 {
     let mut status = 0;
     'names: for (index, name) in names.iter().enumerate() {

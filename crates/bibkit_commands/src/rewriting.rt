@@ -82,7 +82,7 @@ fn note_line(
     )
 }
 
-// Returns whether a file has no entry, no definition of an abbreviation and no preamble.
+// Returns whether a file has no entry, no definition of an abbreviation and no text in a preamble.
 fn has_nothing(raw: &RawBibliography<'_>) -> bool {
     raw.entries.is_empty() && raw.abbreviations.is_empty() && raw.preamble.is_empty()
 }
@@ -240,7 +240,8 @@ fn rewrite_inputs(rt: &HostRuntime, dialect: Dialect, inputs: &[Input<'_>]) -> R
     }
 }
 
-// Reads files and prints them with the types and fields of a dialect. Reports each file that can't be read, and returns the greatest status.
+// Reads files and prints them with the types and fields of a dialect. Reports each file that can't be read, and returns the greatest
+// status.
 fn rewrite_files(rt: &HostRuntime, dialect: Dialect, names: &[&str]) -> Result<u8, Stop> {
     let mut inputs = Vec::new(rt.alloc());
     let mut status = 0;
@@ -253,9 +254,9 @@ fn rewrite_files(rt: &HostRuntime, dialect: Dialect, names: &[&str]) -> Result<u
     Ok(rewrite_inputs(rt, dialect, &inputs)?.max(status))
 }
 
-/// Prints files in turn with the types and fields of a dialect, and returns the greatest status. For BibTeX, if one of several files defines
-/// the abbreviation of a month, all files that can be read are converted as one text. If one of these can't be converted then, nothing is
-/// printed.
+/// Prints files in turn with the types and fields of a dialect, and returns the greatest status. For BibTeX, if one of several files
+/// defines the abbreviation of a month, all files that can be read are converted as one text. If one of these can't be converted then,
+/// nothing is printed.
 pub fn run_rewrite(rt: &HostRuntime, dialect: Dialect, names: &[&str]) -> u8 {
     match rewrite_files(rt, dialect, names) {
         Ok(status) => status,
