@@ -7,9 +7,10 @@ use bib_text::text::Text;
 /// A parsed item.
 #[derive(Debug, Drop)]
 pub struct GivenItem {
-    /// The name of the member that the key of the entry comes from: `citation-key`, or else `id`, or else `DOI`.
+    /// The name of the member that the key of the entry comes from: `citation-key`, or else `id`, or else `DOI`. For a record of RIS, it is
+    /// `ID`.
     pub key_member: Text,
-    /// The text of that member.
+    /// The text that the key of the entry comes from.
     pub id: Text,
     /// The value of the member `type`.
     pub kind: Text,

@@ -1,5 +1,5 @@
 -- Machinery: words of private contracts.
--- The file, the parents, the gathered fields and the fields that entries lack, in the types of the code.
+-- The file, the parents, the gathered fields and the children, in the types of the code.
 use Rattle.std.specs.Prelude.{◌≡◌, ℕ, String, ◌<◌, ◌≤◌, Bool, if◌then◌else◌, List, [], ◌∷◌, ◌++◌, length, map, slice_index_or, Option, Some, unwrap_or}
 use Rattle.std.specs.BTreeMap.{BTreeMap, get_by_text}
 use Rattle.std.specs.BTreeSet.{contains_text}
@@ -125,7 +125,7 @@ AreGivenCut text given = (name : List ℕ) (n : Named) → given_at given name �
 abbrev pub last_or_removed : List ℕ → Bool → List Named → FieldReading → List FieldReading → FieldChange
 last_or_removed text is_last new f following = if is_last then last_change text new f following else FieldChange.removed
 
--- ---- fields that entries lack
+-- ---- children
 
 -- the type of a child is that of its entry
 abbrev pub IsChild : Child → Type 0
