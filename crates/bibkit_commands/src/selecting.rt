@@ -141,7 +141,7 @@ fn select_file<K: Sink>(
     Ok((is_found, status))
 }
 
-// Prints the selected entries of files as one database. Returns whether there is one, and the status of reading the files.
+// Prints the selected entries of files as one database. Returns whether an entry is selected, and the status of reading the files.
 fn select_joined<K: Sink>(
     rt: &HostRuntime,
     selections: &[Selection],
@@ -156,7 +156,7 @@ fn select_joined<K: Sink>(
     Ok((is_found, database.status))
 }
 
-// Prints the selected entries of each file. Returns whether there is one, and the greatest status of the files.
+// Prints the selected entries of each file. Returns whether an entry is selected, and the greatest status of the files.
 fn select_each<K: Sink>(
     rt: &HostRuntime,
     selections: &[Selection],

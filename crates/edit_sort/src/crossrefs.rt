@@ -83,7 +83,7 @@ fn index_of(alloc: Global, names: &Claims, key: &str) -> Result<Option<usize>, A
     Ok(names.get(lower.as_str()))
 }
 
-// Returns the owner of each entry: the index that its key points to, which is that of the first entry with its key.
+// Returns the owner of each entry: the index that its key points to, which is that of the first entry with its key in any ASCII case.
 pub(crate) fn owners_of(
     alloc: Global,
     names: &Claims,
