@@ -269,7 +269,7 @@ printf '@misc{a, title={\e$B4A;z\e(B \xe9}, year={2000}}\n' >escapes.bib
 run 'an escape sequence and bytes that are not UTF-8' 1 $'escapes.bib:1:28: error: not UTF-8 from here on, so the file is read as Windows-1252 [unread-bytes]\nescapes.bib:1:17: warning: an escape sequence, as in ISO-2022-JP; the characters after it aren\'t decoded [escape-sequence]\nerrors: 1, warnings: 1\n' lint --only unread-bytes,escape-sequence escapes.bib
 printf '@misc{a,\n title={\xc3\xa9}, author={\xc3\xa9 \xc3\xa9}, nofield={x}, year={2000}}\n' >columns.bib
 run 'columns are characters' 1 $'columns.bib:2:27: warning: unknown field `nofield` [unknown-field]\nerrors: 0, warnings: 1\n' lint columns.bib
-printf '@misc{a, title={A}, year={2000}, volume={12A}, owner={me}}\n' >infos.bib
+printf '@misc{a, title={A}, year={2000}, volume={1 A}, owner={me}}\n' >infos.bib
 printf '@article{k, titel={A}, title={B}, titel={C}\n' >cut.bib
 run 'findings of an entry that is cut' 1 $'cut.bib:1:13: warning: k: unknown field `titel`; did you mean `title`? [unknown-field]\ncut.bib:1:35: warning: k: unknown field `titel`; did you mean `title`? [unknown-field]\ncut.bib:1:35: warning: k: field `titel` occurs again; BibTeX keeps the first, Biber the last [repeated-field]\ncut.bib:2:1: error: k: expected comma [syntax]\nerrors: 1, warnings: 3\n' lint cut.bib
 printf '@book{a, author={}, title={T}, year=2001, issn={0378-5954}}\n@misc{, title={T}, year=2001}\n' >empty.bib
@@ -598,9 +598,8 @@ run 'references to another file, and each file by itself' 1 $'named.bib:1:34: wa
     lint --each named.bib key1.bib
 printf '@incollection{c, author={C}, title={T}, crossref={par}}\n' >kid.bib
 printf '@collection{par, editor={E}, title={P}, year={2000}}\n' >par.bib
-early=$'kid.bib:1:41: info: c: the parent `par` comes first; BibTeX finds it only if it is cited too [early-parent]\n'
 run 'required fields from the file after' 0 "$clean" lint kid.bib par.bib
-run 'required fields from the file before' 0 "$early"$'errors: 0, warnings: 0, info: 1\n' lint par.bib kid.bib
+run 'required fields from the file before' 0 "$clean" lint par.bib kid.bib
 run 'required fields from another file, and each file by itself' 1 'kid.bib:1:15: warning: c: missing editor [missing-field]
 kid.bib:1:15: warning: c: missing booktitle [missing-field]
 kid.bib:1:15: warning: c: missing year [missing-field]

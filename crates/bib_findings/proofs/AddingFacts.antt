@@ -38,41 +38,42 @@ use Rattle.bib_findings.specs.declared.codes.Code.TheVariants.{SuperfluousField}
 use Rattle.bib_findings.specs.declared.finding.Finding.{Finding}
 
 -- the findings of the malformed fields up to an index are those of the fields before it and of the one at it
-malformed_more : (said : EntryReading) (errors : List (List ℕ × TypeError)) (index : ℕ) (item : List ℕ × TypeError)
+malformed_more : (said : EntryReading) (entry : Entry) (errors : List (List ℕ × TypeError)) (index : ℕ) (item : List ℕ × TypeError)
     → index < length errors → item ≡ get_or errors index item
-    → malformed_findings said (take (index + 1) errors)
-    ≡ malformed_findings said (take index errors) ++ malformed_findings said (item ∷ [])
-malformed_more said errors index item within is =
-    let reported : List ℕ × TypeError → Bool = λ e. is_reported_field said e.0 in
-    ap (malformed_findings said) (take_more errors index item within ∙ ap (λ e. take index errors ++ e ∷ []) (sym is))
-    ∙ ap (map (malformed_finding said)) (filter-append reported (take index errors) (item ∷ []))
-    ∙ map-append (malformed_finding said) (filter reported (take index errors)) (filter reported (item ∷ []))
+    → malformed_findings said entry (take (index + 1) errors)
+    ≡ malformed_findings said entry (take index errors) ++ malformed_findings said entry (item ∷ [])
+malformed_more said entry errors index item within is =
+    let reported : List ℕ × TypeError → Bool = λ e. is_reported_field said entry e.0 in
+    ap (malformed_findings said entry) (take_more errors index item within ∙ ap (λ e. take index errors ++ e ∷ []) (sym is))
+    ∙ ap (map (malformed_finding said entry)) (filter-append reported (take index errors) (item ∷ []))
+    ∙ map-append (malformed_finding said entry) (filter reported (take index errors)) (filter reported (item ∷ []))
 
 -- appending the finding of the next malformed field, if its error is reported, extends the findings of the first ones by it
-pub reported_next : (said : EntryReading) (errors : List (List ℕ × TypeError)) (index : ℕ) (item : List ℕ × TypeError)
+pub reported_next : (said : EntryReading) (entry : Entry) (errors : List (List ℕ × TypeError)) (index : ℕ) (item : List ℕ × TypeError)
     (old mid new : List Finding) (finding : Finding) → index < length errors → item ≡ get_or errors index item
-    → mid ≡ old ++ malformed_findings said (take index errors)
-    → is_reported_field said item.0 ≡ true → new ≡ mid ++ finding ∷ [] → finding ≡ malformed_finding said item
-    → new ≡ old ++ malformed_findings said (take (index + 1) errors)
-reported_next said errors index item old mid new finding within is before reported more of_item =
-    let one : malformed_findings said (item ∷ []) ≡ malformed_finding said item ∷ [] =
-    ap (λ b. map (malformed_finding said) (cond b (item ∷ []) [])) reported in
-    more ∙ ap (λ l. l ++ finding ∷ []) before ∙ append_assoc old (malformed_findings said (take index errors)) (finding ∷ [])
-    ∙ ap (λ f. old ++ (malformed_findings said (take index errors) ++ f ∷ [])) of_item
-    ∙ ap (λ l. old ++ (malformed_findings said (take index errors) ++ l)) (sym one)
-    ∙ ap (λ l. old ++ l) (sym (malformed_more said errors index item within is))
+    → mid ≡ old ++ malformed_findings said entry (take index errors)
+    → is_reported_field said entry item.0 ≡ true → new ≡ mid ++ finding ∷ [] → finding ≡ malformed_finding said entry item
+    → new ≡ old ++ malformed_findings said entry (take (index + 1) errors)
+reported_next said entry errors index item old mid new finding within is before reported more of_item =
+    let one : malformed_findings said entry (item ∷ []) ≡ malformed_finding said entry item ∷ [] =
+    ap (λ b. map (malformed_finding said entry) (cond b (item ∷ []) [])) reported in
+    more ∙ ap (λ l. l ++ finding ∷ []) before ∙ append_assoc old (malformed_findings said entry (take index errors)) (finding ∷ [])
+    ∙ ap (λ f. old ++ (malformed_findings said entry (take index errors) ++ f ∷ [])) of_item
+    ∙ ap (λ l. old ++ (malformed_findings said entry (take index errors) ++ l)) (sym one)
+    ∙ ap (λ l. old ++ l) (sym (malformed_more said entry errors index item within is))
 
 -- if the error of the next malformed field isn't reported, the findings of the first ones are also those up to it
-pub unreported_next : (said : EntryReading) (errors : List (List ℕ × TypeError)) (index : ℕ) (item : List ℕ × TypeError)
+pub unreported_next : (said : EntryReading) (entry : Entry) (errors : List (List ℕ × TypeError)) (index : ℕ) (item : List ℕ × TypeError)
     (old mid : List Finding) → index < length errors → item ≡ get_or errors index item
-    → mid ≡ old ++ malformed_findings said (take index errors)
-    → is_reported_field said item.0 ≡ false → mid ≡ old ++ malformed_findings said (take (index + 1) errors)
-unreported_next said errors index item old mid within is before unreported =
-    let none : malformed_findings said (item ∷ []) ≡ [] = ap (λ b. map (malformed_finding said) (cond b (item ∷ []) [])) unreported in
+    → mid ≡ old ++ malformed_findings said entry (take index errors)
+    → is_reported_field said entry item.0 ≡ false → mid ≡ old ++ malformed_findings said entry (take (index + 1) errors)
+unreported_next said entry errors index item old mid within is before unreported =
+    let none : malformed_findings said entry (item ∷ []) ≡ [] =
+    ap (λ b. map (malformed_finding said entry) (cond b (item ∷ []) [])) unreported in
     before
-    ∙ ap (λ l. old ++ l) (sym (append-nil (malformed_findings said (take index errors))))
-    ∙ ap (λ l. old ++ (malformed_findings said (take index errors) ++ l)) (sym none)
-    ∙ ap (λ l. old ++ l) (sym (malformed_more said errors index item within is))
+    ∙ ap (λ l. old ++ l) (sym (append-nil (malformed_findings said entry (take index errors))))
+    ∙ ap (λ l. old ++ (malformed_findings said entry (take index errors) ++ l)) (sym none)
+    ∙ ap (λ l. old ++ l) (sym (malformed_more said entry errors index item within is))
 
 -- appending three lists in turn appends their concatenation
 added_thrice : (old one two new a b c : List Finding) → one ≡ old ++ a → two ≡ one ++ b → new ≡ two ++ c → new ≡ old ++ (a ++ (b ++ c))
@@ -87,10 +88,10 @@ added_four_times old one two three new a b c d first second third fourth =
     ∙ append_assoc old a (b ++ (c ++ d))
 
 -- the findings of the three parts of a report
-abbrev parts : EntryReading → Names → Names → List (List ℕ × TypeError) → List Finding
-parts said missing superfluous errors =
+abbrev parts : EntryReading → Entry → Names → Names → List (List ℕ × TypeError) → List Finding
+parts said entry missing superfluous errors =
     map (lacking_finding said) missing
-    ++ (map (field_finding said SuperfluousField (codes "superfluous")) superfluous ++ malformed_findings said errors)
+    ++ (map (field_finding said SuperfluousField (codes "superfluous")) superfluous ++ malformed_findings said entry errors)
 
 -- appending the findings of the three parts of a report adds the findings of the report
 pub report_added : {E U : Type 0} (said : EntryReading) (entry : Entry) (missing : Names)
@@ -98,13 +99,13 @@ pub report_added : {E U : Type 0} (said : EntryReading) (entry : Entry) (missing
     → errors ≡ listed → AreMalformed entry listed
     → one ≡ old ++ map (lacking_finding said) missing
     → two ≡ one ++ map (field_finding said SuperfluousField (codes "superfluous")) (superfluous_fields entry)
-    → OnOk r (new ≡ two ++ malformed_findings said errors) → OnOk r (Adds (AreOfReport missing said entry) old new)
+    → OnOk r (new ≡ two ++ malformed_findings said entry errors) → OnOk r (Adds (AreOfReport missing said entry) old new)
 report_added said entry missing errors listed old one two new (Ok u) same_errors malformed first second third = record {
   added = report_findings missing said entry listed;
   are = record { errors = listed; malformed = malformed; are = refl };
   new_is =
       added_thrice old one two new _ _ _ first second third
-      ∙ ap (λ all. old ++ parts said missing (superfluous_fields entry) all) same_errors;
+      ∙ ap (λ all. old ++ parts said entry missing (superfluous_fields entry) all) same_errors;
 }
 report_added said entry missing errors listed old one two new (Err x) same_errors malformed first second third = tt
 

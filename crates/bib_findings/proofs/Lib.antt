@@ -23,7 +23,7 @@ mod TypeFacts
 mod UnusedFacts
 mod WordFacts
 mod AfterFacts
-mod CutFacts
+mod ChosenFacts
 mod DefinitionFacts
 mod KeyFacts
 mod RepeatedFacts

@@ -36,11 +36,12 @@ demands_by_type =
     ∷ (fields "set", fields "entryset" ∷ [])
     ∷ []
 
--- the types that require a date, or a year
+-- the types that require a date, or a year. Biber requires one of a `set`, too, but its source copies the date of the first member to the
+-- set, unless it runs as a tool
 abbrev pub dated_types : Names
 dated_types = fields "article book mvbook inbook bookinbook suppbook booklet collection mvcollection incollection suppcollection manual"
     ++ (fields "misc online electronic www patent periodical suppperiodical proceedings inproceedings conference reference inreference"
-    ++ fields "report techreport set thesis mastersthesis phdthesis unpublished")
+    ++ fields "report techreport thesis mastersthesis phdthesis unpublished")
 
 -- the requirements of a type, besides a date
 abbrev pub demands_of : List ℕ → List Demand

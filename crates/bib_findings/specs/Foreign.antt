@@ -18,18 +18,19 @@ foreign_fields =
     ++ (fields "review username"
     ++ (fields "date-added date-modified local-url rating read"
     ++ (fields "posted-at"
-    ++ (fields "acmid articleno issue_date numpages"
-    ++ (fields "adsnote adsurl collaboration reportnumber slaccitation"
-    ++ (fields "pmcid pmid"
+    ++ (fields "acmid issue_date"
+    ++ (fields "adsnote adsurl reportnumber slaccitation"
+    ++ (fields "pmcid pmid chemicals completed issn-linking nlm-id pubmodel revised"
     ++ (fields "abstractnote accessdate contents copyright internal-note keyword-list price rights source url-date"
-    ++ (fields "classification classcodes journalabr affiliation affiliationaddress conference conferenceyear meetingaddress meetingdate"
-    ++ (fields "meetingdate2 sponsor publisherinfo thesaurus pubcountry"
+    ++ (fields "classification classcodes journalabr affiliation affiliationaddress conference conferenceyear editoraddress"
+    ++ (fields "editoraffiliation meetingaddress meetingdate meetingdate2 sponsor publisherinfo thesaurus pubcountry"
     ++ (fields "author-email doc-delivery-number funding-acknowledgement funding-text journal-iso keywords-plus"
-    ++ fields "number-of-cited-references research-areas times-cited unique-id web-of-science-categories"))))))))))))))
+    ++ (fields "number-of-cited-references orcid-numbers research-areas researcherid-numbers times-cited unique-id"
+    ++ fields "web-of-science-categories")))))))))))))))
 
 -- the beginnings of other names that such programs use
 abbrev pub foreign_prefixes : Names
-foreign_prefixes = fields "bdsk- citeulike- jabref- mendeley- zotero-"
+foreign_prefixes = fields "bdsk- citeulike- jabref- jstor_ mendeley- zotero-"
 
 -- whether a name begins with a text, in any ASCII case
 abbrev pub begins_in_any_case : List ℕ → List ℕ → Bool

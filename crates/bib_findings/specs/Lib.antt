@@ -9,6 +9,7 @@ pub mod Entries
 pub mod EntryNames
 pub mod Errors
 pub mod Fields
+pub mod DateParts
 pub mod DemandRows
 pub mod Demands
 pub mod Duplicates
@@ -43,6 +44,7 @@ pub mod Stray
 pub mod Types
 pub mod UnusedDefinitions
 pub mod Urls
+pub mod VolumeLabels
 pub mod UsedNames
 pub mod Words
 pub mod Years

@@ -1,17 +1,28 @@
 -- Meaning: words of public contracts.
 -- The findings of entries whose `crossref` names an earlier entry. If the document doesn't cite this parent itself, BibTeX reports a bad
 -- cross reference, and the entry inherits nothing. Biber inherits as usual.
-use Rattle.std.specs.Prelude.{ℕ, Bool, not, ◌==◌, ◌&&◌, List, [], ◌∷◌, codes, length, if◌then◌else◌}
-use Rattle.std.specs.List.{list_any}
+use Rattle.std.specs.Prelude.{ℕ, Bool, not, ◌==◌, ◌&&◌, List, [], ◌∷◌, ◌++◌, codes, length, if◌then◌else◌}
+use Rattle.std.specs.List.{filter, list_any}
 use Rattle.std.specs.Str.{str_eq_ignore_ascii_case, trim}
+use Rattle.bib_tables.specs.Requirements.{Names, fields}
 use Rattle.bib_syntax.specs.Reading.{EntryReading}
 use Rattle.bib_findings.specs.After.{each_after}
 use Rattle.bib_findings.specs.Entries.{field_place}
 use Rattle.bib_findings.specs.Errors.{finding_at}
 use Rattle.bib_findings.specs.Fields.{named_message}
 use Rattle.bib_findings.specs.Identities.{own_literal}
+use Rattle.bib_findings.specs.Nearest.{is_known_name}
 use Rattle.bib_findings.specs.declared.codes.Code.TheVariants.{EarlyParent}
 use Rattle.bib_findings.specs.declared.finding.Finding.{Finding}
+
+-- the entry types of BibTeX's standard styles, such as plain.bst
+abbrev pub bibtex_types : Names
+bibtex_types = fields "article book booklet conference inbook incollection inproceedings manual mastersthesis misc phdthesis"
+    ++ fields "proceedings techreport unpublished"
+
+-- whether BibTeX's standard styles have the type of an entry, in any ASCII case
+abbrev pub has_bibtex_type : EntryReading → Bool
+has_bibtex_type said = is_known_name bibtex_types said.kind.text
 
 -- the `crossref` of an entry without the white space around it; the empty text if the entry has none as one literal
 abbrev pub parent_key : EntryReading → List ℕ
@@ -33,6 +44,11 @@ early_after earlier said =
     let parent : List ℕ = parent_key said in
     if not (length parent == 0) && list_any (is_key_of parent) earlier then early_finding said parent ∷ [] else []
 
--- the findings of the entries whose `crossref` is one literal, and is the key of an earlier one in any ASCII case
+-- the findings of those of these entries whose `crossref` is one literal, and is the key of an earlier one in any ASCII case
+abbrev pub early_among : List EntryReading → List Finding
+early_among entries = each_after early_after [] entries
+
+-- the findings of the entries with a type that BibTeX knows whose `crossref` is one literal, and is the key of an earlier such entry in any
+-- ASCII case. A file in which such a child or parent has another type is meant for BibLaTeX
 abbrev pub early_findings : List EntryReading → List Finding
-early_findings entries = each_after early_after [] entries
+early_findings entries = early_among (filter has_bibtex_type entries)

@@ -2,11 +2,11 @@
 -- The findings of the report on an entry: missing, superfluous and malformed fields.
 use Rattle.std.specs.Prelude.{◌≡◌, ℕ, Bool, true, false, not, ◌&&◌, ◌||◌, List, [], ◌∷◌, ◌++◌, bytes_eq, codes, if◌then◌else◌, map}
 use Rattle.std.specs.Char.{is_ascii_alphanumeric}
-use Rattle.std.specs.List.{filter, list_any}
+use Rattle.std.specs.List.{filter}
 use Rattle.std.specs.Option.{option_map_or}
 use Rattle.std.specs.Str.{trim}
 use Rattle.std.specs.declared.ops.Range.{Range}
-use Rattle.bib_tables.specs.Requirements.{Names, fields}
+use Rattle.bib_tables.specs.Requirements.{Names}
 use Rattle.bib_tables.specs.TypeError.{type_kind_text}
 use Rattle.bib_tables.specs.declared.mechanics.EntryType.{EntryType}
 use Rattle.bib_tables.specs.declared.mechanics.EntryType.TheVariants.{MvBook, MvCollection, MvReference, Unknown}
@@ -14,33 +14,21 @@ use Rattle.bib_tables.specs.declared.type_error.TypeError.{TypeError}
 use Rattle.bib_entry.specs.Reports.{AreMalformed, superfluous_of}
 use Rattle.bib_entry.specs.declared.entry.Entry.{Entry}
 use Rattle.bib_syntax.specs.Reading.{EntryReading}
+use Rattle.bib_findings.specs.DateParts.{faulty_part}
 use Rattle.bib_findings.specs.Demands.{missing_fields}
 use Rattle.bib_findings.specs.Entries.{field_finding, field_message, field_place, has_own_field, is_empty_value, last_named, range_or}
 use Rattle.bib_findings.specs.Errors.{finding_at}
 use Rattle.bib_findings.specs.Identities.{own_literal}
 use Rattle.bib_findings.specs.OtherDigits.{are_other_digits}
+use Rattle.bib_findings.specs.VolumeLabels.{is_volume_label}
 use Rattle.bib_findings.specs.declared.codes.Code.{Code}
 use Rattle.bib_findings.specs.declared.codes.Code.TheVariants as code
 use Rattle.bib_findings.specs.declared.finding.Finding.{Finding}
 
--- the field that contains the year of this date, if the date is in separate fields; any other name is unchanged
-abbrev pub year_name : List ℕ → List ℕ
-year_name name =
-    if bytes_eq name (codes "date") then codes "year" else if bytes_eq name (codes "eventdate") then codes "eventyear"
-    else if bytes_eq name (codes "origdate") then codes "origyear" else if bytes_eq name (codes "urldate") then codes "urlyear" else name
-
--- the fields that contain the year, the month and the day of this date, if the date is in separate fields
-abbrev pub date_part_names : List ℕ → Names
-date_part_names name =
-    if bytes_eq name (codes "date") then fields "year month day"
-    else if bytes_eq name (codes "eventdate") then fields "eventyear eventmonth eventday"
-    else if bytes_eq name (codes "origdate") then fields "origyear origmonth origday"
-    else if bytes_eq name (codes "urldate") then fields "urlyear urlmonth urlday"
-    else []
-
--- the place of a malformed field: its name, or the year if it is a date in separate fields, or else the entry's key
-abbrev pub malformed_place : EntryReading → List ℕ → Range ℕ
-malformed_place said name = range_or (field_place said (year_name name)) (last_named said.fields name)
+-- the place of a malformed field: its name, or the field that makes it malformed if it is a date in separate fields, or else the entry's
+-- key
+abbrev pub malformed_place : EntryReading → Entry → List ℕ → Range ℕ
+malformed_place said entry name = range_or (field_place said (faulty_part entry name)) (last_named said.fields name)
 
 -- whether an error of the field of this name is only information
 abbrev pub is_printed_anyway : List ℕ → Bool
@@ -51,9 +39,9 @@ abbrev pub malformed_code : List ℕ → Code
 malformed_code name = if is_printed_anyway name then code.NotANumber else code.MalformedField
 
 -- the finding of a field that can't be parsed as a value of its type, with the kind of the error
-abbrev pub malformed_finding : EntryReading → List ℕ × TypeError → Finding
-malformed_finding said e =
-    finding_at (malformed_code e.0) (malformed_place said e.0)
+abbrev pub malformed_finding : EntryReading → Entry → List ℕ × TypeError → Finding
+malformed_finding said entry e =
+    finding_at (malformed_code e.0) (malformed_place said entry e.0)
     (field_message said.key.text (codes "malformed") (e.0 ++ (codes ": " ++ type_kind_text e.1.kind)))
 
 -- the gender of several people of both genders, which BibLaTeX knows (manual, 2.2.3)
@@ -65,19 +53,20 @@ abbrev pub begins_alphanumeric : List ℕ → Bool
 begins_alphanumeric [] = false
 begins_alphanumeric (b ∷ rest) = is_ascii_alphanumeric b
 
--- whether BibLaTeX knows the text of a field or prints it as it is, although it can't be parsed: the gender `pp`, and pages that begin with
--- an ASCII letter or digit, such as `12A` or `xiv + 447`. Biber warns of ranges of pages without a start.
+-- whether BibLaTeX knows the text of a field or prints it as it is, although it can't be parsed: the gender `pp`, pages that begin with an
+-- ASCII letter or digit, such as `12A` or `xiv + 447`, and the usual label of a volume. Biber warns of ranges of pages without a start.
 abbrev pub is_known_text : List ℕ → List ℕ → Bool
 is_known_text name text =
     (bytes_eq name (codes "gender") && bytes_eq text plural_gender) || (bytes_eq name (codes "pages") && begins_alphanumeric text)
+    || (bytes_eq name (codes "volume") && is_volume_label text)
 
 -- whether an entry has a field of this name in the file, and the last one is empty
 abbrev pub has_empty : EntryReading → List ℕ → Bool
 has_empty said name = option_map_or is_empty_value (last_named said.fields name) false
 
--- whether the field of this name is empty or, for a date, one of the separate fields with its year, month and day
-abbrev pub is_empty_field : EntryReading → List ℕ → Bool
-is_empty_field said name = has_empty said name || list_any (has_empty said) (date_part_names name)
+-- whether the field of this name is empty or, for a date in separate fields, the one that makes it malformed
+abbrev pub is_empty_field : EntryReading → Entry → List ℕ → Bool
+is_empty_field said entry name = has_empty said name || has_empty said (faulty_part entry name)
 
 -- whether the field is `date`, and the year of the entry is a number in the digits of another script, which Biber reads
 abbrev pub has_year_in_other_digits : EntryReading → List ℕ → Bool
@@ -85,14 +74,13 @@ has_year_in_other_digits said name = bytes_eq name (codes "date") && are_other_d
 
 -- whether the error of a field is reported. An empty field isn't malformed. A text that BibLaTeX knows or prints as it is, and a year that
 -- Biber reads aren't reported
-abbrev pub is_reported_field : EntryReading → List ℕ → Bool
-is_reported_field said name =
-    not (is_empty_field said name) && not (is_known_text name (own_literal said name))
-    && not (has_year_in_other_digits said name)
+abbrev pub is_reported_field : EntryReading → Entry → List ℕ → Bool
+is_reported_field said entry name =
+    not (is_known_text name (own_literal said name) || has_year_in_other_digits said name) && not (is_empty_field said entry name)
 
 -- the findings of the malformed fields whose errors are reported
-abbrev pub malformed_findings : EntryReading → List (List ℕ × TypeError) → List Finding
-malformed_findings said errors = map (malformed_finding said) (filter (λ e. is_reported_field said e.0) errors)
+abbrev pub malformed_findings : EntryReading → Entry → List (List ℕ × TypeError) → List Finding
+malformed_findings said entry errors = map (malformed_finding said entry) (filter (λ e. is_reported_field said entry e.0) errors)
 
 -- whether a type isn't one of those whose fields are known
 abbrev pub is_unknown_type : EntryType → Bool
@@ -129,7 +117,7 @@ abbrev pub report_findings : Names → EntryReading → Entry → List (List ℕ
 report_findings missing said entry errors =
     map (lacking_finding said) missing
     ++ (map (field_finding said code.SuperfluousField (codes "superfluous")) (superfluous_fields entry)
-    ++ malformed_findings said errors)
+    ++ malformed_findings said entry errors)
 
 -- whether these are the findings of the report on an entry, with its raw form `said` and these missing fields
 pub record AreOfReport (missing : Names) (said : EntryReading) (entry : Entry) (found : List Finding) : Type 0 where

@@ -99,7 +99,7 @@ static ROWS: [Row; 14] = [
 ];
 
 // The types that require a date, or a year.
-static DATED_TYPES: [&str; 31] = [
+static DATED_TYPES: [&str; 30] = [
     "article",
     "book",
     "mvbook",
@@ -126,7 +126,6 @@ static DATED_TYPES: [&str; 31] = [
     "inreference",
     "report",
     "techreport",
-    "set",
     "thesis",
     "mastersthesis",
     "phdthesis",

@@ -1,7 +1,7 @@
 //! Findings of the reports on entries.
 
 ghost use Rattle.std.specs.Prelude.{◌≡◌, ◌++◌, codes, map, not, IfOk, OnOk};
-ghost use Rattle.std.specs.List.{filter, list_any};
+ghost use Rattle.std.specs.List.{filter};
 ghost use Rattle.std.specs.String.{string_bytes};
 ghost use Rattle.bib_tables.specs.Requirements.{texts};
 ghost use Rattle.bib_syntax.specs.Views.{entry_reading_of};
@@ -13,12 +13,14 @@ ghost use Rattle.bib_findings.specs.Reported.{AreOfReport, begins_alphanumeric, 
 ghost use Rattle.bib_findings.specs.declared.codes.Code.TheVariants.{SuperfluousField};
 
 use crate::codes::Code;
+use crate::date_parts::faulty_part;
 use crate::entry_names::entry_name;
 use crate::fields::is_empty_value;
 use crate::finding::Finding;
 use crate::identities::own_literal;
 use crate::other_digits::are_other_digits;
 use crate::places::{field_place, has_own_field, last_named, malformed_place};
+use crate::volume_labels::is_volume_label;
 use bib_entry::entry::Entry;
 use bib_syntax::raw::RawEntry;
 use bib_tables::mechanics::EntryType;
@@ -121,12 +123,14 @@ fn begins_alphanumeric(bytes: &[u8]) -> bool
     }
 }
 
-// Returns whether BibLaTeX knows the text of a field or prints it as it is, although it can't be parsed: the gender `pp`, and pages that
-// begin with an ASCII letter or digit.
+// Returns whether BibLaTeX knows the text of a field or prints it as it is, although it can't be parsed: the gender `pp`, pages that begin
+// with an ASCII letter or digit, and the usual label of a volume.
 fn is_known_text(name: &str, text: &str) -> bool
     ensures { result ≡ is_known_text name.now text.now }
 {
-    (name == "gender" && text == "pp") || (name == "pages" && begins_alphanumeric(text.as_bytes()))
+    (name == "gender" && text == "pp")
+        || (name == "pages" && begins_alphanumeric(text.as_bytes()))
+        || (name == "volume" && is_volume_label(text))
 }
 
 // Returns whether an entry has a field of this name in the file, and the last one is empty.
@@ -139,31 +143,20 @@ fn has_empty(said: &Spanned<RawEntry<'_>>, name: &str) -> bool
     }
 }
 
-// Returns whether an entry has an empty field with one of these names.
-fn has_empty_among(said: &Spanned<RawEntry<'_>>, names: &[&'static str]) -> bool
-    ensures { result ≡ list_any (spec.has_empty (entry_reading_of said.now)) (texts names.now) }
+// Returns whether the field of this name is empty or, for a date in separate fields, the one that makes it malformed.
+fn is_empty_field(
+    alloc: Global,
+    said: &Spanned<RawEntry<'_>>,
+    entry: &Entry,
+    name: &str,
+) -> Result<bool, AllocError>
+    ensures { IfOk result (λ is. is ≡ is_empty_field (entry_reading_of said.now) entry.now name.now) }
 {
-    names.iter().any(|name| has_empty(said, name))
-}
-
-// Returns the fields that contain the year, the month and the day of this date, if the date is in separate fields.
-fn date_part_names(name: &str) -> &'static [&'static str]
-    ensures { texts result.now ≡ spec.date_part_names name.now }
-{
-    match name {
-        "date" => &["year", "month", "day"],
-        "eventdate" => &["eventyear", "eventmonth", "eventday"],
-        "origdate" => &["origyear", "origmonth", "origday"],
-        "urldate" => &["urlyear", "urlmonth", "urlday"],
-        _ => &[],
+    if has_empty(said, name) {
+        return Ok(true);
     }
-}
-
-// Returns whether the field of this name is empty or, for a date, one of the separate fields with its year, month and day.
-fn is_empty_field(said: &Spanned<RawEntry<'_>>, name: &str) -> bool
-    ensures { result ≡ is_empty_field (entry_reading_of said.now) name.now }
-{
-    has_empty(said, name) || has_empty_among(said, date_part_names(name))
+    let part = faulty_part(alloc, entry, name)?;
+    Ok(has_empty(said, part))
 }
 
 // Returns whether the field is `date`, and the year of the entry is a number in the digits of another script, which Biber reads.
@@ -175,29 +168,36 @@ fn has_year_in_other_digits(said: &Spanned<RawEntry<'_>>, name: &str) -> bool
 
 // Returns whether the error of this field is reported. An empty field isn't malformed. A text that BibLaTeX knows or prints as it is, and a
 // year that Biber reads aren't reported.
-fn is_reported(said: &Spanned<RawEntry<'_>>, name: &str) -> bool
-    ensures { result ≡ is_reported_field (entry_reading_of said.now) name.now }
+fn is_reported(
+    alloc: Global,
+    said: &Spanned<RawEntry<'_>>,
+    entry: &Entry,
+    name: &str,
+) -> Result<bool, AllocError>
+    ensures { IfOk result (λ reported. reported ≡ is_reported_field (entry_reading_of said.now) entry.now name.now) }
 {
-    !is_empty_field(said, name)
-        && !is_known_text(name, own_literal(said, name))
-        && !has_year_in_other_digits(said, name)
+    if is_known_text(name, own_literal(said, name)) || has_year_in_other_digits(said, name) {
+        return Ok(false);
+    }
+    Ok(!is_empty_field(alloc, said, entry, name)?)
 }
 
 // Returns the finding of a field that can't be parsed as a value of its type.
 fn malformed_finding(
     alloc: Global,
     said: &Spanned<RawEntry<'_>>,
+    entry: &Entry,
     name: &str,
     error: &TypeError,
 ) -> Result<Finding, AllocError>
     ensures { IfOk result (λ finding. finding ≡
-        malformed_finding (entry_reading_of said.now) (name.now, error.now)) }
+        malformed_finding (entry_reading_of said.now) entry.now (name.now, error.now)) }
 {
     let what = format!(in alloc; "{name}: {}", error.kind)?;
     let message = Text::from_string(field_message(alloc, said.v.key.v, "malformed", &what)?);
     Ok(Finding {
         code: malformed_code(name),
-        span: malformed_place(said, name),
+        span: malformed_place(alloc, said, entry, name)?,
         message,
     })
 }
@@ -207,14 +207,16 @@ fn add_malformed(
     alloc: Global,
     found: &mut Vec<Finding>,
     said: &Spanned<RawEntry<'_>>,
+    entry: &Entry,
     errors: &[(Text, TypeError)],
 ) -> Result<(), AllocError>
     ensures { OnOk result (found.new.items ≡ found.old.items ++
-        malformed_findings (entry_reading_of said.now) errors.now) }
+        malformed_findings (entry_reading_of said.now) entry.now errors.now) }
 {
     'errors: for (name, error) in errors {
-        if is_reported(said, name.as_str()) {
-            found.push(malformed_finding(alloc, said, name.as_str(), error)?)?;
+        let is_reported = is_reported(alloc, said, entry, name.as_str())?;
+        if is_reported {
+            found.push(malformed_finding(alloc, said, entry, name.as_str(), error)?)?;
         }
     }
     Ok(())
@@ -283,5 +285,5 @@ pub(crate) fn add_report(
     add_missing(alloc, found, said, missing)?;
     let report = entry.verify(alloc)?;
     add_superfluous(alloc, found, said, entry, &report.superfluous)?;
-    add_malformed(alloc, found, said, &report.malformed)
+    add_malformed(alloc, found, said, entry, &report.malformed)
 }

@@ -9,7 +9,7 @@ use crate::nearest::is_among;
 
 // Names of such fields, by program: BibNet and TUG's files; MathSciNet and zbMATH; DBLP; JabRef; BibDesk; CiteULike; ACM; ADS and INSPIRE;
 // PubMed; other reference managers; Compendex; Web of Science.
-static FOREIGN_FIELDS: [&str; 92] = [
+static FOREIGN_FIELDS: [&str; 99] = [
     "acknowledgement",
     "bibdate",
     "bibsource",
@@ -57,16 +57,19 @@ static FOREIGN_FIELDS: [&str; 92] = [
     "read",
     "posted-at",
     "acmid",
-    "articleno",
     "issue_date",
-    "numpages",
     "adsnote",
     "adsurl",
-    "collaboration",
     "reportnumber",
     "slaccitation",
     "pmcid",
     "pmid",
+    "chemicals",
+    "completed",
+    "issn-linking",
+    "nlm-id",
+    "pubmodel",
+    "revised",
     "abstractnote",
     "accessdate",
     "contents",
@@ -84,6 +87,8 @@ static FOREIGN_FIELDS: [&str; 92] = [
     "affiliationaddress",
     "conference",
     "conferenceyear",
+    "editoraddress",
+    "editoraffiliation",
     "meetingaddress",
     "meetingdate",
     "meetingdate2",
@@ -98,14 +103,23 @@ static FOREIGN_FIELDS: [&str; 92] = [
     "journal-iso",
     "keywords-plus",
     "number-of-cited-references",
+    "orcid-numbers",
     "research-areas",
+    "researcherid-numbers",
     "times-cited",
     "unique-id",
     "web-of-science-categories",
 ];
 
 // The beginnings of other names that such programs use.
-static FOREIGN_PREFIXES: [&str; 5] = ["bdsk-", "citeulike-", "jabref-", "mendeley-", "zotero-"];
+static FOREIGN_PREFIXES: [&str; 6] = [
+    "bdsk-",
+    "citeulike-",
+    "jabref-",
+    "jstor_",
+    "mendeley-",
+    "zotero-",
+];
 
 // Returns whether a name begins with a text, in any ASCII case.
 pub(crate) fn begins_with(prefix: &str, name: &str) -> bool

@@ -11,8 +11,8 @@
 //! blocks. `lacking` finds the entries of which fields may be lost: those of skipped blocks, and those that refer to one by
 //! `crossref` or `xdata`, directly or through others. `demands` has the fields that BibLaTeX requires. `nearest` finds the known name
 //! that may be meant, `marks` selects the entries that may be the same work as another, `check_digits` tests ISBNs and ISSNs,
-//! `other_digits` tests texts for the digits of other scripts, `foreign` has the fields of other programs, and `outside` finds the
-//! text outside braces.
+//! `other_digits` tests texts for the digits of other scripts, `foreign` has the fields of other programs, `outside` finds the
+//! text outside braces, `volume_labels` has the labels of volumes, and `date_parts` finds the field that makes a date malformed.
 //! `errors`, `types`, `entries`, `names`, `fields`, `standard_numbers`, `urls`, `malformed_dates`, `people`,
 //! `special_characters`, `html`, `years`, `stray`, `references`, `duplicates`, `key_cases`, `parent_order`, `once`, `definitions` and
 //! `unused_definitions` make the findings; `duplicates` uses `identities`.
@@ -21,6 +21,7 @@
 mod check_digits;
 pub mod codes;
 mod cuts;
+mod date_parts;
 mod definitions;
 mod demands;
 mod duplicates;
@@ -52,4 +53,5 @@ mod stray;
 mod types;
 mod unused_definitions;
 mod urls;
+mod volume_labels;
 mod years;

@@ -1,25 +1,72 @@
-//! Findings of entries whose parent comes before them.
+//! Findings of entries whose parent comes before them, if BibTeX knows the types of both.
 
 ghost use Rattle.std.specs.Prelude.{◌≡◌, ◌==◌, ◌&&◌, ◌++◌, ◌<◌, ◌∷◌, [], if◌then◌else◌, not, All, List, length, map, IfOk, OnOk};
 ghost use Rattle.std.specs.BTreeSet.{contains_text};
-ghost use Rattle.std.specs.List.{list_any};
+ghost use Rattle.std.specs.List.{filter, list_any};
 ghost use Rattle.bib_syntax.specs.Reading.{EntryReading};
 ghost use Rattle.bib_syntax.specs.Views.{entry_reading_of};
 ghost use Rattle.bib_findings.specs.Duplicates.{entries_at};
 ghost use Rattle.bib_findings.specs.FirstKeys.{AreKeysSeen};
 ghost use Rattle.bib_findings.specs.ParentOrder as spec;
-ghost use Rattle.bib_findings.specs.ParentOrder.{early_after, early_finding, early_findings};
+ghost use Rattle.bib_findings.specs.ParentOrder.{early_after, early_among, early_finding, early_findings};
 
 use crate::codes::Code;
 use crate::fields::named_message;
 use crate::finding::Finding;
 use crate::identities::own_literal;
+use crate::nearest::is_among;
 use crate::places::field_place;
 use bib_syntax::raw::RawEntry;
 use bib_text::spanned::Spanned;
 use bib_text::text::Text;
 use std::alloc::{AllocError, Global};
 use std::collections::BTreeSet;
+
+// The entry types of BibTeX's standard styles.
+static BIBTEX_TYPES: [&str; 14] = [
+    "article",
+    "book",
+    "booklet",
+    "conference",
+    "inbook",
+    "incollection",
+    "inproceedings",
+    "manual",
+    "mastersthesis",
+    "misc",
+    "phdthesis",
+    "proceedings",
+    "techreport",
+    "unpublished",
+];
+
+// Returns whether BibTeX's standard styles have the type of an entry, in any ASCII case.
+fn has_bibtex_type(said: &Spanned<RawEntry<'_>>) -> bool
+    ensures { result ≡ spec.has_bibtex_type (entry_reading_of said.now) }
+{
+    is_among(&BIBTEX_TYPES, said.v.kind.v)
+}
+
+// Returns those of the indices in `origins` whose entries have a type of BibTeX's standard styles.
+fn bibtex_origins(
+    alloc: Global,
+    said: &[Spanned<RawEntry<'_>>],
+    origins: &[usize],
+) -> Result<Vec<usize>, AllocError>
+    requires { All (λ index. index < length said.now) origins.now }
+    ensures there { IfOk result (λ chosen. All (λ index. index < length said.now) chosen.items) }
+    ensures chosen { IfOk result (λ chosen. entries_at (map entry_reading_of said.now) chosen.items ≡
+        filter spec.has_bibtex_type (entries_at (map entry_reading_of said.now) origins.now)) }
+{
+    let mut chosen = Vec::new(alloc);
+    'origins: for index in 0..origins.len() {
+        let one = &said[origins[index]];
+        if has_bibtex_type(one) {
+            chosen.push(origins[index])?;
+        }
+    }
+    Ok(chosen)
+}
 
 // Returns the `crossref` of an entry without the white space around it, or the empty text if the entry has none as one literal.
 fn parent_key<'s>(said: &Spanned<RawEntry<'s>>) -> &'s str
@@ -113,8 +160,29 @@ fn add_key(
     Ok(())
 }
 
-/// Appends a finding for each of these entries whose `crossref` is one literal, and is the key of an earlier one in any ASCII case.
-/// `origins` contains the index of each in `said`.
+// Appends a finding for each of these entries whose `crossref` is one literal, and is the key of an earlier one in any ASCII case.
+// `origins` contains the index of each in `said`.
+fn add_early_among(
+    alloc: Global,
+    found: &mut Vec<Finding>,
+    said: &[Spanned<RawEntry<'_>>],
+    origins: &[usize],
+) -> Result<(), AllocError>
+    requires { All (λ index. index < length said.now) origins.now }
+    ensures { OnOk result (found.new.items ≡ found.old.items ++
+        early_among (entries_at (map entry_reading_of said.now) origins.now)) }
+{
+    let mut seen = BTreeSet::new(alloc);
+    'origins: for index in origins {
+        let one = &said[*index];
+        add_if_early(alloc, found, &seen, one)?;
+        add_key(alloc, &mut seen, one)?;
+    }
+    Ok(())
+}
+
+/// Appends a finding for each of these entries whose `crossref` is one literal, and is the key of an earlier one in any ASCII case. Only
+/// entries with a type of BibTeX's standard styles count. `origins` contains the index of each entry in `said`.
 pub(crate) fn add_early(
     alloc: Global,
     found: &mut Vec<Finding>,
@@ -125,11 +193,6 @@ pub(crate) fn add_early(
     ensures { OnOk result (found.new.items ≡ found.old.items ++
         early_findings (entries_at (map entry_reading_of said.now) origins.now)) }
 {
-    let mut seen = BTreeSet::new(alloc);
-    'origins: for index in origins {
-        let one = &said[*index];
-        add_if_early(alloc, found, &seen, one)?;
-        add_key(alloc, &mut seen, one)?;
-    }
-    Ok(())
+    let chosen = bibtex_origins(alloc, said, origins)?;
+    add_early_among(alloc, found, said, &chosen)
 }

@@ -1,12 +1,15 @@
 //! The places of an entry's fields in the file.
 
-ghost use Rattle.std.specs.Prelude.{◌≡◌, map, option_map};
+ghost use Rattle.std.specs.Prelude.{◌≡◌, map, option_map, IfOk};
 ghost use Rattle.bib_syntax.specs.Views.{entry_reading_of, field_of};
 ghost use Rattle.bib_findings.specs.Entries.{field_place, has_own_field, last_named, range_or};
-ghost use Rattle.bib_findings.specs.Reported.{malformed_place, year_name};
+ghost use Rattle.bib_findings.specs.Reported.{malformed_place};
 
+use crate::date_parts::faulty_part;
+use bib_entry::entry::Entry;
 use bib_syntax::raw::{Pair, RawEntry};
 use bib_text::spanned::{Span, Spanned};
+use std::alloc::{AllocError, Global};
 
 /// Returns the last field of this name, in any ASCII case.
 pub fn last_named<'f, 's>(fields: &'f [Pair<'s>], name: &str) -> Option<&'f Pair<'s>>
@@ -42,24 +45,16 @@ pub(crate) fn field_place(said: &Spanned<RawEntry<'_>>, name: &str) -> Span
     place_or(said, name, said.v.key.span.start..said.v.key.span.end)
 }
 
-// Returns the field that contains the year of this date, if the date is in separate fields; any other name is
-// unchanged.
-pub(crate) fn year_name(name: &str) -> &str
-    ensures { result.now ≡ year_name name.now }
+/// Returns the place of a malformed field: its name, or the field that makes it malformed if it is a date in separate fields, or else the
+/// entry's key.
+pub(crate) fn malformed_place(
+    alloc: Global,
+    said: &Spanned<RawEntry<'_>>,
+    entry: &Entry,
+    name: &str,
+) -> Result<Span, AllocError>
+    ensures { IfOk result (λ place. place ≡ malformed_place (entry_reading_of said.now) entry.now name.now) }
 {
-    match name {
-        "date" => "year",
-        "eventdate" => "eventyear",
-        "origdate" => "origyear",
-        "urldate" => "urlyear",
-        _ => name,
-    }
-}
-
-/// Returns the place of a malformed field: its name, or the year if it is a date in separate fields, or else the entry's
-/// key.
-pub(crate) fn malformed_place(said: &Spanned<RawEntry<'_>>, name: &str) -> Span
-    ensures { result ≡ malformed_place (entry_reading_of said.now) name.now }
-{
-    place_or(said, name, field_place(said, year_name(name)))
+    let part = faulty_part(alloc, entry, name)?;
+    Ok(place_or(said, name, field_place(said, part)))
 }

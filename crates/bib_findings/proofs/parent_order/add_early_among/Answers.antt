@@ -6,7 +6,7 @@ use Rattle.bib_findings.specs.FirstKeys.{AreKeysSeen}
 use Rattle.bib_findings.specs.ParentOrder.{early_after}
 use Rattle.bib_findings.proofs.AfterFacts.{appended_next}
 use Rattle.bib_findings.proofs.SeenFacts.{entries_next}
-use Rattle.bib_findings.proofs.parent_order.add_early.Goals as goal
+use Rattle.bib_findings.proofs.parent_order.add_early_among.Goals as goal
 
 pub origins-preserved : goal.origins-preserved
 origins-preserved c =

@@ -1,0 +1,57 @@
+//! Labels of volumes that aren't one number.
+
+ghost use Rattle.std.specs.Prelude.{◌≡◌, ◌&&◌, ◌||◌};
+ghost use Rattle.std.specs.List.{list_all};
+ghost use Rattle.bib_findings.specs.VolumeLabels as spec;
+
+use crate::other_digits::are_other_digits;
+use bib_text::digits::are_digits;
+
+// Returns whether a byte is a letter of Roman numerals, in any case.
+fn is_roman_letter(b: &u8) -> bool
+    ensures { result ≡ spec.is_roman_letter b.now }
+{
+    matches!(
+        b.to_ascii_uppercase(),
+        b'I' | b'V' | b'X' | b'L' | b'C' | b'D' | b'M'
+    )
+}
+
+// Returns whether all bytes are letters of Roman numerals.
+fn are_roman_letters(bytes: &[u8]) -> bool
+    ensures { result ≡ list_all spec.is_roman_letter bytes.now }
+{
+    bytes.iter().all(is_roman_letter)
+}
+
+// Returns whether a text is a label without a slash: its last byte is an ASCII letter or digit, and the others are digits or letters of
+// Roman numerals.
+fn is_simple_label(label: &[u8]) -> bool
+    ensures { result ≡ spec.is_simple_label label.now }
+{
+    match label {
+        [start @ .., last] => {
+            last.is_ascii_alphanumeric() && (are_digits(start) || are_roman_letters(start))
+        }
+        [] => false,
+    }
+}
+
+// Returns whether a text is one simple label, or two with a slash between them.
+fn is_label(text: &str) -> bool
+    ensures { result ≡ spec.is_label text.now }
+{
+    match text.split_once('/') {
+        Some((first, second)) => {
+            is_simple_label(first.as_bytes()) && is_simple_label(second.as_bytes())
+        }
+        None => is_simple_label(text.as_bytes()),
+    }
+}
+
+/// Returns whether a text is the usual label of a volume, such as `B`, `IIa` or `75/76`, or a number in the digits of another script.
+pub(crate) fn is_volume_label(text: &str) -> bool
+    ensures { result ≡ spec.is_volume_label text.now }
+{
+    is_label(text) || are_other_digits(text)
+}
