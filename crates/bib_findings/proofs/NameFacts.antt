@@ -174,22 +174,22 @@ annotated_none name none =
     (sym (drop_all (position_or_len (λ b. b == char.plus) name + 1) name (let past : length name ≤ _ = omega (arith, none) in past)))
     refl
 
--- the result of `split_once` for a name at its first plus sign
-abbrev SplitAtPlus : List ℕ → Option (Bor (List ℕ) × Bor (List ℕ)) → Type 0
-SplitAtPlus name r =
-    MatchOption r (position_or_len (λ b. b == char.plus) name ≡ length name)
+-- the result of `split_once` for a text at the first byte `c`
+abbrev SplitAt : ℕ → List ℕ → Option (Bor (List ℕ) × Bor (List ℕ)) → Type 0
+SplitAt c text r =
+    MatchOption r (position_or_len (λ b. b == c) text ≡ length text)
     (λ x.
-    (position_or_len (λ b. b == char.plus) name < length name) × (x.0.now ≡ before_first (λ b. b == char.plus) name)
-    × (x.1.now ≡ after_first (λ b. b == char.plus) name))
+    (position_or_len (λ b. b == c) text < length text) × (x.0.now ≡ before_first (λ b. b == c) text)
+    × (x.1.now ≡ after_first (λ b. b == c) text))
 
--- `split_once` of std cuts a name at its first plus sign
-pub split_here : (name : List ℕ) (r : Option (Bor (List ℕ) × Bor (List ℕ))) (x : Bor (List ℕ) × Bor (List ℕ)) → r ≡ Some x
-    → SplitAtPlus name r
-    → (position_or_len (λ b. b == char.plus) name < length name) × (x.0.now ≡ before_first (λ b. b == char.plus) name)
-    × (x.1.now ≡ after_first (λ b. b == char.plus) name)
-split_here name r x is says = subst (SplitAtPlus name) is says
+-- `split_once` of std cuts a text at its first byte `c`
+pub split_here : (c : ℕ) (text : List ℕ) (r : Option (Bor (List ℕ) × Bor (List ℕ))) (x : Bor (List ℕ) × Bor (List ℕ)) → r ≡ Some x
+    → SplitAt c text r
+    → (position_or_len (λ b. b == c) text < length text) × (x.0.now ≡ before_first (λ b. b == c) text)
+    × (x.1.now ≡ after_first (λ b. b == c) text)
+split_here c text r x is says = subst (SplitAt c text) is says
 
--- `split_once` of std cuts no name without a plus sign
-pub split_not : (name : List ℕ) (r : Option (Bor (List ℕ) × Bor (List ℕ))) → r ≡ None → SplitAtPlus name r
-    → position_or_len (λ b. b == char.plus) name ≡ length name
-split_not name r is says = subst (SplitAtPlus name) is says
+-- `split_once` of std cuts no text without the byte `c`
+pub split_not : (c : ℕ) (text : List ℕ) (r : Option (Bor (List ℕ) × Bor (List ℕ))) → r ≡ None → SplitAt c text r
+    → position_or_len (λ b. b == c) text ≡ length text
+split_not c text r is says = subst (SplitAt c text) is says

@@ -19,7 +19,7 @@ is_simple_label label =
     is_ascii_alphanumeric (last label)
     && (list_all is_ascii_digit (take (length label - 1) label) || list_all is_roman_letter (take (length label - 1) label))
 
--- whether a text is one simple label, or two with a slash between them, such as `75/76`
+-- whether a text is one label without a slash, or two with a slash between them, such as `75/76`
 abbrev pub is_label : List ℕ → Bool
 is_label text =
     if holds char.slash text

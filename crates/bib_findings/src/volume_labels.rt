@@ -1,6 +1,6 @@
 //! Labels of volumes that aren't one number.
 
-ghost use Rattle.std.specs.Prelude.{◌≡◌, ◌&&◌, ◌||◌};
+ghost use Rattle.std.specs.Prelude.{◌≡◌, ◌&&◌};
 ghost use Rattle.std.specs.List.{list_all};
 ghost use Rattle.bib_findings.specs.VolumeLabels as spec;
 
@@ -26,10 +26,10 @@ fn are_roman_letters(bytes: &[u8]) -> bool
 
 // Returns whether a text is a label without a slash: its last byte is an ASCII letter or digit, and the others are digits or letters of
 // Roman numerals.
-fn is_simple_label(label: &[u8]) -> bool
+fn is_simple_label(label: &str) -> bool
     ensures { result ≡ spec.is_simple_label label.now }
 {
-    match label {
+    match label.as_bytes() {
         [start @ .., last] => {
             last.is_ascii_alphanumeric() && (are_digits(start) || are_roman_letters(start))
         }
@@ -37,15 +37,20 @@ fn is_simple_label(label: &[u8]) -> bool
     }
 }
 
-// Returns whether a text is one simple label, or two with a slash between them.
+// Returns whether two texts are labels without a slash.
+fn are_labels(first: &str, second: &str) -> bool
+    ensures { result ≡ (spec.is_simple_label first.now && spec.is_simple_label second.now) }
+{
+    is_simple_label(first) && is_simple_label(second)
+}
+
+// Returns whether a text is one label without a slash, or two with a slash between them.
 fn is_label(text: &str) -> bool
     ensures { result ≡ spec.is_label text.now }
 {
     match text.split_once('/') {
-        Some((first, second)) => {
-            is_simple_label(first.as_bytes()) && is_simple_label(second.as_bytes())
-        }
-        None => is_simple_label(text.as_bytes()),
+        Some((first, second)) => are_labels(first, second),
+        None => is_simple_label(text),
     }
 }
 
