@@ -35,19 +35,21 @@ parts_read year month day = readable_value (three_fields_reading year month day)
 abbrev pub first_day : Value
 first_day = alone (Normal (codes "1"))
 
--- whether the day makes a date malformed whose year is right: the month is right with another day
-abbrev pub is_faulty_day : Value → Option Value → Option Value → Bool
-is_faulty_day year month day = is_some day && is_some (parts_read year month (Some first_day))
+-- whether the day makes a date malformed whose year can be parsed: the month can be parsed with another day
+abbrev pub is_malformed_day : Value → Option Value → Option Value → Bool
+is_malformed_day year month day = is_some day && is_some (parts_read year month (Some first_day))
 
--- the first of the fields of a malformed date that makes it malformed
-abbrev pub faulty_name : List ℕ → Option Value → Option Value → Option Value → List ℕ
-faulty_name name None month day = name
-faulty_name name (Some year) month day =
+-- the name of the first of the year, the month and the day of this malformed date that can't be parsed. Without a year, the name is
+-- unchanged
+abbrev pub malformed_part_of : List ℕ → Option Value → Option Value → Option Value → List ℕ
+malformed_part_of name None month day = name
+malformed_part_of name (Some year) month day =
     if not (is_some (parts_read year None None)) then name_of_year name
-    else if is_faulty_day year month day then name_of_day name else name_of_month name
+    else if is_malformed_day year month day then name_of_day name else name_of_month name
 
--- the field of an entry that makes this date malformed, if the date is in separate fields; any other name is unchanged
-abbrev pub faulty_part : Entry → List ℕ → List ℕ
-faulty_part entry name =
-    faulty_name name (by_name.get entry.fields (name_of_year name)) (by_name.get entry.fields (name_of_month name))
+-- the name of the first of the year, the month and the day of an entry that can't be parsed, if this is a malformed date in separate
+-- fields. Any other name, and that of a date without a year, is unchanged
+abbrev pub malformed_part : Entry → List ℕ → List ℕ
+malformed_part entry name =
+    malformed_part_of name (by_name.get entry.fields (name_of_year name)) (by_name.get entry.fields (name_of_month name))
     (by_name.get entry.fields (name_of_day name))

@@ -36,8 +36,8 @@ demands_by_type =
     ∷ (fields "set", fields "entryset" ∷ [])
     ∷ []
 
--- the types that require a date, or a year. Biber requires one of a `set`, too, but its source copies the date of the first member to the
--- set, unless it runs as a tool
+-- the types that require a date, or a year. Biber's data model requires one for `set`, too, but Biber copies the date of the first member
+-- to the set, except as a tool
 abbrev pub dated_types : Names
 dated_types = fields "article book mvbook inbook bookinbook suppbook booklet collection mvcollection incollection suppcollection manual"
     ++ (fields "misc online electronic www patent periodical suppperiodical proceedings inproceedings conference reference inreference"

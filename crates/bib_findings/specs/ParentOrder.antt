@@ -44,11 +44,11 @@ early_after earlier said =
     let parent : List ℕ = parent_key said in
     if not (length parent == 0) && list_any (is_key_of parent) earlier then early_finding said parent ∷ [] else []
 
--- the findings of those of these entries whose `crossref` is one literal, and is the key of an earlier one in any ASCII case
+-- the findings of each of these entries whose `crossref` is one literal, and is the key of an earlier one in any ASCII case
 abbrev pub early_among : List EntryReading → List Finding
 early_among entries = each_after early_after [] entries
 
--- the findings of the entries with a type that BibTeX knows whose `crossref` is one literal, and is the key of an earlier such entry in any
--- ASCII case. A file in which such a child or parent has another type is meant for BibLaTeX
+-- the findings of the entries with a type of BibTeX's standard styles whose `crossref` is one literal, and is the key of an earlier such
+-- entry in any ASCII case. If one of the two has another type, the file is likely meant for BibLaTeX
 abbrev pub early_findings : List EntryReading → List Finding
 early_findings entries = early_among (filter has_bibtex_type entries)

@@ -2,6 +2,7 @@
 -- The findings of the report on an entry: missing, superfluous and malformed fields.
 use Rattle.std.specs.Prelude.{◌≡◌, ℕ, Bool, true, false, not, ◌&&◌, ◌||◌, List, [], ◌∷◌, ◌++◌, bytes_eq, codes, if◌then◌else◌, map}
 use Rattle.std.specs.Char.{is_ascii_alphanumeric}
+use Rattle.std.specs.FinMap as by_name
 use Rattle.std.specs.List.{filter}
 use Rattle.std.specs.Option.{option_map_or}
 use Rattle.std.specs.Str.{trim}
@@ -11,10 +12,11 @@ use Rattle.bib_tables.specs.TypeError.{type_kind_text}
 use Rattle.bib_tables.specs.declared.mechanics.EntryType.{EntryType}
 use Rattle.bib_tables.specs.declared.mechanics.EntryType.TheVariants.{MvBook, MvCollection, MvReference, Unknown}
 use Rattle.bib_tables.specs.declared.type_error.TypeError.{TypeError}
+use Rattle.bib_chunks.specs.Values.{Value, text}
 use Rattle.bib_entry.specs.Reports.{AreMalformed, superfluous_of}
 use Rattle.bib_entry.specs.declared.entry.Entry.{Entry}
 use Rattle.bib_syntax.specs.Reading.{EntryReading}
-use Rattle.bib_findings.specs.DateParts.{faulty_part}
+use Rattle.bib_findings.specs.DateParts.{malformed_part}
 use Rattle.bib_findings.specs.Demands.{missing_fields}
 use Rattle.bib_findings.specs.Entries.{field_finding, field_message, field_place, has_own_field, is_empty_value, last_named, range_or}
 use Rattle.bib_findings.specs.Errors.{finding_at}
@@ -25,10 +27,9 @@ use Rattle.bib_findings.specs.declared.codes.Code.{Code}
 use Rattle.bib_findings.specs.declared.codes.Code.TheVariants as code
 use Rattle.bib_findings.specs.declared.finding.Finding.{Finding}
 
--- the place of a malformed field: its name, or the field that makes it malformed if it is a date in separate fields, or else the entry's
--- key
+-- the place of a malformed field: its name, or the field that can't be parsed if it is a date in separate fields, or else the entry's key
 abbrev pub malformed_place : EntryReading → Entry → List ℕ → Range ℕ
-malformed_place said entry name = range_or (field_place said (faulty_part entry name)) (last_named said.fields name)
+malformed_place said entry name = range_or (field_place said (malformed_part entry name)) (last_named said.fields name)
 
 -- whether an error of the field of this name is only information
 abbrev pub is_printed_anyway : List ℕ → Bool
@@ -53,30 +54,39 @@ abbrev pub begins_alphanumeric : List ℕ → Bool
 begins_alphanumeric [] = false
 begins_alphanumeric (b ∷ rest) = is_ascii_alphanumeric b
 
--- whether BibLaTeX knows the text of a field or prints it as it is, although it can't be parsed: the gender `pp`, pages that begin with an
--- ASCII letter or digit, such as `12A` or `xiv + 447`, and the usual label of a volume. Biber warns of ranges of pages without a start.
+-- whether BibLaTeX knows the text of a field or prints it as it is, although it can't be parsed: the gender `pp`, and pages that begin with
+-- an ASCII letter or digit, such as `12A` or `xiv + 447`. Biber warns of ranges of pages without a start.
 abbrev pub is_known_text : List ℕ → List ℕ → Bool
 is_known_text name text =
     (bytes_eq name (codes "gender") && bytes_eq text plural_gender) || (bytes_eq name (codes "pages") && begins_alphanumeric text)
-    || (bytes_eq name (codes "volume") && is_volume_label text)
+
+-- whether the text of a value without the white space around it is a usual label of a volume
+abbrev pub is_label_value : Value → Bool
+is_label_value chunks = is_volume_label (trim (text chunks))
+
+-- whether the field is the volume of an entry, which may be inherited, and is a usual label
+abbrev pub has_usual_label : Entry → List ℕ → Bool
+has_usual_label entry name =
+    bytes_eq name (codes "volume") && option_map_or is_label_value (by_name.get entry.fields name) false
 
 -- whether an entry has a field of this name in the file, and the last one is empty
 abbrev pub has_empty : EntryReading → List ℕ → Bool
 has_empty said name = option_map_or is_empty_value (last_named said.fields name) false
 
--- whether the field of this name is empty or, for a date in separate fields, the one that makes it malformed
+-- whether the field of this name is empty or, for a date in separate fields, the field that can't be parsed
 abbrev pub is_empty_field : EntryReading → Entry → List ℕ → Bool
-is_empty_field said entry name = has_empty said name || has_empty said (faulty_part entry name)
+is_empty_field said entry name = has_empty said name || has_empty said (malformed_part entry name)
 
 -- whether the field is `date`, and the year of the entry is a number in the digits of another script, which Biber reads
 abbrev pub has_year_in_other_digits : EntryReading → List ℕ → Bool
 has_year_in_other_digits said name = bytes_eq name (codes "date") && are_other_digits (trim (own_literal said (codes "year")))
 
--- whether the error of a field is reported. An empty field isn't malformed. A text that BibLaTeX knows or prints as it is, and a year that
--- Biber reads aren't reported
+-- whether the error of a field is reported. An empty field isn't malformed. A text that BibLaTeX knows or prints as it is, a usual label
+-- of a volume, and a year that Biber reads aren't reported
 abbrev pub is_reported_field : EntryReading → Entry → List ℕ → Bool
 is_reported_field said entry name =
-    not (is_known_text name (own_literal said name) || has_year_in_other_digits said name) && not (is_empty_field said entry name)
+    not (is_known_text name (own_literal said name) || has_year_in_other_digits said name)
+    && (not (has_usual_label entry name) && not (is_empty_field said entry name))
 
 -- the findings of the malformed fields whose errors are reported
 abbrev pub malformed_findings : EntryReading → Entry → List (List ℕ × TypeError) → List Finding

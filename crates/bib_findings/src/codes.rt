@@ -323,7 +323,7 @@ impl Code {
             Self::KeyCase =>
                 "The key equals the key of an earlier entry except for case. BibTeX reports a repeated entry and skips this one. Biber keeps both and warns of a typing error. Give one of them another key.",
             Self::EarlyParent =>
-                "The field `crossref` names an earlier entry, and BibTeX's standard styles know the types of both. If the document doesn't cite this parent itself, BibTeX reports a bad cross reference, and the entry inherits nothing. Biber inherits as usual. `fmt --sort` puts children before their parents.",
+                "The field `crossref` names an earlier entry, and both types are types of BibTeX's standard styles. If the document doesn't cite this parent itself, BibTeX reports a bad cross reference, and the entry inherits nothing. Biber inherits as usual. `fmt --sort` puts children before their parents.",
             Self::RepeatedDefinition =>
                 "An earlier `@string` defines the same abbreviation, in any case, with another value. BibTeX and Biber use the last definition before an entry, so the entries between the two have the earlier value. For all entries, this program uses the last definition whose name is written as in the entry. Remove one of the two definitions, or rename one of them.",
             Self::UnusedDefinition =>

@@ -3,7 +3,7 @@
 ghost use Rattle.std.specs.Prelude.{◌≡◌, is_some, IfOk, option_copied};
 ghost use Rattle.std.specs.FinMap as by_name;
 ghost use Rattle.bib_findings.specs.DateParts as spec;
-ghost use Rattle.bib_findings.specs.DateParts.{name_of_day, faulty_part, name_of_month, parts_read, name_of_year};
+ghost use Rattle.bib_findings.specs.DateParts.{name_of_day, malformed_part, name_of_month, parts_read, name_of_year};
 
 use bib_chunks::chunk::ChunksRef;
 use bib_chunks::chunk::making::normal;
@@ -68,14 +68,14 @@ fn are_date(
     }
 }
 
-// Returns whether there is a day, and a year and a month can be parsed as a date with the first day of the month.
-fn is_faulty_day(
+// Returns whether there is a day, and a year and a month can be parsed as a date with the first day of the month instead.
+fn is_malformed_day(
     alloc: Global,
     year: ChunksRef<'_>,
     month: Option<ChunksRef<'_>>,
     day: Option<ChunksRef<'_>>,
 ) -> Result<bool, AllocError>
-    ensures { IfOk result (λ is. is ≡ spec.is_faulty_day year.now (option_copied month.entry) (option_copied day.entry)) }
+    ensures { IfOk result (λ is. is ≡ spec.is_malformed_day year.now (option_copied month.entry) (option_copied day.entry)) }
 {
     if day.is_none() {
         return Ok(false);
@@ -84,14 +84,14 @@ fn is_faulty_day(
     are_date(alloc, year, month, Some(first.as_slice()))
 }
 
-/// Returns the name of the first field that makes this date of an entry malformed, if the date is in separate fields; any other name is
-/// unchanged.
-pub(crate) fn faulty_part<'n>(
+/// Returns the name of the first of the year, the month and the day of an entry that can't be parsed, if this is a malformed date in
+/// separate fields. Any other name, and that of a date without a year, is unchanged.
+pub(crate) fn malformed_part<'n>(
     alloc: Global,
     entry: &Entry,
     name: &'n str,
 ) -> Result<&'n str, AllocError>
-    ensures { IfOk result (λ part. part.now ≡ faulty_part entry.now name.now) }
+    ensures { IfOk result (λ part. part.now ≡ malformed_part entry.now name.now) }
 {
     let Some(year) = entry.get(name_of_year(name)) else {
         return Ok(name);
@@ -101,7 +101,7 @@ pub(crate) fn faulty_part<'n>(
     }
     let month = entry.get(name_of_month(name));
     let day = entry.get(name_of_day(name));
-    if is_faulty_day(alloc, year, month, day)? {
+    if is_malformed_day(alloc, year, month, day)? {
         Ok(name_of_day(name))
     } else {
         Ok(name_of_month(name))

@@ -13,7 +13,7 @@ ghost use Rattle.bib_findings.specs.Reported.{AreOfReport, begins_alphanumeric, 
 ghost use Rattle.bib_findings.specs.declared.codes.Code.TheVariants.{SuperfluousField};
 
 use crate::codes::Code;
-use crate::date_parts::faulty_part;
+use crate::date_parts::malformed_part;
 use crate::entry_names::entry_name;
 use crate::fields::is_empty_value;
 use crate::finding::Finding;
@@ -21,6 +21,7 @@ use crate::identities::own_literal;
 use crate::other_digits::are_other_digits;
 use crate::places::{field_place, has_own_field, last_named, malformed_place};
 use crate::volume_labels::is_volume_label;
+use bib_chunks::chunk::{ChunksRef, format_verbatim};
 use bib_entry::entry::Entry;
 use bib_syntax::raw::RawEntry;
 use bib_tables::mechanics::EntryType;
@@ -123,14 +124,33 @@ fn begins_alphanumeric(bytes: &[u8]) -> bool
     }
 }
 
-// Returns whether BibLaTeX knows the text of a field or prints it as it is, although it can't be parsed: the gender `pp`, pages that begin
-// with an ASCII letter or digit, and the usual label of a volume.
+// Returns whether BibLaTeX knows the text of a field or prints it as it is, although it can't be parsed: the gender `pp`, and pages that
+// begin with an ASCII letter or digit.
 fn is_known_text(name: &str, text: &str) -> bool
     ensures { result ≡ is_known_text name.now text.now }
 {
-    (name == "gender" && text == "pp")
-        || (name == "pages" && begins_alphanumeric(text.as_bytes()))
-        || (name == "volume" && is_volume_label(text))
+    (name == "gender" && text == "pp") || (name == "pages" && begins_alphanumeric(text.as_bytes()))
+}
+
+// Returns whether the text of a value without the white space around it is a usual label of a volume.
+fn is_label_value(alloc: Global, chunks: ChunksRef<'_>) -> Result<bool, AllocError>
+    ensures { IfOk result (λ is. is ≡ spec.is_label_value chunks.now) }
+{
+    let text = format_verbatim(alloc, chunks)?;
+    Ok(is_volume_label(text.as_str().trim()))
+}
+
+// Returns whether the field is the volume of an entry, which may be inherited, and is a usual label.
+fn has_usual_label(alloc: Global, entry: &Entry, name: &str) -> Result<bool, AllocError>
+    ensures { IfOk result (λ has. has ≡ spec.has_usual_label entry.now name.now) }
+{
+    if name != "volume" {
+        return Ok(false);
+    }
+    match entry.get(name) {
+        Some(chunks) => is_label_value(alloc, chunks),
+        None => Ok(false),
+    }
 }
 
 // Returns whether an entry has a field of this name in the file, and the last one is empty.
@@ -143,7 +163,7 @@ fn has_empty(said: &Spanned<RawEntry<'_>>, name: &str) -> bool
     }
 }
 
-// Returns whether the field of this name is empty or, for a date in separate fields, the one that makes it malformed.
+// Returns whether the field of this name is empty or, for a date in separate fields, the field that can't be parsed.
 fn is_empty_field(
     alloc: Global,
     said: &Spanned<RawEntry<'_>>,
@@ -155,7 +175,7 @@ fn is_empty_field(
     if has_empty(said, name) {
         return Ok(true);
     }
-    let part = faulty_part(alloc, entry, name)?;
+    let part = malformed_part(alloc, entry, name)?;
     Ok(has_empty(said, part))
 }
 
@@ -166,8 +186,8 @@ fn has_year_in_other_digits(said: &Spanned<RawEntry<'_>>, name: &str) -> bool
     name == "date" && are_other_digits(own_literal(said, "year").trim())
 }
 
-// Returns whether the error of this field is reported. An empty field isn't malformed. A text that BibLaTeX knows or prints as it is, and a
-// year that Biber reads aren't reported.
+// Returns whether the error of this field is reported. An empty field isn't malformed. A text that BibLaTeX knows or prints as it is, a
+// usual label of a volume, and a year that Biber reads aren't reported.
 fn is_reported(
     alloc: Global,
     said: &Spanned<RawEntry<'_>>,
@@ -177,6 +197,9 @@ fn is_reported(
     ensures { IfOk result (λ reported. reported ≡ is_reported_field (entry_reading_of said.now) entry.now name.now) }
 {
     if is_known_text(name, own_literal(said, name)) || has_year_in_other_digits(said, name) {
+        return Ok(false);
+    }
+    if has_usual_label(alloc, entry, name)? {
         return Ok(false);
     }
     Ok(!is_empty_field(alloc, said, entry, name)?)

@@ -1,4 +1,4 @@
-//! Findings of entries whose parent comes before them, if BibTeX knows the types of both.
+//! Findings of entries whose parent comes before them, if both types are types of BibTeX's standard styles.
 
 ghost use Rattle.std.specs.Prelude.{◌≡◌, ◌==◌, ◌&&◌, ◌++◌, ◌<◌, ◌∷◌, [], if◌then◌else◌, not, All, List, length, map, IfOk, OnOk};
 ghost use Rattle.std.specs.BTreeSet.{contains_text};

@@ -5,7 +5,7 @@ ghost use Rattle.bib_syntax.specs.Views.{entry_reading_of, field_of};
 ghost use Rattle.bib_findings.specs.Entries.{field_place, has_own_field, last_named, range_or};
 ghost use Rattle.bib_findings.specs.Reported.{malformed_place};
 
-use crate::date_parts::faulty_part;
+use crate::date_parts::malformed_part;
 use bib_entry::entry::Entry;
 use bib_syntax::raw::{Pair, RawEntry};
 use bib_text::spanned::{Span, Spanned};
@@ -45,7 +45,7 @@ pub(crate) fn field_place(said: &Spanned<RawEntry<'_>>, name: &str) -> Span
     place_or(said, name, said.v.key.span.start..said.v.key.span.end)
 }
 
-/// Returns the place of a malformed field: its name, or the field that makes it malformed if it is a date in separate fields, or else the
+/// Returns the place of a malformed field: its name, or the field that can't be parsed if it is a date in separate fields, or else the
 /// entry's key.
 pub(crate) fn malformed_place(
     alloc: Global,
@@ -55,6 +55,6 @@ pub(crate) fn malformed_place(
 ) -> Result<Span, AllocError>
     ensures { IfOk result (λ place. place ≡ malformed_place (entry_reading_of said.now) entry.now name.now) }
 {
-    let part = faulty_part(alloc, entry, name)?;
+    let part = malformed_part(alloc, entry, name)?;
     Ok(place_or(said, name, field_place(said, part)))
 }

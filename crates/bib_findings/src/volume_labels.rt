@@ -1,4 +1,4 @@
-//! Labels of volumes that aren't one number.
+//! Usual labels of volumes, such as `B`, `IIa` and `75/76`.
 
 ghost use Rattle.std.specs.Prelude.{◌≡◌, ◌&&◌};
 ghost use Rattle.std.specs.List.{list_all};
@@ -24,17 +24,33 @@ fn are_roman_letters(bytes: &[u8]) -> bool
     bytes.iter().all(is_roman_letter)
 }
 
-// Returns whether a text is a label without a slash: its last byte is an ASCII letter or digit, and the others are digits or letters of
-// Roman numerals.
-fn is_simple_label(label: &str) -> bool
-    ensures { result ≡ spec.is_simple_label label.now }
+// Returns whether a text is an ASCII letter, and then only digits.
+fn is_letter_and_digits(label: &[u8]) -> bool
+    ensures { result ≡ spec.is_letter_and_digits label.now }
 {
-    match label.as_bytes() {
+    match label {
+        [letter, digits @ ..] => letter.is_ascii_alphabetic() && are_digits(digits),
+        [] => false,
+    }
+}
+
+// Returns whether the last byte of a text is an ASCII letter or digit, and the others are digits or letters of Roman numerals.
+fn is_numeral_and_letter(label: &[u8]) -> bool
+    ensures { result ≡ spec.is_numeral_and_letter label.now }
+{
+    match label {
         [start @ .., last] => {
             last.is_ascii_alphanumeric() && (are_digits(start) || are_roman_letters(start))
         }
         [] => false,
     }
+}
+
+// Returns whether a text is a label without a slash.
+fn is_simple_label(label: &str) -> bool
+    ensures { result ≡ spec.is_simple_label label.now }
+{
+    is_numeral_and_letter(label.as_bytes()) || is_letter_and_digits(label.as_bytes())
 }
 
 // Returns whether two texts are labels without a slash.
@@ -54,7 +70,7 @@ fn is_label(text: &str) -> bool
     }
 }
 
-/// Returns whether a text is the usual label of a volume, such as `B`, `IIa` or `75/76`, or a number in the digits of another script.
+/// Returns whether a text is a usual label of a volume, which may be a number in the digits of another script.
 pub(crate) fn is_volume_label(text: &str) -> bool
     ensures { result ≡ spec.is_volume_label text.now }
 {
