@@ -11,7 +11,7 @@ use Rattle.bib_findings.specs.Counted.{lowercase_name}
 use Rattle.bib_findings.specs.Fields.{repeated_after, repeated_finding}
 use Rattle.bib_findings.specs.Entries.{have_one_name}
 use Rattle.bib_findings.specs.declared.finding.Finding.{Finding}
-use Rattle.bib_findings.proofs.AfterFacts.{after_more}
+use Rattle.bib_findings.proofs.AfterFacts.{appended_next}
 
 -- whether the seen names are exactly those of some fields, in lowercase
 abbrev pub AreSeen : (List ℕ → Bool) → List FieldReading → Type 0
@@ -34,18 +34,21 @@ turned_choice true item = refl
 turned_choice false item = refl
 
 -- appending the finding of the next field, unless its name is new, extends the findings of the fields before it
+pub given_next : (key : List ℕ) (all fields : List FieldReading) (f : FieldReading) (is_new : Bool) (old mid new : List Finding)
+    → all ≡ fields ++ f ∷ [] → is_new ≡ not (list_any (have_one_name f) fields) → mid ≡ old ++ each_after (repeated_after key) [] fields
+    → new ≡ mid ++ cond is_new [] (repeated_finding key f ∷ []) → new ≡ old ++ each_after (repeated_after key) [] all
+given_next key all fields f is_new old mid new all_is says before more =
+    appended_next (repeated_after key) all fields f old mid new all_is before
+    (more
+    ∙ ap (λ b. mid ++ cond b [] (repeated_finding key f ∷ [])) says
+    ∙ ap (λ l. mid ++ l) (turned_choice (list_any (have_one_name f) fields) (repeated_finding key f)))
+
+-- the same if the seen names are those of the fields before it
 pub repeated_next : (key : List ℕ) (all fields : List FieldReading) (f : FieldReading) (seen : List ℕ → Bool) (name : List ℕ)
     (is_new : Bool) (old mid new : List Finding) → all ≡ fields ++ f ∷ [] → AreSeen seen fields → name ≡ lowercase_name f
     → is_new ≡ not (seen name) → mid ≡ old ++ each_after (repeated_after key) [] fields
     → new ≡ mid ++ cond is_new [] (repeated_finding key f ∷ [])
     → new ≡ old ++ each_after (repeated_after key) [] all
 repeated_next key all fields f seen name is_new old mid new all_is are is tells before more =
-    let so_far : List Finding = each_after (repeated_after key) [] fields in
-    let says : is_new ≡ not (list_any (have_one_name f) fields) =
-    tells ∙ ap (λ n. not (seen n)) is ∙ ap not (are (lowercase_name f)) in
-    more ∙ ap (λ l. l ++ cond is_new [] (repeated_finding key f ∷ [])) before
-    ∙ append_assoc old so_far (cond is_new [] (repeated_finding key f ∷ []))
-    ∙ ap (λ b. old ++ (so_far ++ cond b [] (repeated_finding key f ∷ []))) says
-    ∙ ap (λ l. old ++ (so_far ++ l)) (turned_choice (list_any (have_one_name f) fields) (repeated_finding key f))
-    ∙ ap (λ l. old ++ l) (sym (after_more (repeated_after key) [] fields f))
-    ∙ ap (λ l. old ++ each_after (repeated_after key) [] l) (sym all_is)
+    given_next key all fields f is_new old mid new all_is
+    (tells ∙ ap (λ n. not (seen n)) is ∙ ap not (are (lowercase_name f))) before more

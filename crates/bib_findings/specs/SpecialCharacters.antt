@@ -11,7 +11,7 @@ use Rattle.bib_findings.specs.Errors.{finding_at}
 use Rattle.bib_findings.specs.Fields.{named_message}
 use Rattle.bib_findings.specs.Identities.{literal_text}
 use Rattle.bib_findings.specs.Nearest.{is_known_name}
-use Rattle.bib_findings.specs.Outside.{outside_braces}
+use Rattle.bib_findings.specs.Outside.{outside}
 use Rattle.bib_findings.specs.declared.codes.Code.TheVariants.{SpecialCharacter}
 use Rattle.bib_findings.specs.declared.finding.Finding.{Finding}
 use Rattle.bib_findings.specs.declared.special_characters.Zone.{Zone}
@@ -59,7 +59,12 @@ first_special zone (c ∷ rest) = if is_unescaped_special zone c then Some c els
 
 -- the first special character of a text outside braces and math: the argument of a command may have any of these characters
 abbrev pub special_of : List ℕ → Option ℕ
-special_of text = first_special InText (chars (outside_braces text))
+special_of text = first_special InText (outside 0 (chars text))
+
+-- the zone after a character outside braces, as it is shown: an `x` for an opening brace, and nothing for a closing one
+abbrev pub zone_after_shown : Zone → ℕ → Zone
+zone_after_shown zone c =
+    if c == char.open_brace then zone_after zone char.letter_x else if c == char.close_brace then zone else zone_after zone c
 
 -- the tested fields: names, titles, publishers, places and notes that BibLaTeX prints as text
 abbrev pub printed_fields : Names

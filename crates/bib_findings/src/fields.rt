@@ -1,11 +1,11 @@
 //! Findings of fields that are repeated or empty, of empty keys, and of DOIs with an address or a scheme.
 
 ghost use Rattle.std.specs.Prelude.{◌≡◌, ◌++◌, [], ◌∷◌, codes, if◌then◌else◌, map, IfOk, OnOk};
-ghost use Rattle.std.specs.List.{flat_map, list_all};
+ghost use Rattle.std.specs.List.{flat_map, list_all, list_any};
 ghost use Rattle.std.specs.String.{string_bytes};
 ghost use Rattle.bib_tables.specs.Requirements.{texts};
 ghost use Rattle.bib_syntax.specs.Views.{entry_reading_of, field_of, piece_of};
-ghost use Rattle.bib_findings.specs.Entries.{is_blank_piece, is_empty_value};
+ghost use Rattle.bib_findings.specs.Entries.{have_one_name, is_blank_piece, is_empty_value};
 ghost use Rattle.bib_findings.specs.Fields as spec;
 ghost use Rattle.bib_findings.specs.Fields.{address_findings, empty_finding, empty_findings, empty_of, key_findings, repeated_finding, repeated_findings};
 
@@ -17,7 +17,7 @@ use crate::identities::own_literal;
 use crate::malformed_dates::DATE_FIELDS;
 use crate::nearest::is_among;
 use crate::places::{field_place, has_own_field};
-use bib_syntax::raw::{Pair, RawChunk, RawEntry};
+use bib_syntax::raw::{Pair, RawChunk, RawEntry, is_word};
 use bib_text::spanned::Spanned;
 use bib_text::text::Text;
 use std::alloc::{AllocError, Global};
@@ -67,8 +67,33 @@ fn add_unless_new(
     Ok(())
 }
 
-/// Appends a finding for each field of an entry whose name an earlier field has, in any ASCII case.
-pub(crate) fn add_repeated(
+// Returns whether one of these fields has the name of another one, in any ASCII case.
+fn have_name_of(fields: &[Pair<'_>], other: &Pair<'_>) -> bool
+    ensures { result ≡ list_any (have_one_name (field_of other.now)) (map field_of fields.now) }
+{
+    fields.iter().any(|field| is_word(other.key.v, field.key.v))
+}
+
+// Appends a finding for each field of an entry whose name an earlier field has, in any ASCII case. Compares each field with all earlier
+// ones.
+fn add_repeated_of_few(
+    alloc: Global,
+    found: &mut Vec<Finding>,
+    said: &Spanned<RawEntry<'_>>,
+) -> Result<(), AllocError>
+    ensures { OnOk result (found.new.items ≡ found.old.items ++ repeated_findings (entry_reading_of said.now)) }
+{
+    let fields = said.v.fields.as_slice();
+    'fields: for index in 0..fields.len() {
+        let field = &fields[index];
+        let is_new = !have_name_of(&fields[..index], field);
+        add_unless_new(alloc, found, is_new, said.v.key.v, field)?;
+    }
+    Ok(())
+}
+
+// Appends a finding for each field of an entry whose name an earlier field has, in any ASCII case. Stores the names of the fields.
+fn add_repeated_of_many(
     alloc: Global,
     found: &mut Vec<Finding>,
     said: &Spanned<RawEntry<'_>>,
@@ -82,6 +107,23 @@ pub(crate) fn add_repeated(
         add_unless_new(alloc, found, is_new, said.v.key.v, field)?;
     }
     Ok(())
+}
+
+// The greatest number of fields that are compared with each other. It takes less time than storing so few names.
+const FEW_FIELDS: usize = 16;
+
+/// Appends a finding for each field of an entry whose name an earlier field has, in any ASCII case.
+pub(crate) fn add_repeated(
+    alloc: Global,
+    found: &mut Vec<Finding>,
+    said: &Spanned<RawEntry<'_>>,
+) -> Result<(), AllocError>
+    ensures { OnOk result (found.new.items ≡ found.old.items ++ repeated_findings (entry_reading_of said.now)) }
+{
+    if said.v.fields.len() <= FEW_FIELDS {
+        return add_repeated_of_few(alloc, found, said);
+    }
+    add_repeated_of_many(alloc, found, said)
 }
 
 // Returns whether a piece of a value is a literal without a character, or with only white space.

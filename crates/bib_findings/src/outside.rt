@@ -6,8 +6,8 @@ ghost use Rattle.bib_findings.specs.Outside as spec;
 
 use std::alloc::{AllocError, Global};
 
-// Returns the number of open braces after a character, if `depth` are open before it.
-fn open_braces_after(depth: usize, c: char) -> usize
+/// Returns the number of open braces after a character, if `depth` are open before it.
+pub(crate) fn open_braces_after(depth: usize, c: char) -> usize
     requires { depth < 2 ^ 64 - 1 }
     ensures value { result ≡ spec.open_braces_after depth c }
     ensures small { result ≤ depth + 1 }

@@ -1,6 +1,6 @@
 //! Findings of special characters: those that are special to LaTeX, and occur outside braces and math where no backslash escapes them.
 
-ghost use Rattle.std.specs.Prelude.{◌≡◌, ◌++◌, IfOk, OnOk};
+ghost use Rattle.std.specs.Prelude.{◌≡◌, ◌==◌, ◌&&◌, ◌++◌, IfOk, OnOk, if◌then◌else◌};
 ghost use Rattle.std.specs.String.{string_bytes};
 ghost use Rattle.std.specs.Str.{chars};
 ghost use Rattle.bib_syntax.specs.Views.{field_of};
@@ -13,7 +13,7 @@ use crate::fields::named_message;
 use crate::finding::Finding;
 use crate::identities::literal_text;
 use crate::nearest::is_among;
-use crate::outside::outside_braces;
+use crate::outside::open_braces_after;
 use bib_syntax::raw::Pair;
 use bib_text::text::Text;
 use std::alloc::{AllocError, Global};
@@ -128,16 +128,46 @@ fn is_unescaped_special(zone: Zone, c: char) -> bool
     matches!(zone, Zone::InText) && is_latex_special(c)
 }
 
-// Returns the first special character of a text that is outside math and that no backslash escapes.
+// Returns whether a character in this zone is a special one in the text itself. `depth` braces are open before it.
+fn is_special_at(depth: usize, zone: Zone, c: char) -> bool
+    ensures { result ≡ (depth == 0 && spec.is_unescaped_special zone c) }
+{
+    depth == 0 && is_unescaped_special(zone, c)
+}
+
+// Returns the zone after a character outside braces, as it is shown: an `x` for an opening brace, and nothing for a closing one.
+fn zone_after_shown(zone: Zone, c: char) -> Zone
+    ensures { result ≡ spec.zone_after_shown zone c }
+{
+    match c {
+        '{' => zone_after(zone, 'x'),
+        '}' => zone,
+        _ => zone_after(zone, c),
+    }
+}
+
+// Returns the zone after a character that is shown if no brace is open before it. `depth` braces are open.
+fn zone_at(depth: usize, zone: Zone, c: char) -> Zone
+    ensures { result ≡ if depth == 0 then spec.zone_after_shown zone c else zone }
+{
+    if depth != 0 {
+        return zone;
+    }
+    zone_after_shown(zone, c)
+}
+
+// Returns the first special character of a text that is outside braces and math, and that no backslash escapes.
 fn first_special(text: &str) -> Option<char>
-    ensures { result ≡ spec.first_special InText (chars text.now) }
+    ensures { result ≡ spec.special_of text.now }
 {
     let mut zone = Zone::InText;
+    let mut depth = 0usize;
     'characters: for c in text.chars() {
-        if is_unescaped_special(zone, c) {
+        if is_special_at(depth, zone, c) {
             return Some(c);
         }
-        zone = zone_after(zone, c);
+        zone = zone_at(depth, zone, c);
+        depth = open_braces_after(depth, c);
     }
     None
 }
@@ -186,8 +216,7 @@ pub(crate) fn add_special(
 ) -> Result<(), AllocError>
     ensures { OnOk result (found.new.items ≡ found.old.items ++ specials_of key.now (field_of field.now)) }
 {
-    let outside = outside_braces(alloc, literal_text(&field.value.v))?;
-    let Some(c) = first_special(&outside) else {
+    let Some(c) = first_special(literal_text(&field.value.v)) else {
         return Ok(());
     };
     found.push(special_finding(alloc, key, field, c)?)?;

@@ -6,11 +6,11 @@ use crate::several::{TextFile, joined_texts, lines_of_all, move_spans};
 use crate::stops::{Stop, bytes_of, output_stop, say};
 use bib_select::selection::Selection;
 use bib_source::decoding::decode;
-use bib_syntax::raw::JoinedFiles;
+use bib_syntax::raw::{JoinedFiles, RawEntry, is_word};
 use bibkit_convert::converting::{ConvertError, print_entries, print_entry};
 use bibkit_convert::target::Target;
 use bibkit_core::conditions::selected_keys;
-use biblatex::{Bibliography, Output, RawRecovery, Sink};
+use biblatex::{Bibliography, Output, RawRecovery, Sink, Spanned};
 use edit_entries::document::RawDocument;
 use edit_resolve::resolving::resolve;
 use std::alloc::{AllocError, Global};
@@ -35,6 +35,17 @@ struct Progress {
     status: u8,
 }
 
+// Returns whether an entry has a field `crossref` or `xdata`.
+fn refers(entry: &Spanned<RawEntry<'_>>) -> bool {
+    let mut fields = entry.v.fields.iter();
+    fields.any(|field| is_word(field.key.v, "crossref") || is_word(field.key.v, "xdata"))
+}
+
+// Returns whether an entry of a document has a field `crossref` or `xdata`. Otherwise, `resolve` returns the same text.
+fn has_references(document: &RawDocument<'_>) -> bool {
+    document.raw().entries.iter().any(refers)
+}
+
 // Returns a text with its references `crossref` and `xdata` resolved by the rules of BibLaTeX. Returns `None` if that is the same text, if
 // an entry inherits from itself, or if the text has a syntax error.
 fn resolved_text(alloc: Global, text: &str) -> Result<Option<String>, AllocError> {
@@ -45,6 +56,9 @@ fn resolved_text(alloc: Global, text: &str) -> Result<Option<String>, AllocError
             return Ok(None);
         }
     };
+    if !has_references(&document) {
+        return Ok(None);
+    }
     let resolved = match resolve(alloc, &document) {
         Ok(resolved) => resolved,
         Err(error) => {

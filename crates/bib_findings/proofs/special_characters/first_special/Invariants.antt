@@ -1,9 +1,8 @@
-use Rattle.std.proofs.Common.{◌≡◌, drop, length}
+use Rattle.std.proofs.Common.{length}
 use Rattle.std.specs.Prelude.{chars}
-use Rattle.bib_findings.specs.SpecialCharacters.{first_special}
-use Rattle.bib_findings.specs.declared.special_characters.Zone.TheVariants.{InText}
+use Rattle.bib_findings.proofs.SpecialFacts.{IsSpecialAfter}
 use Rattle.bib_findings.proofs.special_characters.first_special.Given as goal
 
--- the first special character of the remaining characters, which begin in this zone, is that of all characters
+-- the first special character is that of the remaining characters
 abbrev pub invariant-characters : goal.invariant-characters
-invariant-characters l = first_special InText (chars l.text) ≡ first_special l.zone (drop (length l.yielded) (chars l.text))
+invariant-characters l = IsSpecialAfter (chars l.text) (length l.yielded) l.depth l.zone

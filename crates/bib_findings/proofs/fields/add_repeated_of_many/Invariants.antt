@@ -4,7 +4,7 @@ use Rattle.bib_syntax.specs.Views.{field_of}
 use Rattle.bib_findings.specs.After.{each_after}
 use Rattle.bib_findings.specs.Fields.{repeated_after}
 use Rattle.bib_findings.proofs.RepeatedFacts.{AreSeen}
-use Rattle.bib_findings.proofs.fields.add_repeated.Given as goal
+use Rattle.bib_findings.proofs.fields.add_repeated_of_many.Given as goal
 
 -- the set contains the names of the first fields in lowercase, and a finding was appended for each of these that is repeated
 abbrev pub invariant-fields : goal.invariant-fields

@@ -8,7 +8,7 @@ use Rattle.bib_findings.specs.After.{each_after}
 use Rattle.bib_findings.specs.Counted.{lowercase_name}
 use Rattle.bib_findings.specs.Fields.{repeated_after}
 use Rattle.bib_findings.proofs.RepeatedFacts.{AreSeen, repeated_next, seen_more}
-use Rattle.bib_findings.proofs.fields.add_repeated.Goals as goal
+use Rattle.bib_findings.proofs.fields.add_repeated_of_many.Goals as goal
 
 pub fields-preserved : goal.fields-preserved
 fields-preserved c =
