@@ -3,6 +3,7 @@
 -- no comments in entries: it reports an error at the percent sign, and skips the rest of the entry.
 use Rattle.std.specs.Prelude.{ℕ, ◌+◌, ◌==◌, List, [], ◌∷◌, ◌++◌, codes, Option, None, Some, option_map}
 use Rattle.std.specs.List.{flat_map, position}
+use Rattle.std.specs.Option.{option_or}
 use Rattle.bib_text.specs.Characters as char
 use Rattle.bib_text.specs.Places.{between, place}
 use Rattle.bib_syntax.specs.Reading.{EntryReading, FieldReading}
@@ -16,16 +17,11 @@ abbrev pub percent_between : List ℕ → ℕ → ℕ → Option ℕ
 percent_between text start end =
     option_map (λ index. start + index) (position (λ b. b == char.percent) (between (place text start) (place text end)))
 
--- an offset if there is one, or else the other one
-abbrev pub or_later : Option ℕ → Option ℕ → Option ℕ
-or_later None other = other
-or_later (Some at) other = Some at
-
 -- the byte offset of the first percent sign outside of these fields, from `start` up to `end`, if there is one
 abbrev pub comment_outside : List ℕ → ℕ → List FieldReading → ℕ → Option ℕ
 comment_outside text start [] end = percent_between text start end
 comment_outside text start (f ∷ rest) end =
-    or_later (percent_between text start f.name.start) (comment_outside text f.value.end rest end)
+    option_or (percent_between text start f.name.start) (comment_outside text f.value.end rest end)
 
 -- the byte offset of the first comment of an entry after its key, if there is one
 abbrev pub first_comment : List ℕ → EntryReading → Option ℕ

@@ -33,9 +33,8 @@ fn first_comment(text: &str, said: &Spanned<RawEntry<'_>>) -> Option<usize>
 {
     let mut start = said.v.key.span.end;
     'fields: for field in &said.v.fields {
-        let found = percent_between(text, start, field.key.span.start);
-        if found.is_some() {
-            return found;
+        if let Some(at) = percent_between(text, start, field.key.span.start) {
+            return Some(at);
         }
         start = field.value.span.end;
     }
