@@ -4,7 +4,7 @@ _bibkit() {
     local codes='unread-bytes escape-sequence syntax unread-field unknown-abbreviation circular-abbreviation duplicate-key
         circular-reference unread-date unknown-type missing-field superfluous-field malformed-field not-a-number malformed-date unknown-field foreign-field
         repeated-field empty-field wrong-isbn wrong-issn doi-address url-scheme malformed-name special-character html two-years empty-key
-        stray-field unknown-reference likely-duplicate key-case early-parent repeated-definition unused-definition missing-entry unused-entry'
+        stray-field comment-in-entry unbalanced-quote unknown-reference likely-duplicate key-case early-parent repeated-definition unused-definition missing-entry unused-entry'
     local fields='author editor title subtitle booktitle journaltitle journal series edition volume number pages publisher location address
         institution school organization date year month doi isbn issn url urldate note keywords abstract crossref'
     if [ "$COMP_CWORD" = 1 ]; then

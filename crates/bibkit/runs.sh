@@ -234,7 +234,7 @@ for code in unread-bytes syntax unread-field circular-abbreviation duplicate-key
     run_start "the meaning of $code" 0 "$code (error): " lint --explain $code no-file.bib
 done
 for code in escape-sequence unknown-abbreviation unread-date unknown-type missing-field superfluous-field malformed-field malformed-date unknown-field repeated-field \
-    wrong-isbn wrong-issn doi-address url-scheme malformed-name special-character html two-years empty-key stray-field unknown-reference likely-duplicate \
+    wrong-isbn wrong-issn doi-address url-scheme malformed-name special-character html two-years empty-key stray-field comment-in-entry unbalanced-quote unknown-reference likely-duplicate \
     key-case repeated-definition unused-entry; do
     run_start "the meaning of $code" 0 "$code (warning): " lint --explain $code no-file.bib
 done

@@ -20,7 +20,7 @@ use Rattle.bib_findings.specs.Types.{AreOfType}
 use Rattle.bib_findings.specs.Cuts.{whole_among}
 use Rattle.bib_findings.specs.Definitions.{definition_findings}
 use Rattle.bib_findings.specs.Duplicates.{duplicates, entries_at}
-use Rattle.bib_findings.specs.Findings.{AreBetween, AreFindingsIn, AreOfEntry, AreOfKept, AreSortedByPlace, single_findings}
+use Rattle.bib_findings.specs.Findings.{AreBetween, AreFindingsIn, AreOfEntry, AreOfKept, AreSortedByPlace, reading_findings, single_findings}
 use Rattle.bib_findings.specs.Once.{once_findings}
 use Rattle.bib_findings.specs.KeyCases.{case_findings}
 use Rattle.bib_findings.specs.Lacking.{with_flags}
@@ -194,48 +194,53 @@ added_in_order none one two three new a b c d empty first second third fourth =
     let start : one ≡ a = first ∙ ap (λ l. l ++ a) empty in
     added_thrice one two three new b c d second third fourth ∙ ap (λ l. l ++ (b ++ (c ++ d))) start
 
--- appending three lists in turn to the concatenation of four lists makes the concatenation of all seven
-joined_in_order : (a b c d e f g : List Finding)
-    → (((a ++ (b ++ (c ++ d))) ++ e) ++ f) ++ g ≡ a ++ (b ++ (c ++ (d ++ (e ++ (f ++ g)))))
-joined_in_order a b c d e f g = simp append_assoc
+-- appending four lists in turn to the concatenation of four lists makes the concatenation of all eight
+joined_in_order : (a b c d e f g h : List Finding)
+    → ((((a ++ (b ++ (c ++ d))) ++ e) ++ f) ++ g) ++ h ≡ a ++ (b ++ (c ++ (d ++ (e ++ (f ++ (g ++ h))))))
+joined_in_order a b c d e f g h = simp append_assoc
 
--- the findings of references, likely duplicates, stray fields, keys, parents, names that are reported once and definitions, appended in
--- turn to an empty list, are those between entries
+-- the findings of references, likely duplicates, stray fields, keys, parents, names that are reported once, definitions and text that is
+-- read otherwise, appended in turn to an empty list, are those between entries
 pub between_are : (text ends : List ℕ) (skipped : List SkippedBlock) (names : ByText ℕ) (said : List EntryReading) (origins : List ℕ)
     (own : List Entry) (definitions : List FieldReading) (whole : List EntryReading)
-    (none one two three four five six new : List Finding)
+    (none one two three four five six seven new : List Finding)
     → whole ≡ whole_among skipped (entries_at said origins)
     → none ≡ [] → Adds (AreOfEach (AreReferences names) said origins own) none one → two ≡ one ++ duplicates whole
     → three ≡ two ++ stray_findings text whole → four ≡ three ++ case_findings (entries_at said origins)
     → five ≡ four ++ early_findings (entries_at said origins) → six ≡ five ++ once_findings ends (entries_at said origins)
-    → new ≡ six ++ definition_findings definitions
+    → seven ≡ six ++ definition_findings definitions
+    → new ≡ seven ++ reading_findings text (entries_at said origins) definitions
     → AreBetween text ends skipped names said origins own definitions new
-between_are text ends skipped names said origins own definitions whole none one two three four five six new are_whole empty references alike
-    strays cases early once defined = record {
+between_are text ends skipped names said origins own definitions whole none one two three four five six seven new are_whole empty
+    references alike strays cases early once defined readings = record {
       of_keys = references.added;
       keys = references.are;
       are =
-          defined
-          ∙ ap (λ l. l ++ last) once
-          ∙ ap (λ l. (l ++ once_findings ends entries) ++ last) early
-          ∙ ap (λ l. ((l ++ early_findings entries) ++ once_findings ends entries) ++ last)
+          readings
+          ∙ ap (λ l. l ++ last) defined
+          ∙ ap (λ l. (l ++ again) ++ last) once
+          ∙ ap (λ l. ((l ++ once_findings ends entries) ++ again) ++ last) early
+          ∙ ap (λ l. (((l ++ early_findings entries) ++ once_findings ends entries) ++ again) ++ last)
           (added_in_order none one two three four references.added (duplicates whole) (stray_findings text whole) (case_findings entries)
           empty references.new_is alike strays cases)
           ∙ joined_in_order references.added (duplicates whole) (stray_findings text whole) (case_findings entries) (early_findings entries)
-          (once_findings ends entries) last
+          (once_findings ends entries) again last
           ∙ ap
           (λ l.
           references.added
           ++ (duplicates l
           ++ (stray_findings text l
-          ++ (case_findings entries ++ (early_findings entries ++ (once_findings ends entries ++ last))))))
+          ++ (case_findings entries ++ (early_findings entries ++ (once_findings ends entries ++ (again ++ last)))))))
           are_whole;
     } where
       entries : List EntryReading
       entries = entries_at said origins
 
+      again : List Finding
+      again = definition_findings definitions
+
       last : List Finding
-      last = definition_findings definitions
+      last = reading_findings text entries definitions
 
 -- the sorted findings of all parts are the findings of the recovered file
 pub sorted_are : {E : Type 0} (text : List ℕ) (skipped : List SkippedBlock) (lacking : List Bool) (errors : List ParseError)

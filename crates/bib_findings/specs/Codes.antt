@@ -2,7 +2,7 @@
 -- Codes of findings: their names and severities.
 use Rattle.std.specs.Prelude.{ℕ, List, [], ◌∷◌, Option, bytes_eq, codes, find}
 use Rattle.bib_findings.specs.declared.codes.Code.{Code}
-use Rattle.bib_findings.specs.declared.codes.Code.TheVariants.{UnreadBytes, EscapeSequence, Syntax, UnreadField, UnknownAbbreviation, CircularAbbreviation, DuplicateKey, CircularReference, UnreadDate, UnknownType, MissingField, SuperfluousField, MalformedField, NotANumber, MalformedDate, UnknownField, ForeignField, RepeatedField, EmptyField, WrongIsbn, WrongIssn, DoiAddress, UrlScheme, MalformedName, SpecialCharacter, Html, TwoYears, EmptyKey, StrayField, UnknownReference, LikelyDuplicate, KeyCase, EarlyParent, RepeatedDefinition, UnusedDefinition, MissingEntry, UnusedEntry}
+use Rattle.bib_findings.specs.declared.codes.Code.TheVariants.{UnreadBytes, EscapeSequence, Syntax, UnreadField, UnknownAbbreviation, CircularAbbreviation, DuplicateKey, CircularReference, UnreadDate, UnknownType, MissingField, SuperfluousField, MalformedField, NotANumber, MalformedDate, UnknownField, ForeignField, RepeatedField, EmptyField, WrongIsbn, WrongIssn, DoiAddress, UrlScheme, MalformedName, SpecialCharacter, Html, TwoYears, EmptyKey, StrayField, CommentInEntry, UnbalancedQuote, UnknownReference, LikelyDuplicate, KeyCase, EarlyParent, RepeatedDefinition, UnusedDefinition, MissingEntry, UnusedEntry}
 use Rattle.bib_findings.specs.declared.codes.Severity.{Severity}
 use Rattle.bib_findings.specs.declared.codes.Severity.TheVariants.{Error, Warning, Info}
 
@@ -43,6 +43,8 @@ code_name Html = codes "html"
 code_name TwoYears = codes "two-years"
 code_name EmptyKey = codes "empty-key"
 code_name StrayField = codes "stray-field"
+code_name CommentInEntry = codes "comment-in-entry"
+code_name UnbalancedQuote = codes "unbalanced-quote"
 code_name UnknownReference = codes "unknown-reference"
 code_name LikelyDuplicate = codes "likely-duplicate"
 code_name KeyCase = codes "key-case"
@@ -58,15 +60,15 @@ all_codes =
     UnreadBytes ∷ EscapeSequence ∷ Syntax ∷ UnreadField ∷ UnknownAbbreviation ∷ CircularAbbreviation ∷ DuplicateKey ∷ CircularReference
     ∷ UnreadDate ∷ UnknownType ∷ MissingField ∷ SuperfluousField ∷ MalformedField ∷ NotANumber ∷ MalformedDate ∷ UnknownField ∷ ForeignField
     ∷ RepeatedField ∷ EmptyField ∷ WrongIsbn ∷ WrongIssn ∷ DoiAddress ∷ UrlScheme ∷ MalformedName ∷ SpecialCharacter
-    ∷ Html ∷ TwoYears ∷ EmptyKey ∷ StrayField ∷ UnknownReference ∷ LikelyDuplicate ∷ KeyCase ∷ EarlyParent ∷ RepeatedDefinition
-    ∷ UnusedDefinition ∷ MissingEntry ∷ UnusedEntry ∷ []
+    ∷ Html ∷ TwoYears ∷ EmptyKey ∷ StrayField ∷ CommentInEntry ∷ UnbalancedQuote ∷ UnknownReference ∷ LikelyDuplicate ∷ KeyCase
+    ∷ EarlyParent ∷ RepeatedDefinition ∷ UnusedDefinition ∷ MissingEntry ∷ UnusedEntry ∷ []
 
 -- the code that has this name, if there is one
 abbrev pub code_named : List ℕ → Option Code
 code_named name = find (λ code. bytes_eq (code_name code) name) all_codes
 
 -- the severity of a code: an error if the file isn't UTF-8, a block is skipped, an entry or a field is removed, or a cited entry is
--- missing; information if nothing is wrong for BibLaTeX; a warning otherwise
+-- missing; information if nothing is wrong for BibLaTeX and BibTeX reads each field; a warning otherwise
 abbrev pub severity_of : Code → Severity
 severity_of UnreadBytes = Error
 severity_of Syntax = Error

@@ -19,6 +19,7 @@ use Rattle.bib_text.specs.declared.spanned.Spanned.{Spanned}
 use Rattle.bib_syntax.specs.declared.raw.recovery.SkippedBlock.{SkippedBlock}
 use Rattle.bib_collections.specs.Sorted.{ByText}
 use Rattle.bib_findings.specs.StandardNumbers.{number_findings}
+use Rattle.bib_findings.specs.Comments.{comment_findings}
 use Rattle.bib_findings.specs.Cuts.{whole_among}
 use Rattle.bib_findings.specs.Definitions.{definition_findings}
 use Rattle.bib_findings.specs.Duplicates.{duplicates, entries_at}
@@ -33,6 +34,7 @@ use Rattle.bib_findings.specs.MalformedDates.{date_findings}
 use Rattle.bib_findings.specs.Names.{AreOfMisspelled}
 use Rattle.bib_findings.specs.ParentOrder.{early_findings}
 use Rattle.bib_findings.specs.People.{name_findings}
+use Rattle.bib_findings.specs.Quotes.{defined_quotes, quote_findings}
 use Rattle.bib_findings.specs.References.{AreReferences}
 use Rattle.bib_findings.specs.Reported.{AreOfReport, reported_missing}
 use Rattle.bib_findings.specs.Stray.{stray_findings}
@@ -79,6 +81,12 @@ pub record AreOfEntry (missing : Names) (said : EntryReading) (entry : Entry) (f
 abbrev pub AreOfKept : EntryReading → Bool × Entry → List Finding → Type 0
 AreOfKept one flagged found = AreOfEntry (reported_missing flagged.0 one flagged.1) one flagged.1 found
 
+-- the findings of text that BibTeX or Biber reads otherwise: comments in these entries, and texts in quotes with unbalanced braces in them
+-- and in these definitions
+abbrev pub reading_findings : List ℕ → List EntryReading → List FieldReading → List Finding
+reading_findings text entries definitions =
+    comment_findings text entries ++ (quote_findings text entries ++ defined_quotes text definitions)
+
 -- whether `found` is `all`, sorted by the start of the span; findings with the same start keep their order
 pub record AreSortedByPlace (all found : List Finding) : Type 0 where
   pub same : IsPermutation all found
@@ -87,8 +95,8 @@ pub record AreSortedByPlace (all found : List Finding) : Type 0 where
 
 -- whether these are the findings between entries, in this order: keys that no kept entry has; entries that are likely the same work; text
 -- after an entry that reads as a field; keys that differ only in ASCII case; parents that come before their children; names that are
--- reported once in a file; abbreviations that are defined again with another value. A cut entry is no likely duplicate, and the text
--- after it isn't tested. If the text is that of several files, they end at the offsets `ends`.
+-- reported once in a file; abbreviations that are defined again with another value; text that BibTeX or Biber reads otherwise. A cut
+-- entry is no likely duplicate, and the text after it isn't tested. If the text is that of several files, they end at the offsets `ends`.
 pub record AreBetween (text ends : List ℕ) (skipped : List SkippedBlock) (names : ByText ℕ) (said : List EntryReading)
     (origins : List ℕ) (own : List Entry) (definitions : List FieldReading) (found : List Finding) : Type 0 where
   pub of_keys : List Finding
@@ -99,7 +107,8 @@ pub record AreBetween (text ends : List ℕ) (skipped : List SkippedBlock) (name
       ++ (stray_findings text (whole_among skipped (entries_at said origins))
       ++ (case_findings (entries_at said origins)
       ++ (early_findings (entries_at said origins)
-      ++ (once_findings ends (entries_at said origins) ++ definition_findings definitions)))))
+      ++ (once_findings ends (entries_at said origins)
+      ++ (definition_findings definitions ++ reading_findings text (entries_at said origins) definitions))))))
 
 -- whether these are the findings of a recovered file, sorted by their starts: those of skipped blocks, of errors, of each kept
 -- entry, and those between entries. `lacking` says of each kept entry whether fields of it may be lost

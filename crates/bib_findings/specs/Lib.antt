@@ -2,6 +2,7 @@ pub mod Adding
 pub mod After
 pub mod CheckDigits
 pub mod Codes
+pub mod Comments
 pub mod Counted
 pub mod Cuts
 pub mod Definitions
@@ -33,6 +34,7 @@ pub mod OtherDigits
 pub mod Outside
 pub mod ParentOrder
 pub mod People
+pub mod Quotes
 pub mod Reaching
 pub mod References
 pub mod Reported

@@ -10,7 +10,7 @@ pub enum Severity {
     Error,
     /// Something may be wrong.
     Warning,
-    /// Nothing is wrong for BibLaTeX.
+    /// Nothing is wrong for BibLaTeX, and BibTeX reads each field.
     Info,
 }
 
@@ -88,6 +88,10 @@ pub enum Code {
     EmptyKey,
     /// Text after an entry that reads as a field.
     StrayField,
+    /// A comment in an entry. BibTeX skips the rest of the entry.
+    CommentInEntry,
+    /// A text in quotes whose braces aren't balanced. BibTeX and Biber may end it elsewhere.
+    UnbalancedQuote,
     /// A key that an entry refers to and no kept entry has, as its key or in its field `ids`.
     UnknownReference,
     /// An entry that is likely the same work as an earlier one.
@@ -109,7 +113,7 @@ pub enum Code {
 // The codes in the order of their listing. First come findings of a file's bytes, of parsing and of inheriting, then those about an entry's
 // type, fields and key. Then come those about text after entries, references, duplicates, the case of keys, the order of entries and
 // abbreviations, and last those about documents.
-static CODES: [Code; 37] = [
+static CODES: [Code; 39] = [
     Code::UnreadBytes,
     Code::EscapeSequence,
     Code::Syntax,
@@ -139,6 +143,8 @@ static CODES: [Code; 37] = [
     Code::TwoYears,
     Code::EmptyKey,
     Code::StrayField,
+    Code::CommentInEntry,
+    Code::UnbalancedQuote,
     Code::UnknownReference,
     Code::LikelyDuplicate,
     Code::KeyCase,
@@ -191,6 +197,8 @@ impl Code {
             Self::TwoYears => "two-years",
             Self::EmptyKey => "empty-key",
             Self::StrayField => "stray-field",
+            Self::CommentInEntry => "comment-in-entry",
+            Self::UnbalancedQuote => "unbalanced-quote",
             Self::UnknownReference => "unknown-reference",
             Self::LikelyDuplicate => "likely-duplicate",
             Self::KeyCase => "key-case",
@@ -210,7 +218,7 @@ impl Code {
     }
 
     /// Returns its severity: an error if the file isn't UTF-8, a block is skipped, an entry or a field is removed, or a cited entry is
-    /// missing; information if nothing is wrong for BibLaTeX; a warning otherwise.
+    /// missing; information if nothing is wrong for BibLaTeX and BibTeX reads each field; a warning otherwise.
     pub fn severity(self) -> Severity
         ensures { result ≡ severity_of self }
     {
@@ -247,6 +255,8 @@ impl Code {
             | Self::TwoYears
             | Self::EmptyKey
             | Self::StrayField
+            | Self::CommentInEntry
+            | Self::UnbalancedQuote
             | Self::UnknownReference
             | Self::LikelyDuplicate
             | Self::KeyCase
@@ -316,6 +326,10 @@ impl Code {
                 "The entry has no key, so no document can cite it. Biber skips it. Write a key and a comma after the opening brace.",
             Self::StrayField =>
                 "The text after the closing brace of an entry reads as a field. BibTeX and Biber ignore it, so the field is lost. Most often a value before this brace has a closing brace too many.",
+            Self::CommentInEntry =>
+                "A percent sign after a comma or after a value begins a comment. Biber and this program read on after its line. BibTeX has no comments in entries: it reports an error at the percent sign, and skips the rest of the entry, with its later fields. Move the comment before the entry, where BibTeX ignores it unless it contains an at sign. To leave out a field, remove it, or change its name to one that no style prints. Only the first comment of an entry is reported.",
+            Self::UnbalancedQuote =>
+                "A text in quotes has an opening brace that isn't closed, or a closing brace that has no opening one. This program ends the text at the first quote without a backslash before it. BibTeX and Biber end it at the first quote outside of braces, so they may read other fields than this program. At a closing brace without an opening one they report an error, and BibTeX skips the rest of the entry. A brace after a backslash counts, too. Write the whole text in braces instead of quotes, with as many closing braces as opening ones. Only the first such text of a field is reported.",
             Self::UnknownReference =>
                 "The field `crossref`, `xdata`, `xref`, `related` or `entryset` names a key that no entry has as its key or in `ids`. An entry with the code `duplicate-key` doesn't count, because it is left out. Nothing is inherited through this reference. Correct the key, or add the entry.",
             Self::LikelyDuplicate =>

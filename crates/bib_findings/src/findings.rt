@@ -5,11 +5,13 @@ ghost use Rattle.std.specs.BTreeMap.{get_by_text};
 ghost use Rattle.bib_tables.specs.Requirements.{texts};
 ghost use Rattle.bib_syntax.specs.Views.{entry_reading_of, field_of, file_of};
 ghost use Rattle.bib_findings.specs.Adding.{Adds};
+ghost use Rattle.bib_findings.specs.Duplicates.{entries_at};
 ghost use Rattle.bib_findings.specs.Entries.{AreOfEach};
-ghost use Rattle.bib_findings.specs.Findings.{AreBetween, AreFindings, AreFindingsIn, AreFindingsOf, AreOfEntry, AreOfKept, AreSortedByPlace, entries_said, own_findings, single_findings, text_findings};
+ghost use Rattle.bib_findings.specs.Findings.{AreBetween, AreFindings, AreFindingsIn, AreFindingsOf, AreOfEntry, AreOfKept, AreSortedByPlace, entries_said, own_findings, reading_findings, single_findings, text_findings};
 ghost use Rattle.bib_findings.specs.Lacking.{with_flags};
 ghost use Rattle.bib_findings.specs.Met.{AreFieldNames};
 
+use crate::comments::add_comments;
 use crate::cuts::whole_origins;
 use crate::definitions::add_redefinitions;
 use crate::demands::reported_missing;
@@ -26,6 +28,7 @@ use crate::names::{FieldName, add_misspelled_fields};
 use crate::once::add_once;
 use crate::parent_order::add_early;
 use crate::people::add_names;
+use crate::quotes::{add_defined_quotes, add_quotes};
 use crate::references::add_references;
 use crate::standard_numbers::add_numbers;
 use crate::stray::add_strays;
@@ -137,13 +140,33 @@ fn add_entries(
     Ok(())
 }
 
+// Appends the findings of text that BibTeX or Biber reads otherwise: comments in entries, and texts in quotes with unbalanced braces in
+// entries and in definitions of abbreviations. `text` is the text of the file. `origins` contains the index of each entry in `said`.
+fn add_readings(
+    alloc: Global,
+    found: &mut Vec<Finding>,
+    text: &str,
+    said: &[Spanned<RawEntry<'_>>],
+    origins: &[usize],
+    definitions: &[Pair<'_>],
+) -> Result<(), AllocError>
+    requires { All (λ index. index < length said.now) origins.now }
+    ensures { OnOk result (found.new.items ≡ found.old.items ++
+        reading_findings text.now (entries_at (entries_said said.now) origins.now) (map field_of definitions.now)) }
+{
+    add_comments(alloc, found, text, said, origins)?;
+    add_quotes(alloc, found, text, said, origins)?;
+    add_defined_quotes(alloc, found, text, definitions)
+}
+
 /// Returns the findings between entries, with only the fields that each entry has itself. They are, in this order: keys that an
 /// entry refers to and no kept entry has; entries that are likely the same work as an earlier one; text after an entry that reads
 /// as a field; keys that differ only in ASCII case; parents that come before their children; names that are reported once in a file;
-/// abbreviations that are defined again with another value. `text` is the text of the file, `skipped` contains its skipped blocks, and
-/// `definitions` contains its definitions of abbreviations. If `text` is that of several files, `ends` contains the offset at which each
-/// of them ends. `origins` contains the index of each entry in `said`, the raw entries of the file. An entry that begins where a skipped
-/// block begins is no likely duplicate, and the text after it isn't tested. Fails only if out of memory.
+/// abbreviations that are defined again with another value; comments in entries; and texts in quotes with unbalanced braces, first those
+/// of entries. `text` is the text of the file, `skipped` contains its skipped blocks, and `definitions` contains its definitions of
+/// abbreviations. If `text` is that of several files, `ends` contains the offset at which each of them ends. `origins` contains the index
+/// of each entry in `said`, the raw entries of the file. An entry that begins where a skipped block begins is no likely duplicate, and the
+/// text after it isn't tested. Fails only if out of memory.
 pub fn between(
     alloc: Global,
     text: &str,
@@ -169,6 +192,7 @@ pub fn between(
     add_early(alloc, &mut found, said, origins)?;
     add_once(alloc, &mut found, ends, said, origins)?;
     add_redefinitions(alloc, &mut found, definitions)?;
+    add_readings(alloc, &mut found, text, said, origins, definitions)?;
     Ok(found)
 }
 

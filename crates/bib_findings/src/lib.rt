@@ -4,7 +4,7 @@
 //! entries and references. For each entry it reports a misspelled type, missing, superfluous and malformed fields, misspelled
 //! field names, and the findings of its key and of single fields. `findings::between` reports unknown references, likely
 //! duplicates, text after an entry that reads as a field, keys that differ only in ASCII case, early parents, names that are
-//! reported once in a file, and abbreviations that are defined again.
+//! reported once in a file, abbreviations that are defined again, comments in entries, and texts in quotes with unbalanced braces.
 //! `findings::findings_in` sorts all findings by their starts. `findings::findings` also reports the abbreviations that nothing uses.
 //!
 //! `codes` contains the codes and their explanations. `places` finds fields in an entry, and `cuts` finds the entries of skipped
@@ -14,12 +14,13 @@
 //! `other_digits` tests texts for the digits of other scripts, `foreign` has the fields of other programs, `outside` finds the
 //! text outside braces, `volume_labels` tests texts for usual labels of volumes, and `date_parts` finds the field of a date that can't be parsed.
 //! `errors`, `types`, `entries`, `names`, `fields`, `standard_numbers`, `urls`, `malformed_dates`, `people`,
-//! `special_characters`, `html`, `years`, `stray`, `references`, `duplicates`, `key_cases`, `parent_order`, `once`, `definitions` and
-//! `unused_definitions` make the findings; `duplicates` uses `identities`.
+//! `special_characters`, `html`, `years`, `stray`, `comments`, `quotes`, `references`, `duplicates`, `key_cases`, `parent_order`, `once`,
+//! `definitions` and `unused_definitions` make the findings; `duplicates` uses `identities`.
 #![tactic(auto)]
 
 mod check_digits;
 pub mod codes;
+mod comments;
 mod cuts;
 mod date_parts;
 mod definitions;
@@ -46,6 +47,7 @@ mod outside;
 mod parent_order;
 mod people;
 pub mod places;
+mod quotes;
 mod references;
 mod special_characters;
 mod standard_numbers;

@@ -1,3 +1,4 @@
+pub mod BalanceFacts
 pub mod CitationFacts
 pub mod CitedFacts
 pub mod DefinitionFacts

@@ -1,4 +1,6 @@
 pub mod Answers
+pub mod Balance
+pub mod Bytes
 pub mod Citations
 pub mod Cited
 pub mod Collecting
@@ -9,6 +11,7 @@ pub mod Lines
 pub mod Names
 pub mod Needed
 pub mod Preambles
+pub mod Quotes
 pub mod Searching
 pub mod Sets
 pub mod Sources

@@ -7,8 +7,13 @@
 //! Entries and abbreviations are nodes: they have names and refer to names. `needed` marks the needed nodes. Its map
 //! contains the indices of the nodes with each name. Its stack contains the marked nodes whose references are not
 //! looked up yet. Looking up a name removes it from the map, so that its indices are visited only once.
+//!
+//! `balance`, `bytes` and `quotes` test texts for edits and findings: whether braces are balanced, which bytes are at byte offsets, and
+//! whether the end of a text in quotes depends on the program.
 #![tactic(auto)]
 
+pub mod balance;
+pub mod bytes;
 pub mod citations;
 mod cited;
 mod elements;
@@ -20,6 +25,7 @@ pub mod lines;
 pub mod names;
 mod needed;
 mod preambles;
+pub mod quotes;
 pub mod request;
 mod sets;
 pub mod sources;

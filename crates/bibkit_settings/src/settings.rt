@@ -43,7 +43,7 @@ pub enum OutputFormat {
 }
 
 // The names of the codes of findings, in the order in which they are listed.
-static CODES: [&str; 37] = [
+static CODES: [&str; 39] = [
     "unread-bytes",
     "escape-sequence",
     "syntax",
@@ -73,6 +73,8 @@ static CODES: [&str; 37] = [
     "two-years",
     "empty-key",
     "stray-field",
+    "comment-in-entry",
+    "unbalanced-quote",
     "unknown-reference",
     "likely-duplicate",
     "key-case",

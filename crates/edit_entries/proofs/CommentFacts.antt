@@ -16,10 +16,11 @@ use Rattle.bib_syntax.specs.Grammar.{Gap, LineComment, longest}
 use Rattle.bib_syntax.specs.Grammar.{Gap as gap}
 use Rattle.bib_syntax.proofs.FieldFacts.{ahead_gap}
 use Rattle.bib_syntax.proofs.FileFacts.{ahead_line_comment}
+use Rattle.bib_queries.specs.Bytes.{has_byte_at}
 use Rattle.edit_entries.specs.Changes.{IsTrimmed}
 use Rattle.edit_entries.specs.Documents.{Document, IsDocument, field_limit}
 use Rattle.edit_entries.specs.Edits.{Edit, edited, moved_place}
-use Rattle.edit_entries.specs.Unset.{after_bytes, comma_before, comma_end, feed_after, feed_before, has_byte_at, is_closed, is_no_line_feed, joining_edit, line_end_at, lines_edit, sign_after, sign_before}
+use Rattle.edit_entries.specs.Unset.{after_bytes, comma_before, comma_end, feed_after, feed_before, is_closed, is_no_line_feed, joining_edit, line_end_at, lines_edit, sign_after, sign_before}
 use Rattle.edit_entries.proofs.EditFacts.{ascii_stands, before_frame, moved_after, moved_before, new_bytes}
 use Rattle.edit_entries.proofs.EntryFacts.{goes}
 use Rattle.edit_entries.proofs.FieldsFromFacts.{FieldsFrom}

@@ -12,9 +12,10 @@ use Rattle.bib_syntax.specs.Grammar.{Fields, Gap, LineComment, longest}
 use Rattle.bib_syntax.specs.Grammar.{Fields as fields}
 use Rattle.bib_syntax.specs.Grammar.{Gap as gap}
 use Rattle.bib_syntax.proofs.FieldFacts.{ahead_fields, ahead_gap}
+use Rattle.bib_queries.specs.Bytes.{has_byte_at}
 use Rattle.edit_entries.specs.Changes.{IsTrimmed, value_end}
 use Rattle.edit_entries.specs.Documents.{field_limit}
-use Rattle.edit_entries.specs.Unset.{after_bytes, comma_after, comma_end, gap_end, has_byte_at, has_comment_beside, is_closed, is_no_line_feed, line_end_at, own_end}
+use Rattle.edit_entries.specs.Unset.{after_bytes, comma_after, comma_end, gap_end, has_comment_beside, is_closed, is_no_line_feed, line_end_at, own_end}
 use Rattle.edit_entries.proofs.GapEndFacts.{Starts, byte_char, comment_line, fields_start, gap_found, gap_stops, run_stopped}
 use Rattle.edit_entries.proofs.SplitFacts.{FieldsAfter}
 use Rattle.edit_entries.proofs.UnsetFacts.{limit_of}

@@ -18,7 +18,8 @@ use Rattle.bib_syntax.specs.Grammar.{Fields as fields}
 use Rattle.bib_syntax.specs.Grammar.{Gap as gap}
 use Rattle.bib_syntax.proofs.LawFacts.{start_plain}
 use Rattle.bib_text.proofs.BoolFacts.{and_true_left}
-use Rattle.edit_entries.specs.Unset.{after_bytes, gap_end, has_byte_at, is_line_space, is_no_line_feed}
+use Rattle.bib_queries.specs.Bytes.{has_byte_at}
+use Rattle.edit_entries.specs.Unset.{after_bytes, gap_end, is_line_space, is_no_line_feed}
 use Rattle.edit_entries.proofs.EditFacts.{ascii_stands, rest_stands}
 use Rattle.edit_entries.proofs.UnsetFacts.{limit_of}
 use Rattle.edit_entries.proofs.ValueFacts.{run_stands}

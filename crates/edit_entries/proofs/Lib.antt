@@ -57,7 +57,6 @@ pub mod SetLawFacts
 pub mod SplitFacts
 pub mod StandsFacts
 pub mod StretchFacts
-pub mod BalanceFacts
 mod TakenFacts
 mod NameFacts
 pub mod TrimFacts

@@ -13,10 +13,11 @@ use Rattle.bib_syntax.specs.Grammar.{Field, Fields, Gap, longest}
 use Rattle.bib_syntax.specs.Grammar.{Fields as fields}
 use Rattle.bib_syntax.specs.Grammar.{Gap as gap}
 use Rattle.bib_syntax.proofs.FieldFacts.{ahead_elements, ahead_field, ahead_fields, ahead_gap, elements_stop}
+use Rattle.bib_queries.specs.Bytes.{has_byte_at}
 use Rattle.edit_entries.specs.Changes.{IsTrimmed, value_end}
 use Rattle.edit_entries.specs.Documents.{Document, IsDocument, field_limit}
 use Rattle.edit_entries.specs.Edits.{Edit, edited, moved_place, moved_field}
-use Rattle.edit_entries.specs.Unset.{after_bytes, comma_after, comma_before, comma_end, end_before, has_byte_at, has_comment_beside, is_closed, is_no_line_feed, line_edit}
+use Rattle.edit_entries.specs.Unset.{after_bytes, comma_after, comma_before, comma_end, end_before, has_comment_beside, is_closed, is_no_line_feed, line_edit}
 use Rattle.edit_entries.proofs.EditFacts.{Fits, before_frame, after_frame, moved_after, moved_before, zone_before, zone_after}
 use Rattle.edit_entries.proofs.ZoneFacts.{Frame, Inside, Zone, char_there, inside, inside_between, there}
 use Rattle.edit_entries.proofs.GrammarFacts.{below_between, below_char, field_there, fields_there, gap_there}

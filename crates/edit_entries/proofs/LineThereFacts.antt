@@ -6,8 +6,9 @@ use Rattle.bib_text.specs.Places.{place}
 use Rattle.bib_text.proofs.PlaceFacts.{ahead_char, ahead_then, char_within}
 use Rattle.bib_syntax.specs.Reading.{EntryReading, FieldReading}
 use Rattle.bib_syntax.proofs.FieldFacts.{ahead_fields, ahead_gap}
+use Rattle.bib_queries.specs.Bytes.{has_byte_at}
 use Rattle.edit_entries.specs.Documents.{Document, IsDocument, field_limit}
-use Rattle.edit_entries.specs.Unset.{comma_after, comma_before, end_before, gap_end, has_byte_at}
+use Rattle.edit_entries.specs.Unset.{comma_after, comma_before, end_before, gap_end}
 use Rattle.edit_entries.proofs.FieldsFromFacts.{fields_past}
 use Rattle.edit_entries.proofs.GapEndFacts.{fields_start, gap_past, gap_stops, gap_within}
 use Rattle.edit_entries.proofs.KeptFacts.{field_inside}

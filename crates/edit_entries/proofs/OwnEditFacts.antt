@@ -7,10 +7,11 @@ use Rattle.std.proofs.lemmas.Bool.{eqb-true}
 use Rattle.bib_text.proofs.ListFacts.{get_here, element_at}
 use Rattle.bib_text.proofs.PlaceFacts.{test_clash}
 use Rattle.bib_syntax.specs.Reading.{EntryReading, FieldReading}
+use Rattle.bib_queries.specs.Bytes.{has_byte_at, has_percent}
 use Rattle.edit_entries.specs.Changes.{IsTrimmed}
 use Rattle.edit_entries.specs.Documents.{Document, IsDocument, field_limit, has_name}
 use Rattle.edit_entries.specs.Edits.{Edit, edited, edited_all, moved_entry, moved_field, moved_place, placeless}
-use Rattle.edit_entries.specs.Unset.{comma_after, comma_before, comma_end, edit_before, end_before, feed_after, feed_before, gap_end, has_byte_at, has_percent, is_closed, joining_edit, line_edit, lines_edit, own_edit, own_edits, own_end, plain_edit, sign_after, sign_before, with_edit}
+use Rattle.edit_entries.specs.Unset.{comma_after, comma_before, comma_end, edit_before, end_before, feed_after, feed_before, gap_end, is_closed, joining_edit, line_edit, lines_edit, own_edit, own_edits, own_end, plain_edit, sign_after, sign_before, with_edit}
 use Rattle.edit_entries.proofs.CommentFacts.{joining_removed, lines_removed}
 use Rattle.edit_entries.proofs.EditFacts.{moved_before}
 use Rattle.edit_entries.proofs.GapEndFacts.{gap_past, gap_within}

@@ -6,7 +6,8 @@ use Rattle.std.specs.List.{list_any, prefix_len}
 use Rattle.std.specs.Option.{option_map_or}
 use Rattle.std.proofs.lemmas.Bool.{cases_lt}
 use Rattle.bib_text.proofs.PlaceFacts.{test_clash}
-use Rattle.edit_entries.specs.Unset.{after_bytes, after_comment, gap_end, has_byte_at, has_percent, is_no_line_feed}
+use Rattle.bib_queries.specs.Bytes.{has_byte_at, has_percent}
+use Rattle.edit_entries.specs.Unset.{after_bytes, after_comment, gap_end, is_no_line_feed}
 use Rattle.edit_entries.proofs.AgreementFacts.{same_bytes}
 use Rattle.edit_entries.proofs.GapEndFacts.{after_within, before_end, stopped}
 

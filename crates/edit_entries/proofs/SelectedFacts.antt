@@ -9,13 +9,14 @@ use Rattle.bib_text.specs.Places.{Run, place}
 use Rattle.bib_text.proofs.ListFacts.{get_here}
 use Rattle.bib_text.proofs.PlaceFacts.{ahead_run}
 use Rattle.bib_syntax.specs.Reading.{EntryReading, FieldReading, FileReading}
+use Rattle.bib_queries.specs.Bytes.{has_byte_at, has_percent}
 use Rattle.edit_entries.specs.Changes.{IsTrimmed, value_end}
 use Rattle.edit_entries.specs.Cuts.{AreEntriesCut}
 use Rattle.edit_entries.specs.Documents.{Document, IsDocument, IsEdited, field_limit, has_name}
 use Rattle.edit_entries.specs.EditList.{AreEditsInOrder}
 use Rattle.edit_entries.specs.Edits.{Edit, edited_all, moved_entry, placeless}
 use Rattle.edit_entries.specs.Selected.{FieldsUnset, unset_if_selected, without_if_selected, would_be_empty}
-use Rattle.edit_entries.specs.Unset.{after_bytes, comma_after, comma_before, comma_end, commented_edit, edit_before, end_before, feed_after, feed_before, gap_end, has_byte_at, has_comment_beside, has_percent, is_closed, is_line_space, is_no_line_feed, line_end_at, or_removals, own_edit, own_edits, own_end, plain_edit, sign_after, sign_before, unset_edits, with_edit, without_named}
+use Rattle.edit_entries.specs.Unset.{after_bytes, comma_after, comma_before, comma_end, commented_edit, edit_before, end_before, feed_after, feed_before, gap_end, has_comment_beside, is_closed, is_line_space, is_no_line_feed, line_end_at, or_removals, own_edit, own_edits, own_end, plain_edit, sign_after, sign_before, unset_edits, with_edit, without_named}
 use Rattle.edit_entries.proofs.AgreementFacts.{same_bytes, same_run}
 use Rattle.edit_entries.proofs.CutFacts.{document_cut}
 use Rattle.edit_entries.proofs.KeptFacts.{AreEditsWithin, IsFieldInside, edited_append, entry_inside, field_inside, front_kept, within_append, within_earlier, within_order}

@@ -9,7 +9,7 @@ use Rattle.bib_syntax.specs.Grammar.{is_word}
 use Rattle.bib_syntax.specs.Reading.{EntryReading, FieldReading, Piece}
 use Rattle.bib_syntax.specs.Reading.Piece.{abbreviation, literal}
 use Rattle.bib_tables.specs.Months.{month_of_abbreviation}
-use Rattle.edit_entries.specs.Balance.{IsBalanced}
+use Rattle.bib_queries.specs.Balance.{IsBalanced}
 use Rattle.edit_entries.specs.Changes.{EntryChange, FieldChange, NewField, NewValue, braced_value, edits_of_entry, entry_changed, field_reading, new_field_text}
 use Rattle.edit_entries.specs.Documents.{CanBeName, CanStandInBraces, Document, HasEntry, HasField, first_position, has_name, is_keyed, is_value, text_at}
 use Rattle.edit_entries.specs.Edits.{edited, edited_all, placeless}

@@ -8,19 +8,12 @@ use Rattle.std.specs.Option.{option_map_or}
 use Rattle.bib_text.specs.Characters as char
 use Rattle.bib_text.specs.Places.{between, place}
 use Rattle.bib_syntax.specs.Reading.{EntryReading, FieldReading}
+use Rattle.bib_queries.specs.Bytes.{has_byte_at, has_percent}
 use Rattle.edit_entries.specs.Changes.{value_end}
 use Rattle.edit_entries.specs.Documents.{Document, HasEntry, field_edit, field_limit, has_name, have_only}
 use Rattle.edit_entries.specs.Edits.{Edit, edited_all, placeless}
 
 -- ---- byte offsets
-
--- whether a text has a byte at a byte offset
-abbrev pub has_byte_at : List ℕ → ℕ → ℕ → Bool
-has_byte_at text at c = option_map_or (λ b. b == c) (slice_get text at) false
-
--- whether a percent sign occurs between two byte offsets
-abbrev pub has_percent : List ℕ → ℕ → ℕ → Bool
-has_percent text start end = list_any (λ b. b == char.percent) (between (place text start) (place text end))
 
 -- the byte offset after the longest run of bytes that pass a test, from the first byte offset on and before the second one
 abbrev pub after_bytes : (ℕ → Bool) → List ℕ → ℕ → ℕ → ℕ

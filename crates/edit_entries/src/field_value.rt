@@ -9,10 +9,10 @@ ghost use Rattle.edit_entries.specs.Setting as spec;
 ghost use Rattle.edit_entries.specs.Setting.{CanBeValue, IsBare, IsWritableAt, unfit_error, value_of};
 ghost use Rattle.edit_entries.specs.declared.errors.EditError.TheVariants.{NotInBraces, OutOfMemory};
 
-use crate::balance::is_balanced;
 use crate::braces::in_braces;
 use crate::errors::EditError;
 use crate::names::can_be_new_name;
+use bib_queries::balance::is_balanced;
 use bib_syntax::raw::{Pair, RawChunk, is_word};
 use bib_tables::months::Month;
 use bib_text::digits::are_digits;

@@ -13,7 +13,6 @@
 #![tactic(auto)]
 
 mod adding;
-pub mod balance;
 pub mod braces;
 mod definitions;
 pub mod document;
@@ -29,7 +28,6 @@ pub mod line_ends;
 pub mod lookup;
 mod names;
 pub mod new_keys;
-pub mod quotes;
 pub mod references;
 mod removing;
 mod renaming;

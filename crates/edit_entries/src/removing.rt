@@ -20,6 +20,7 @@ ghost use Rattle.edit_entries.specs.Unset as unset;
 use crate::editing::{Edit, edited};
 use crate::setting::has_field;
 use crate::values::value_end;
+use bib_queries::bytes::{has_byte, has_percent, stretch};
 use bib_syntax::raw::{Pair, RawEntry, is_word};
 use bib_text::scanner::Scanner;
 use bib_text::spanned::Spanned;
@@ -145,34 +146,6 @@ pub(crate) fn have_only(fields: &[Pair<'_>], name: &str) -> bool
     ensures { result ≡ documents.have_only name.now (map field_of fields.now) }
 {
     has_field(fields, name) && are_named(fields, name)
-}
-
-// Returns the bytes between two byte offsets of a text.
-fn stretch(text: &str, start: usize, end: usize) -> &[u8]
-    ensures is { result.now ≡ places.between (places.place text.now start) (places.place text.now end) }
-    ensures bound { start + length result.now < 2 ^ 64 }
-{
-    let bytes = text.as_bytes();
-    let end = end.min(bytes.len());
-    &bytes[start.min(end)..end]
-}
-
-// Returns whether a percent sign occurs between two byte offsets.
-pub(crate) fn has_percent(text: &str, start: usize, end: usize) -> bool
-    ensures { result ≡ unset.has_percent text.now start end }
-{
-    stretch(text, start, end).contains(&b'%')
-}
-
-// Returns whether a text has a byte at a byte offset.
-pub(crate) fn has_byte(text: &str, at: usize, byte: u8) -> bool
-    ensures is { result ≡ unset.has_byte_at text.now at byte }
-    ensures bound { OnTrue result (at < 2 ^ 64 - 1) }
-{
-    match text.as_bytes().get(at) {
-        Some(found) => *found == byte,
-        None => false,
-    }
 }
 
 // Returns the byte offset at which the value before the field with an index ends, or the key before the first field.

@@ -10,8 +10,9 @@ ghost use Rattle.edit_entries.specs.Placed.{IsPlaced};
 ghost use Rattle.edit_entries.specs.Unset as unset;
 
 use crate::editing::{Edit, edited_all};
-use crate::removing::{comma_after, comma_before, has_byte, has_percent, own_edit, removals};
+use crate::removing::{comma_after, comma_before, own_edit, removals};
 use crate::setting::has_field;
+use bib_queries::bytes::{has_byte, has_percent};
 use bib_syntax::raw::{Pair, RawEntry, is_word};
 use bib_text::spanned::Spanned;
 use std::alloc::{AllocError, Global};

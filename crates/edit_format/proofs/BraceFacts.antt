@@ -3,8 +3,8 @@ use Rattle.std.proofs.Common.{◌≡◌, ℕ, zero, suc, ◌<◌, Bool, true, fa
 use Rattle.std.specs.Prelude.{◌||◌, ◌==◌, is_some, Option, Some, None, slice_index}
 use Rattle.std.specs.List.{list_any}
 use Rattle.memchr.specs.Find.{IsFirstByte, is_byte2}
-use Rattle.edit_entries.specs.Balance.{IsBalanced, byte_count, is_balanced}
-use Rattle.edit_entries.proofs.BalanceFacts.{balanced_test}
+use Rattle.bib_queries.specs.Balance.{IsBalanced, byte_count, is_balanced}
+use Rattle.bib_queries.proofs.BalanceFacts.{balanced_test}
 use Rattle.std.proofs.lemmas.List.{take_all}
 use Rattle.std.proofs.lemmas.Bool.{or_parts}
 use Rattle.std.proofs.Math.Bool.{or-true}

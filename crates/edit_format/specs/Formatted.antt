@@ -10,10 +10,10 @@ use Rattle.bib_text.specs.Places.{between, place}
 use Rattle.bib_syntax.specs.Grammar.{IsRawReading}
 use Rattle.bib_syntax.specs.Reading.{Part, Piece, FieldReading, EntryReading, FileReading}
 use Rattle.bib_syntax.specs.Reading.Piece.{literal, abbreviation}
-use Rattle.edit_entries.specs.Balance.{is_balanced}
+use Rattle.bib_queries.specs.Balance.{is_balanced}
 use Rattle.edit_entries.specs.Edits.{moved_entry, moved_field}
 pub use Rattle.edit_entries.specs.LineEnds.{line_end_of}
-pub use Rattle.edit_entries.specs.Unset.{has_percent}
+pub use Rattle.bib_queries.specs.Bytes.{has_percent}
 use Rattle.edit_format.specs.Delimited.{piece_as_written}
 use Rattle.edit_format.specs.Ordered.{in_order, order_of}
 use Rattle.edit_format.specs.declared.style.Style.{Style}

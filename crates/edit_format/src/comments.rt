@@ -8,9 +8,9 @@ ghost use Rattle.edit_entries.specs.Cuts.{AreGapsCut, CanBeCut};
 ghost use Rattle.edit_format.specs.Formatted as styled;
 ghost use Rattle.memchr.specs.Find.{is_byte2};
 
+use bib_queries::balance::is_balanced;
 use bib_syntax::raw::{Pair, RawChunk, RawEntry};
 use bib_text::spanned::Spanned;
-use edit_entries::balance::is_balanced;
 use memchr::memchr2;
 
 // Returns whether `text` contains a percent sign between two offsets.

@@ -11,7 +11,7 @@ use Rattle.bib_text.specs.Places.{place}
 use Rattle.bib_syntax.specs.Grammar.{NoDigit, is_word}
 use Rattle.bib_syntax.specs.Reading.{Piece, FieldReading, EntryReading, FileReading}
 use Rattle.bib_syntax.specs.Reading.Piece.{literal, abbreviation}
-use Rattle.edit_entries.specs.Balance.{IsBalanced}
+use Rattle.bib_queries.specs.Balance.{IsBalanced}
 use Rattle.edit_entries.specs.Changes.{file_changed, text_changed, IsReadPlaceless, NewValue}
 use Rattle.edit_entries.specs.Documents.{CanBeName, CanStandInBraces, Document, has_name, last_position, text_at}
 use Rattle.edit_entries.specs.Edits.{edited}

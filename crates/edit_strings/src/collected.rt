@@ -8,7 +8,7 @@ ghost use Rattle.edit_strings.specs.Views.{lent_texts};
 
 use crate::naming::is_longer_than_name;
 use crate::texts::count_of;
-use edit_entries::balance::is_balanced;
+use bib_queries::balance::is_balanced;
 use edit_entries::braces::can_stand_in_braces;
 use std::alloc::{AllocError, Global};
 use std::collections::{BTreeMap, BTreeSet};

@@ -1,7 +1,7 @@
 use Rattle.std.proofs.Common.{sym, ap, ◌∙◌}
 use Rattle.std.specs.Prelude.{not}
 use Rattle.bib_syntax.specs.Views.{piece_of}
-use Rattle.edit_entries.proofs.BalanceFacts.{balance_is}
+use Rattle.bib_queries.proofs.BalanceFacts.{balance_is}
 use Rattle.edit_format.specs.Formatted as styled
 use Rattle.edit_format.proofs.BraceFacts.{test_without}
 use Rattle.edit_format.proofs.comments.is_unbalanced.Goals as goal

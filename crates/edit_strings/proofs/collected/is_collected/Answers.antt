@@ -1,6 +1,6 @@
 use Rattle.std.proofs.Common.{◌≡◌, ℕ, ◌≤◌, Bool, true, false, is_some, List, Option, Result, Ok, Err, sym, ◌∙◌, subst}
 use Rattle.std.specs.Prelude.{◌||◌, IfOk, MatchBool}
-use Rattle.edit_entries.specs.Balance.{IsBalanced}
+use Rattle.bib_queries.specs.Balance.{IsBalanced}
 use Rattle.edit_entries.specs.Documents.{CanStandInBraces}
 use Rattle.edit_strings.specs.Collected.{CanBeCollected, is_longer_than_name, times_of}
 use Rattle.edit_strings.specs.Collecting.{known_in}

@@ -3,10 +3,10 @@
 ghost use Rattle.std.specs.Prelude.{◌≡◌, map};
 ghost use Rattle.std.specs.List.{list_any};
 ghost use Rattle.bib_syntax.specs.Views.{entry_reading_of, field_of, piece_of};
-ghost use Rattle.edit_entries.specs.Quotes as spec;
+ghost use Rattle.bib_queries.specs.Quotes as spec;
 
 use crate::balance::is_balanced;
-use crate::removing::has_byte;
+use crate::bytes::has_byte;
 use bib_syntax::raw::{Pair, RawChunk, RawEntry};
 use bib_text::spanned::Spanned;
 
@@ -35,8 +35,8 @@ fn has_unbalanced_quote(text: &str, field: &Pair<'_>) -> bool
     false
 }
 
-// Returns whether one of these fields contains a text in quotes whose braces aren't balanced.
-pub(crate) fn have_unbalanced_quote(text: &str, fields: &[Pair<'_>]) -> bool
+/// Returns whether one of these fields contains a text in quotes whose braces aren't balanced.
+pub fn have_unbalanced_quote(text: &str, fields: &[Pair<'_>]) -> bool
     ensures { result ≡ list_any (spec.has_unbalanced_quote text.now) (map field_of fields.now) }
 {
     'fields: for field in fields {
@@ -47,8 +47,8 @@ pub(crate) fn have_unbalanced_quote(text: &str, fields: &[Pair<'_>]) -> bool
     false
 }
 
-// Returns whether one of these entries contains a text in quotes whose braces aren't balanced.
-pub(crate) fn contain_unbalanced_quote(text: &str, entries: &[Spanned<RawEntry<'_>>]) -> bool
+/// Returns whether one of these entries contains a text in quotes whose braces aren't balanced.
+pub fn contain_unbalanced_quote(text: &str, entries: &[Spanned<RawEntry<'_>>]) -> bool
     ensures { result ≡ list_any (spec.contains_unbalanced_quote text.now) (map entry_reading_of entries.now) }
 {
     'entries: for entry in entries {

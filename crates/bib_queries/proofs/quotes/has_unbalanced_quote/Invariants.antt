@@ -1,8 +1,8 @@
 use Rattle.std.proofs.Common.{◌≡◌, drop, map}
 use Rattle.std.specs.List.{list_any}
 use Rattle.bib_syntax.specs.Views.{field_of, piece_of}
-use Rattle.edit_entries.specs.Quotes as spec
-use Rattle.edit_entries.proofs.quotes.has_unbalanced_quote.Given as goal
+use Rattle.bib_queries.specs.Quotes as spec
+use Rattle.bib_queries.proofs.quotes.has_unbalanced_quote.Given as goal
 
 -- a piece is an unbalanced quote exactly if one of those that are left is
 abbrev pub invariant-pieces : goal.invariant-pieces

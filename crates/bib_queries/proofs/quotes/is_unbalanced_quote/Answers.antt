@@ -1,11 +1,11 @@
 use Rattle.std.proofs.Common.{◌≡◌, ◌-◌, true, sym, ap, ◌∙◌}
 use Rattle.std.specs.Prelude.{◌&&◌, not}
 use Rattle.bib_syntax.specs.Views.{piece_of}
-use Rattle.edit_entries.specs.Balance.{is_balanced}
-use Rattle.edit_entries.specs.Quotes as spec
-use Rattle.edit_entries.specs.Unset.{has_byte_at}
-use Rattle.edit_entries.proofs.BalanceFacts.{balance_is}
-use Rattle.edit_entries.proofs.quotes.is_unbalanced_quote.Goals as goal
+use Rattle.bib_queries.specs.Balance.{is_balanced}
+use Rattle.bib_queries.specs.Quotes as spec
+use Rattle.bib_queries.specs.Bytes.{has_byte_at}
+use Rattle.bib_queries.proofs.BalanceFacts.{balance_is}
+use Rattle.bib_queries.proofs.quotes.is_unbalanced_quote.Goals as goal
 
 pub returns-then-has_byte : goal.returns-then-has_byte
 returns-then-has_byte c =

@@ -1,8 +1,8 @@
 use Rattle.std.proofs.Common.{◌≡◌, drop, map}
 use Rattle.std.specs.List.{list_any}
 use Rattle.bib_syntax.specs.Views.{entry_reading_of}
-use Rattle.edit_entries.specs.Quotes as spec
-use Rattle.edit_entries.proofs.quotes.contain_unbalanced_quote.Given as goal
+use Rattle.bib_queries.specs.Quotes as spec
+use Rattle.bib_queries.proofs.quotes.contain_unbalanced_quote.Given as goal
 
 -- an entry has an unbalanced quote exactly if one of those that are left has
 abbrev pub invariant-entries : goal.invariant-entries

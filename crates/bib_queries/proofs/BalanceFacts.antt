@@ -5,7 +5,7 @@ use Rattle.std.proofs.lemmas.Bool.Decides.{nat_tests}
 use Rattle.std.proofs.lemmas.List.{take_all}
 use Rattle.std.proofs.lemmas.List.Filters.{length-filter_more}
 use Rattle.std.proofs.lemmas.Bool.{and_parts, and_from}
-use Rattle.edit_entries.specs.Balance.{IsBalanced, byte_count, closes_opened, is_balanced}
+use Rattle.bib_queries.specs.Balance.{IsBalanced, byte_count, closes_opened, is_balanced}
 
 -- no prefix of the first `i` bytes has more closing braces than opening ones, and `depth` braces are open after them
 pub record IsCounted (text : List ℕ) (i depth : ℕ) : Type 0 where

@@ -1,7 +1,7 @@
 //! Braces as BibTeX counts them.
 
 ghost use Rattle.std.specs.Prelude.{MatchBool};
-ghost use Rattle.edit_entries.specs.Balance.{IsBalanced};
+ghost use Rattle.bib_queries.specs.Balance.{IsBalanced};
 
 /// Returns whether each closing brace of a text closes an earlier opening brace, and each opening brace is closed. A brace after a
 /// backslash counts, too.
