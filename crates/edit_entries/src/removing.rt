@@ -1,7 +1,6 @@
 //! Removes entries and fields.
 
 ghost use Rattle.std.specs.Prelude.{◌≡◌, ◌+◌, ◌-◌, ◌^◌, ◌++◌, ◌≤◌, ◌<◌, ℕ, [], ◌∷◌, IfOk, OnOk, length, map, option_map};
-ghost use Rattle.std.specs.Bool.{OnTrue};
 ghost use Rattle.std.specs.Char.{is_ascii_whitespace, is_whitespace};
 ghost use Rattle.std.specs.List.{AllByRecursion, list_all, prefix_len};
 ghost use Rattle.std.specs.Str.{IsCharBoundary};
