@@ -4,6 +4,7 @@ pub mod CheckDigits
 pub mod Codes
 pub mod Counted
 pub mod Cuts
+pub mod DefinitionCases
 pub mod Definitions
 pub mod Entries
 pub mod EntryNames
@@ -26,7 +27,6 @@ pub mod MalformedDates
 pub mod Marks
 pub mod Met
 pub mod Names
-pub mod Near
 pub mod Nearest
 pub mod Once
 pub mod OtherDigits
