@@ -1,5 +1,5 @@
 -- The findings of unknown fields, and the cache of field names.
-use Rattle.std.proofs.Common.{◌≡◌, ℕ, Bool, true, false, not, ◌&&◌, ◌||◌, List, [], ◌∷◌, ◌++◌, ◌+◌, ◌<◌, ◌≤◌, length, get_or, take, map, Option, Some, None, option_copied, Result, Ok, Err, OnOk, refl, sym, ap, ◌∙◌, append_assoc, append-nil, subst, arith, cond}
+use Rattle.std.proofs.Common.{◌≡◌, ℕ, Bool, true, false, not, ◌&&◌, List, [], ◌+◌, ◌<◌, ◌≤◌, length, Option, Some, None, option_copied, Result, Ok, Err, OnOk, refl, sym, ap, ◌∙◌, subst, arith, cond}
 use Rattle.std.specs.Borrow.{Bor}
 use Rattle.std.specs.List.{after_first, before_first, position_or_len}
 use Rattle.std.specs.Str.{str_to_ascii_lowercase}

@@ -1,5 +1,5 @@
 -- The known name for which a name may be a typing error.
-use Rattle.std.proofs.Common.{◌≡◌, ℕ, Bool, true, false, not, List, ◌+◌, ◌<◌, ◌≤◌, length, get_or, Option, Some, None, sym, ap, ◌∙◌, cond}
+use Rattle.std.proofs.Common.{◌≡◌, ℕ, Bool, true, false, not, List, ◌+◌, ◌<◌, ◌≤◌, length, get_or, Some, None, sym, ap, ◌∙◌, cond}
 use Rattle.std.specs.Borrow.{Bor}
 use Rattle.std.specs.Prelude.{bytes_eq, codes, drop, find, nat_eq}
 use Rattle.std.specs.List.{ends_with}
