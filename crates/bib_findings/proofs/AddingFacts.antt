@@ -16,7 +16,7 @@ use Rattle.bib_syntax.specs.Reading.{EntryReading, FieldReading}
 use Rattle.bib_findings.specs.Adding.{Adds}
 use Rattle.bib_findings.specs.Entries.{AreOfEach, field_finding}
 use Rattle.bib_findings.specs.Reported.{AreOfReport, is_reported_field, malformed_finding, malformed_findings, lacking_finding, report_findings, superfluous_fields}
-use Rattle.bib_findings.specs.Types.{AreOfType}
+use Rattle.bib_findings.specs.Types.{type_findings}
 use Rattle.bib_findings.specs.Cuts.{whole_among}
 use Rattle.bib_findings.specs.Definitions.{definition_findings}
 use Rattle.bib_findings.specs.Duplicates.{duplicates, entries_at}
@@ -33,7 +33,7 @@ use Rattle.bib_syntax.specs.declared.raw.ParseError.{ParseError}
 use Rattle.bib_syntax.specs.declared.raw.recovery.SkippedBlock.{SkippedBlock}
 use Rattle.std.specs.Global.{Global}
 use Rattle.std.specs.Prelude.{IfOk, Vec}
-use Rattle.bib_findings.specs.Names.{AreOfMisspelled}
+use Rattle.bib_findings.specs.Names.{misspelled_findings}
 use Rattle.bib_findings.specs.declared.codes.Code.TheVariants.{SuperfluousField}
 use Rattle.bib_findings.specs.declared.finding.Finding.{Finding}
 
@@ -113,22 +113,14 @@ report_added said entry missing errors listed old one two new (Err x) same_error
 -- entry
 pub entry_added : {E U : Type 0} (missing : Names) (said : EntryReading) (entry : Entry) (old one two three new : List Finding)
     (r : Result U E)
-    → Adds (AreOfType said) old one → Adds (AreOfReport missing said entry) one two → Adds (AreOfMisspelled said) two three
+    → one ≡ old ++ type_findings said → Adds (AreOfReport missing said entry) one two → three ≡ two ++ misspelled_findings said
     → OnOk r (new ≡ three ++ single_findings missing said entry) → OnOk r (Adds (AreOfEntry missing said entry) old new)
 entry_added missing said entry old one two three new (Ok u) first second third fourth = record {
-  added = first.added ++ (second.added ++ (third.added ++ single_findings missing said entry));
-  are = record {
-    of_type = first.added;
-    type = first.are;
-    of_report = second.added;
-    report = second.are;
-    of_misspelled = third.added;
-    misspelled = third.are;
-    are = refl;
-  };
+  added = type_findings said ++ (second.added ++ (misspelled_findings said ++ single_findings missing said entry));
+  are = record { of_report = second.added; report = second.are; are = refl };
   new_is =
-      added_four_times old one two three new first.added second.added third.added (single_findings missing said entry) first.new_is
-      second.new_is third.new_is fourth;
+      added_four_times old one two three new (type_findings said) second.added (misspelled_findings said)
+      (single_findings missing said entry) first second.new_is third fourth;
 }
 entry_added missing said entry old one two three new (Err x) first second third fourth = tt
 
@@ -243,16 +235,16 @@ between_are text ends skipped names said origins own definitions whole none one 
       last = reading_findings text entries definitions
 
 -- the sorted findings of all parts are the findings of the recovered file
-pub sorted_are : {E : Type 0} (text : List ℕ) (skipped : List SkippedBlock) (lacking : List Bool) (errors : List ParseError)
-    (said : List EntryReading) (origins : List ℕ) (entries : List Entry) (between of_entries all : List Finding)
+pub sorted_are : {E : Type 0} (text : List ℕ) (skipped : List SkippedBlock) (lacking : List Bool) (definitions : List FieldReading)
+    (errors : List ParseError) (said : List EntryReading) (origins : List ℕ) (entries : List Entry) (between of_entries all : List Finding)
     (r : Result (Vec Finding Global) E)
     → AreOfEach AreOfKept said origins (with_flags lacking entries) of_entries
-    → all ≡ map (block_finding text said) skipped ++ (map error_finding errors ++ (of_entries ++ between))
+    → all ≡ map (block_finding text said) skipped ++ (map (error_finding definitions) errors ++ (of_entries ++ between))
     → IfOk r (λ sorted. AreSortedByPlace all sorted.items)
-    → IfOk r (λ found. AreFindingsIn text skipped lacking errors said origins entries between found.items)
-sorted_are text skipped lacking errors said origins entries between of_entries all (Ok found) reports are sorted = record {
+    → IfOk r (λ found. AreFindingsIn text skipped lacking definitions errors said origins entries between found.items)
+sorted_are text skipped lacking definitions errors said origins entries between of_entries all (Ok found) reports are sorted = record {
   of_entries = of_entries;
   reports = reports;
   sorted = subst (λ l. AreSortedByPlace l found.items) are sorted;
 }
-sorted_are text skipped lacking errors said origins entries between of_entries all (Err e) reports are sorted = tt
+sorted_are text skipped lacking definitions errors said origins entries between of_entries all (Err e) reports are sorted = tt

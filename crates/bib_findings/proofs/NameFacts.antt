@@ -1,126 +1,49 @@
 -- The findings of unknown fields, and the cache of field names.
-use Rattle.std.proofs.Common.{◌≡◌, ℕ, Bool, true, false, not, ◌&&◌, ◌||◌, List, [], ◌∷◌, ◌++◌, ◌+◌, ◌<◌, ◌≤◌, length, get_or, take, map, Option, Some, None, option_copied, refl, sym, ap, ◌∙◌, append_assoc, append-nil, subst, arith, cond}
+use Rattle.std.proofs.Common.{◌≡◌, ℕ, Bool, true, false, not, ◌&&◌, List, [], ◌+◌, ◌<◌, ◌≤◌, length, Option, Some, None, option_copied, Result, Ok, Err, OnOk, refl, sym, ap, ◌∙◌, subst, arith, cond}
 use Rattle.std.specs.Borrow.{Bor}
-use Rattle.std.specs.List.{All, AllZip, after_first, before_first, filter, list_any, position_or_len}
+use Rattle.std.specs.List.{after_first, before_first, position_or_len}
 use Rattle.std.specs.Str.{str_to_ascii_lowercase}
-use Rattle.std.proofs.lemmas.List.{drop_all, map_more}
-use Rattle.std.proofs.lemmas.List.Elements.{All-head, All-tail, filter-append}
+use Rattle.std.proofs.lemmas.List.{drop_all}
 use Rattle.std.proofs.lemmas.Slice.Eq.{bytes_eq-Decides}
 use Rattle.std.proofs.Math.Bool.{and-false}
 use Rattle.std.specs.Map.{update}
 use Rattle.std.specs.Prelude.{MatchOption, ◌==◌, bytes_eq, is_some}
-use Rattle.bib_tables.specs.Requirements.{Names}
 use Rattle.bib_text.specs.Characters as char
 use Rattle.bib_syntax.specs.Reading.{FieldReading}
-use Rattle.bib_syntax.specs.Views.{field_of}
-use Rattle.bib_syntax.specs.declared.raw.Pair.{Pair}
-use Rattle.bib_text.proofs.ListFacts.{all_zip_append, some_same}
-use Rattle.bib_findings.specs.Adding.{Adds}
+use Rattle.bib_text.proofs.ListFacts.{some_same}
 use Rattle.bib_findings.specs.Foreign.{is_foreign}
 use Rattle.bib_findings.specs.Met.{AreFieldNames, IsFieldName}
-use Rattle.bib_findings.specs.Names.{AreMisspelledOf, IsOfUnknown, annotated_name, has_suggestion, is_annotation_mark, is_known_field, is_unknown_field, known_fields, misspelled_among}
-use Rattle.bib_findings.specs.Nearest.{IsNearest, is_plausible}
-use Rattle.bib_findings.specs.Types.{has_type_suggestion, known_types}
+use Rattle.bib_findings.specs.Names.{annotated_name, is_annotation_mark, is_known_field, is_unknown_field, known_fields, meant_field, meant_findings, misspelled_of}
+use Rattle.bib_findings.specs.Nearest.{suggestion}
 use Rattle.bib_findings.specs.declared.names.FieldName.{FieldName}
-use Rattle.bib_findings.specs.declared.finding.Finding.{Finding}
 
--- the list of a single field contains a misspelled field exactly if its name is unknown and has a suggestion
-of_one : (field : FieldReading) (misspelled : Bool) → (is_unknown_field field.name.text && has_suggestion field.name.text) ≡ misspelled
-    → misspelled_among (field ∷ []) ≡ cond misspelled (field ∷ []) []
-of_one field misspelled is = ap (λ misspelled. cond misspelled (field ∷ []) []) is
+-- a field whose name isn't unknown isn't misspelled
+pub no_misspelled : (key : List ℕ) (f : FieldReading) → is_unknown_field f.name.text ≡ false → misspelled_of key f ≡ []
+unfolding misspelled_of
+no_misspelled key f known = ap (λ b. cond b (meant_findings key f (meant_field f.name.text)) []) known
 
--- appending the finding of a misspelled field adds the findings of this field
-pub misspelled_alone : (key : List ℕ) (field : FieldReading) (old new : List Finding) (finding : Finding)
-    → is_unknown_field field.name.text ≡ true → has_suggestion field.name.text ≡ true → new ≡ old ++ finding ∷ []
-    → IsOfUnknown key field finding
-    → Adds (AreMisspelledOf key (field ∷ [])) old new
-misspelled_alone key field old new finding unknown suggested more found = record {
-  added = finding ∷ [];
-  are = subst (λ l. AllZip (IsOfUnknown key) l (finding ∷ []))
-      (sym (of_one field true (ap (λ b. b && has_suggestion field.name.text) unknown ∙ suggested))) (found, tt);
-  new_is = more;
-}
+-- an unknown field is misspelled if it may mean a known name
+pub misspelled_by : (key : List ℕ) (f : FieldReading) (meant : Option (List ℕ)) → is_unknown_field f.name.text ≡ true
+    → meant ≡ meant_field f.name.text → misspelled_of key f ≡ meant_findings key f meant
+unfolding misspelled_of
+misspelled_by key f meant unknown is =
+    ap (λ b. cond b (meant_findings key f (meant_field f.name.text)) []) unknown ∙ ap (meant_findings key f) (sym is)
 
--- any other field adds no finding
-other_alone : (key : List ℕ) (field : FieldReading) (old : List Finding)
-    → (is_unknown_field field.name.text && has_suggestion field.name.text) ≡ false → Adds (AreMisspelledOf key (field ∷ [])) old old
-other_alone key field old other = record {
-  added = [];
-  are = subst (λ l. AllZip (IsOfUnknown key) l []) (sym (of_one field false other)) tt;
-  new_is = sym (append-nil old);
-}
+-- the known name that is suggested for a name in lowercase is the one that the name may mean
+pub meant_by : (name lowercase : List ℕ) (meant : Option (List ℕ)) → lowercase ≡ str_to_ascii_lowercase name
+    → meant ≡ suggestion known_fields lowercase → meant ≡ meant_field name
+unfolding meant_field
+meant_by name lowercase meant is of = of ∙ ap (suggestion known_fields) is
 
--- a known field adds no finding, and neither does one of another program
-pub known_alone : (key : List ℕ) (field : FieldReading) (old : List Finding) → is_unknown_field field.name.text ≡ false
-    → Adds (AreMisspelledOf key (field ∷ [])) old old
-known_alone key field old known = other_alone key field old (ap (λ b. b && has_suggestion field.name.text) known)
-
--- an unknown field without a suggestion adds no finding
-pub unknown_alone : (key : List ℕ) (field : FieldReading) (old : List Finding) → has_suggestion field.name.text ≡ false
-    → Adds (AreMisspelledOf key (field ∷ [])) old old
-unknown_alone key field old none =
-    other_alone key field old
-    (ap (λ b. is_unknown_field field.name.text && b) none ∙ and-false (is_unknown_field field.name.text))
-
--- no name passes a test if each of them fails it
-none_passes : (p : List ℕ → Bool) (all : Names) → All (λ one. p one ≡ false) all → list_any p all ≡ false
-none_passes p [] none = refl
-none_passes p (one ∷ all) none =
-    ap (λ b. b || list_any p all) (All-head (λ one. p one ≡ false) one all none)
-    ∙ none_passes p all (All-tail (λ one. p one ≡ false) one all none)
-
--- one of some names passes a test if the list of those that pass it isn't empty
-one_passes : (p : List ℕ → Bool) (all before : Names) (known : List ℕ) (after : Names) → filter p all ≡ before ++ known ∷ after
-    → list_any p all ≡ true
-one_passes p [] [] known after is = absurd (let clash : ◌≡◌ {A = Names} [] (known ∷ after) = is in cc)
-one_passes p [] (first ∷ before) known after is =
-    absurd (let clash : ◌≡◌ {A = Names} [] (first ∷ (before ++ known ∷ after)) = is in cc)
-one_passes p (one ∷ all) before known after is = by (p one) refl (one_passes p all before known after) where
-  by : (test : Bool) → p one ≡ test → (filter p all ≡ before ++ known ∷ after → list_any p all ≡ true)
-      → (p one || list_any p all) ≡ true
-  by true passes rest = ap (λ b. b || list_any p all) passes
-  by false fails rest =
-      ap (λ b. b || list_any p all) fails ∙ rest (sym (ap (λ b. cond b (one ∷ filter p all) (filter p all)) fails) ∙ is)
-
--- a name has a suggestion exactly if there is a nearest known name
-pub suggested : (name : List ℕ) (meant : Option (List ℕ)) → IsNearest known_fields (str_to_ascii_lowercase name) meant
-    → has_suggestion name ≡ is_some meant
-suggested name None none = none_passes (is_plausible (str_to_ascii_lowercase name)) known_fields none
-suggested name (Some known) first =
-    one_passes (is_plausible (str_to_ascii_lowercase name)) known_fields first.before known first.after first.is_there
+-- a fact holds for any result
+pub for_any : {A E : Type 0} (r : Result A E) (P : Type 0) → P → OnOk r P
+for_any (Ok a) P fact = fact
+for_any (Err e) P fact = tt
 
 -- copying the text of a suggestion keeps whether there is one
 pub copied_is : (o : Option (Bor (List ℕ))) (b : Bool) → is_some o ≡ b → is_some (option_copied o) ≡ b
 copied_is None b is = is
 copied_is (Some x) b is = is
-
--- the same for a type
-pub type_suggested : (name : List ℕ) (meant : Option (List ℕ)) → IsNearest known_types (str_to_ascii_lowercase name) meant
-    → has_type_suggestion name ≡ is_some meant
-type_suggested name None none = none_passes (is_plausible (str_to_ascii_lowercase name)) known_types none
-type_suggested name (Some known) first =
-    one_passes (is_plausible (str_to_ascii_lowercase name)) known_types first.before known first.after first.is_there
-
--- the findings of the first fields and of the next one are those of all these fields
-pub fields_next : (key : List ℕ) (fields : List Pair) (index : ℕ) (field : Pair) (old mid new : List Finding)
-    → index < length fields → field ≡ get_or fields index field
-    → Adds (AreMisspelledOf key (map field_of (take index fields))) old mid → Adds (AreMisspelledOf key (field_of field ∷ [])) mid new
-    → Adds (AreMisspelledOf key (map field_of (take (index + 1) fields))) old new
-fields_next key fields index field old mid new within is before more =
-    let so_far : List FieldReading = map field_of (take index fields) in
-    let all : map field_of (take (index + 1) fields) ≡ so_far ++ field_of field ∷ [] =
-    map_more field_of fields index field within ∙ ap (λ one. so_far ++ field_of one ∷ []) (sym is) in
-    let cut : misspelled_among (map field_of (take (index + 1) fields))
-    ≡ misspelled_among so_far ++ misspelled_among (field_of field ∷ []) =
-    ap misspelled_among all
-    ∙ filter-append (λ f. is_unknown_field f.name.text && has_suggestion f.name.text) so_far (field_of field ∷ []) in
-    record {
-      added = before.added ++ more.added;
-      are = subst (λ l. AllZip (IsOfUnknown key) l (before.added ++ more.added)) (sym cut)
-          (all_zip_append (IsOfUnknown key) (misspelled_among so_far) (misspelled_among (field_of field ∷ [])) before.added
-          more.added before.are more.are);
-      new_is = more.new_is ∙ ap (λ l. l ++ more.added) before.new_is ∙ append_assoc old before.added more.added;
-    }
 
 -- adding a name with its classification to the cache keeps it correct
 pub names_more : (old new : List ℕ → Option FieldName) (name : List ℕ) (is : FieldName) → AreFieldNames old

@@ -57,20 +57,24 @@ within_of said origins indices n within are count =
     subst (λ m. All (λ index. index < m) indices) count (subst (λ l. All (λ index. index < length said) l) (sym are) within)
 
 -- equal lists have the same findings of a recovered file
-pub findings_of : (text : List ℕ) (skipped skipped' : List SkippedBlock) (lacking lacking' : List Bool) (errors errors' : List ParseError)
+pub findings_of : (text : List ℕ) (skipped skipped' : List SkippedBlock) (lacking lacking' : List Bool)
+    (definitions definitions' : List FieldReading) (errors errors' : List ParseError)
     (said said' : List EntryReading) (origins origins' : List ℕ) (entries entries' : List Entry)
     (between found : List Finding)
-    → skipped ≡ skipped' → lacking ≡ lacking' → errors ≡ errors' → said ≡ said' → origins ≡ origins' → entries ≡ entries'
-    → AreFindingsIn text skipped lacking errors said origins entries between found
-    → AreFindingsIn text skipped' lacking' errors' said' origins' entries' between found
-findings_of text skipped skipped' lacking lacking' errors errors' said said' origins origins' entries entries' between found
-    a b c d e f are =
-    subst (λ x. AreFindingsIn text skipped' lacking' errors' said' origins' x between found) f
-    (subst (λ x. AreFindingsIn text skipped' lacking' errors' said' x entries between found) e
-    (subst (λ x. AreFindingsIn text skipped' lacking' errors' x origins entries between found) d
-    (subst (λ x. AreFindingsIn text skipped' lacking' x said origins entries between found) c
-    (subst (λ x. AreFindingsIn text skipped' x errors said origins entries between found) b
-    (subst (λ x. AreFindingsIn text x lacking errors said origins entries between found) a are)))))
+    → skipped ≡ skipped' → lacking ≡ lacking' → definitions ≡ definitions' → errors ≡ errors' → said ≡ said' → origins ≡ origins'
+    → entries ≡ entries'
+    → AreFindingsIn text skipped lacking definitions errors said origins entries between found
+    → AreFindingsIn text skipped' lacking' definitions' errors' said' origins' entries' between found
+findings_of text skipped skipped' lacking lacking' definitions definitions' errors errors' said said' origins origins' entries entries'
+    between found
+    a b c d e f g are =
+    subst (λ x. AreFindingsIn text skipped' lacking' definitions' errors' said' origins' x between found) g
+    (subst (λ x. AreFindingsIn text skipped' lacking' definitions' errors' said' x entries between found) f
+    (subst (λ x. AreFindingsIn text skipped' lacking' definitions' errors' x origins entries between found) e
+    (subst (λ x. AreFindingsIn text skipped' lacking' definitions' x said origins entries between found) d
+    (subst (λ x. AreFindingsIn text skipped' lacking' x errors said origins entries between found) c
+    (subst (λ x. AreFindingsIn text skipped' x definitions errors said origins entries between found) b
+    (subst (λ x. AreFindingsIn text x lacking definitions errors said origins entries between found) a are))))))
 
 -- equal lists have the same findings between entries
 pub between_of : (text ends : List ℕ) (skipped skipped' : List SkippedBlock) (names : ByText ℕ) (said said' : List EntryReading)

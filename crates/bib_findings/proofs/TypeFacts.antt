@@ -1,37 +1,25 @@
 -- The findings of an entry's type.
-use Rattle.std.proofs.Common.{◌≡◌, Bool, true, false, not, ◌&&◌, ◌∙◌, ℕ, List, [], ◌∷◌, ◌++◌, refl, sym, ap, append-nil, subst}
-use Rattle.std.specs.Prelude.{MatchBool}
+use Rattle.std.proofs.Common.{◌≡◌, ℕ, true, false, List, [], Option, sym, ap, ◌∙◌, cond}
+use Rattle.std.specs.Str.{str_to_ascii_lowercase}
 use Rattle.bib_syntax.specs.Reading.{EntryReading}
-use Rattle.bib_findings.specs.Adding.{Adds}
-use Rattle.bib_findings.specs.Types.{AreOfType, IsOfUnknownType, has_type_suggestion, is_known_type, is_misspelled_type}
-use Rattle.bib_findings.specs.declared.finding.Finding.{Finding}
+use Rattle.bib_findings.specs.Nearest.{suggestion}
+use Rattle.bib_findings.specs.Types.{is_known_type, known_types, meant_type, meant_type_findings, type_findings}
 
--- the findings of an entry's type, if the test says whether it is misspelled
-abbrev OfType : EntryReading → List Finding → Bool → Type 0
-OfType said found test = MatchBool test ((one : Finding) × IsOfUnknownType said one × (found ≡ one ∷ [])) (found ≡ [])
+-- a known type has no finding
+pub known_right : (said : EntryReading) → is_known_type said.kind.text ≡ true → type_findings said ≡ []
+unfolding type_findings
+known_right said known = ap (λ b. cond b [] (meant_type_findings said (meant_type said.kind.text))) known
 
--- an entry whose type isn't misspelled adds no finding
-pub type_right : (said : EntryReading) (old : List Finding) → is_misspelled_type said.kind.text ≡ false → Adds (AreOfType said) old old
-type_right said old right = record {
-  added = [];
-  are = subst (OfType said []) (sym right) refl;
-  new_is = sym (append-nil old);
-}
+-- an unknown type has a finding if it may mean a known one
+pub unknown_by : (said : EntryReading) (meant : Option (List ℕ)) → is_known_type said.kind.text ≡ false
+    → meant ≡ meant_type said.kind.text → meant_type_findings said meant ≡ type_findings said
+unfolding type_findings
+unknown_by said meant unknown is =
+    ap (meant_type_findings said) is
+    ∙ sym (ap (λ b. cond b [] (meant_type_findings said (meant_type said.kind.text))) unknown)
 
--- a known type isn't misspelled
-pub known_right : (name : List ℕ) → is_known_type name ≡ true → is_misspelled_type name ≡ false
-known_right name known = ap (λ b. not b && has_type_suggestion name) known
-
--- an unknown type is misspelled exactly if there is a suggestion
-pub misspelled_by : (name : List ℕ) (suggested : Bool) → is_known_type name ≡ false → has_type_suggestion name ≡ suggested
-    → is_misspelled_type name ≡ suggested
-misspelled_by name suggested unknown has = ap (λ b. not b && has_type_suggestion name) unknown ∙ has
-
--- appending the finding of a misspelled type adds the findings of the type
-pub type_added : (said : EntryReading) (old new : List Finding) (finding : Finding) → is_misspelled_type said.kind.text ≡ true
-    → IsOfUnknownType said finding → new ≡ old ++ finding ∷ [] → Adds (AreOfType said) old new
-type_added said old new finding misspelled found more = record {
-  added = finding ∷ [];
-  are = subst (OfType said (finding ∷ [])) (sym misspelled) (finding, found, refl);
-  new_is = more;
-}
+-- the known type that is suggested for a name in lowercase is the one that the name may mean
+pub meant_by : (name lowercase : List ℕ) (meant : Option (List ℕ)) → lowercase ≡ str_to_ascii_lowercase name
+    → meant ≡ suggestion known_types lowercase → meant ≡ meant_type name
+unfolding meant_type
+meant_by name lowercase meant is of = of ∙ ap (suggestion known_types) is

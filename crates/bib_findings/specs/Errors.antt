@@ -6,7 +6,7 @@ use Rattle.std.specs.declared.ops.Range.{Range}
 use Rattle.bib_tables.specs.TypeError.{type_kind_text}
 use Rattle.bib_text.specs.Characters as char
 use Rattle.bib_syntax.specs.Errors.{token_text}
-use Rattle.bib_syntax.specs.Reading.{EntryReading}
+use Rattle.bib_syntax.specs.Reading.{EntryReading, FieldReading}
 use Rattle.bib_syntax.specs.declared.raw.ParseError.{ParseError}
 use Rattle.bib_syntax.specs.declared.raw.ParseErrorKind.{ParseErrorKind}
 use Rattle.bib_syntax.specs.declared.raw.ParseErrorKind.TheVariants.{UnexpectedEof, Unexpected, Expected, UnknownAbbreviation, MalformedCommand, DuplicateKey, ResolutionError, AbbreviationCycle, ReferenceCycle}
@@ -14,6 +14,7 @@ use Rattle.bib_syntax.specs.declared.raw.Token.{Token}
 use Rattle.bib_syntax.specs.declared.raw.Token.TheVariants.{OpeningBrace, ClosingBrace, Comma, QuotationMark}
 use Rattle.bib_syntax.specs.declared.raw.recovery.SkippedBlock.{SkippedBlock}
 use Rattle.bib_findings.specs.Cuts.{entry_from}
+use Rattle.bib_findings.specs.DefinitionCases.{error_note}
 use Rattle.bib_findings.specs.EntryNames.{entry_name}
 use Rattle.bib_findings.specs.declared.codes.Code.{Code}
 use Rattle.bib_findings.specs.declared.codes.Code.TheVariants as code
@@ -49,9 +50,9 @@ error_code (ReferenceCycle key) = code.CircularReference
 error_code (ResolutionError kind) = code.UnreadDate
 error_code _ = code.UnreadField
 
--- the finding of an error
-abbrev pub error_finding : ParseError → Finding
-error_finding e = finding_at (error_code e.kind) e.span (error_message e.kind)
+-- the finding of an error in a file with these definitions of abbreviations
+abbrev pub error_finding : List FieldReading → ParseError → Finding
+error_finding definitions e = finding_at (error_code e.kind) e.span (error_message e.kind ++ error_note definitions e)
 
 -- whether a block has no end: its error is reported where the skipped text ends, or later
 abbrev pub is_endless : SkippedBlock → Bool

@@ -31,14 +31,14 @@ use Rattle.bib_findings.specs.Html.{printed_findings}
 use Rattle.bib_findings.specs.KeyCases.{case_findings}
 use Rattle.bib_findings.specs.Lacking.{AreLacking, with_flags}
 use Rattle.bib_findings.specs.MalformedDates.{date_findings}
-use Rattle.bib_findings.specs.Names.{AreOfMisspelled}
+use Rattle.bib_findings.specs.Names.{misspelled_findings}
 use Rattle.bib_findings.specs.ParentOrder.{early_findings}
 use Rattle.bib_findings.specs.People.{name_findings}
 use Rattle.bib_findings.specs.Quotes.{defined_quotes, quote_findings}
 use Rattle.bib_findings.specs.References.{AreReferences}
 use Rattle.bib_findings.specs.Reported.{AreOfReport, reported_missing}
 use Rattle.bib_findings.specs.Stray.{stray_findings}
-use Rattle.bib_findings.specs.Types.{AreOfType}
+use Rattle.bib_findings.specs.Types.{type_findings}
 use Rattle.bib_findings.specs.UnusedDefinitions.{unused_definition_findings}
 use Rattle.bib_findings.specs.Urls.{url_findings}
 use Rattle.bib_findings.specs.Years.{year_findings}
@@ -68,13 +68,9 @@ single_findings missing said entry = own_findings missing said entry ++ text_fin
 -- whether these are the findings of an entry, with its raw form `said` and these missing fields. First comes that of its type, then those
 -- of its report, of misspelled field names, and of its key and its single fields
 pub record AreOfEntry (missing : Names) (said : EntryReading) (entry : Entry) (found : List Finding) : Type 0 where
-  pub of_type : List Finding
-  pub type : AreOfType said of_type
   pub of_report : List Finding
   pub report : AreOfReport missing said entry of_report
-  pub of_misspelled : List Finding
-  pub misspelled : AreOfMisspelled said of_misspelled
-  pub are : found ≡ of_type ++ (of_report ++ (of_misspelled ++ single_findings missing said entry))
+  pub are : found ≡ type_findings said ++ (of_report ++ (misspelled_findings said ++ single_findings missing said entry))
 
 -- whether these are the findings of an entry of a recovered file, with its raw form `one`. The entry comes after a flag: whether fields of
 -- it may be lost. If they may, no field is reported as missing
@@ -111,13 +107,15 @@ pub record AreBetween (text ends : List ℕ) (skipped : List SkippedBlock) (name
       ++ (definition_findings definitions ++ reading_findings text (entries_at said origins) definitions))))))
 
 -- whether these are the findings of a recovered file, sorted by their starts: those of skipped blocks, of errors, of each kept
--- entry, and those between entries. `lacking` says of each kept entry whether fields of it may be lost
-pub record AreFindingsIn (text : List ℕ) (skipped : List SkippedBlock) (lacking : List Bool) (errors : List ParseError)
-    (said : List EntryReading)
+-- entry, and those between entries. `lacking` says of each kept entry whether fields of it may be lost. `definitions` are the file's
+-- definitions of abbreviations
+pub record AreFindingsIn (text : List ℕ) (skipped : List SkippedBlock) (lacking : List Bool) (definitions : List FieldReading)
+    (errors : List ParseError) (said : List EntryReading)
     (origins : List ℕ) (entries : List Entry) (between found : List Finding) : Type 0 where
   pub of_entries : List Finding
   pub reports : AreOfEach AreOfKept said origins (with_flags lacking entries) of_entries
-  pub sorted : AreSortedByPlace (map (block_finding text said) skipped ++ (map error_finding errors ++ (of_entries ++ between))) found
+  pub sorted : AreSortedByPlace
+      (map (block_finding text said) skipped ++ (map (error_finding definitions) errors ++ (of_entries ++ between))) found
 
 -- whether these are the findings of a recovered text with this content and these skipped blocks. The text may be that of several files,
 -- which end at the offsets `ends`. The content includes the complete parts of the skipped blocks. The findings of a kept entry also use the
@@ -136,7 +134,7 @@ pub record AreFindingsOf (text ends : List ℕ) (says : FileReading) (skipped : 
   pub resolved : AreRecovered places names own entries of_references
   pub between : List Finding
   pub are_between : AreBetween text ends skipped names says.entries origins own says.abbreviations between
-  pub are : AreFindingsIn text skipped lacking (of_entries ++ of_references) says.entries origins entries between found
+  pub are : AreFindingsIn text skipped lacking says.abbreviations (of_entries ++ of_references) says.entries origins entries between found
 
 -- whether these are all findings of a file with this text: those of the recovered text, and those of the abbreviations that nothing in
 -- this text uses, sorted by their starts

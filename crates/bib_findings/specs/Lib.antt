@@ -5,6 +5,7 @@ pub mod Codes
 pub mod Comments
 pub mod Counted
 pub mod Cuts
+pub mod DefinitionCases
 pub mod Definitions
 pub mod Entries
 pub mod EntryNames
@@ -27,7 +28,6 @@ pub mod MalformedDates
 pub mod Marks
 pub mod Met
 pub mod Names
-pub mod Near
 pub mod Nearest
 pub mod Once
 pub mod OtherDigits

@@ -1,10 +1,8 @@
 -- Machinery: words of private contracts.
 -- A cache of field names, each with its classification.
 use Rattle.std.specs.Prelude.{◌≡◌, ℕ, true, false, List, Option, Some, option_copied}
-use Rattle.std.specs.Str.{str_to_ascii_lowercase}
 use Rattle.bib_findings.specs.Foreign.{is_foreign}
-use Rattle.bib_findings.specs.Names.{is_unknown_field, known_fields}
-use Rattle.bib_findings.specs.Nearest.{IsNearest}
+use Rattle.bib_findings.specs.Names.{is_unknown_field, meant_field}
 use Rattle.bib_findings.specs.declared.names.FieldName.{FieldName}
 use Rattle.bib_findings.specs.declared.names.FieldName.TheVariants.{Foreign, Known, Unknown}
 
@@ -15,7 +13,7 @@ IsFieldName name Foreign = is_foreign name ≡ true
 IsFieldName name Known = (is_foreign name ≡ false) × (is_unknown_field name ≡ false)
 IsFieldName name (Unknown meant) =
     (is_foreign name ≡ false) × (is_unknown_field name ≡ true)
-    × IsNearest known_fields (str_to_ascii_lowercase name) (option_copied meant)
+    × (option_copied meant ≡ meant_field name)
 
 -- whether each name of the cache has its classification
 abbrev pub AreFieldNames : (List ℕ → Option FieldName) → Type 0

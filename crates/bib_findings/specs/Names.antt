@@ -1,7 +1,8 @@
 -- Meaning: words of public contracts.
 -- The field names that BibLaTeX knows, and the findings of fields with a misspelled one.
-use Rattle.std.specs.Prelude.{◌≡◌, ℕ, Bool, not, ◌==◌, ◌&&◌, ◌||◌, List, ◌++◌, codes, Option, if◌then◌else◌}
-use Rattle.std.specs.List.{AllZip, after_first, before_first, filter, list_any}
+use Rattle.std.specs.Prelude.{ℕ, Bool, not, ◌==◌, ◌&&◌, ◌||◌, List, [], ◌∷◌, ◌++◌, codes, is_some, Option, if◌then◌else◌}
+use Rattle.std.specs.List.{after_first, before_first, flat_map}
+use Rattle.std.specs.Option.{option_map_or}
 use Rattle.std.specs.Str.{str_eq_ignore_ascii_case, str_to_ascii_lowercase}
 use Rattle.bib_text.specs.Characters as char
 use Rattle.bib_tables.specs.Requirements.{Names, fields}
@@ -9,7 +10,7 @@ use Rattle.bib_syntax.specs.Reading.{EntryReading, FieldReading}
 use Rattle.bib_findings.specs.Entries.{part_range}
 use Rattle.bib_findings.specs.Errors.{finding_at}
 use Rattle.bib_findings.specs.Foreign.{begins_in_any_case, is_foreign}
-use Rattle.bib_findings.specs.Nearest.{IsNearest, is_known_name, is_plausible, unknown_message}
+use Rattle.bib_findings.specs.Nearest.{is_known_name, suggestion, unknown_message}
 use Rattle.bib_findings.specs.declared.codes.Code.TheVariants.{UnknownField}
 use Rattle.bib_findings.specs.declared.finding.Finding.{Finding}
 
@@ -58,29 +59,31 @@ annotated_name name =
 abbrev pub is_known_field : List ℕ → Bool
 is_known_field name = is_in_model (annotated_name name)
 
--- whether a known name is near enough to a name to be suggested for it
-abbrev pub has_suggestion : List ℕ → Bool
-has_suggestion name = list_any (is_plausible (str_to_ascii_lowercase name)) known_fields
+-- the known name that a field name may mean
+unfoldable pub meant_field : List ℕ → Option (List ℕ)
+meant_field name = suggestion known_fields (str_to_ascii_lowercase name)
 
--- whether this is the finding of an unknown field, at its name, with the nearest known name as the suggestion, if one is near enough
-pub record IsOfUnknown (key : List ℕ) (field : FieldReading) (found : Finding) : Type 0 where
-  pub meant : Option (List ℕ)
-  pub nearest : IsNearest known_fields (str_to_ascii_lowercase field.name.text) meant
-  pub is : found ≡ finding_at UnknownField (part_range field.name)
-      (unknown_message key (codes "unknown field") field.name.text meant)
+-- whether there is a known name that a field name may mean
+abbrev pub has_suggestion : List ℕ → Bool
+has_suggestion name = is_some (meant_field name)
 
 -- whether a field name is neither known to BibLaTeX nor used by other programs
 abbrev pub is_unknown_field : List ℕ → Bool
 is_unknown_field name = not (is_known_field name) && not (is_foreign name)
 
--- the fields with such a name for which a known name is suggested
-abbrev pub misspelled_among : List FieldReading → List FieldReading
-misspelled_among all = filter (λ f. is_unknown_field f.name.text && has_suggestion f.name.text) all
+-- the finding of an unknown field of the entry with this key, at the field's name, with the known name that it may mean
+abbrev pub misspelled_finding : List ℕ → FieldReading → List ℕ → Finding
+misspelled_finding key f known =
+    finding_at UnknownField (part_range f.name) (unknown_message key (codes "unknown field") f.name.text known)
 
--- whether these are the findings of the misspelled fields in `all`, one for each, in order, for the entry with this key
-abbrev pub AreMisspelledOf : List ℕ → List FieldReading → List Finding → Type 0
-AreMisspelledOf key all found = AllZip (IsOfUnknown key) (misspelled_among all) found
+-- the same if there is such a known name
+abbrev pub meant_findings : List ℕ → FieldReading → Option (List ℕ) → List Finding
+meant_findings key f meant = option_map_or (λ known. misspelled_finding key f known ∷ []) meant []
 
--- whether these are the findings of the misspelled fields of an entry. Other unknown fields are reported once in a file
-abbrev pub AreOfMisspelled : EntryReading → List Finding → Type 0
-AreOfMisspelled said found = AreMisspelledOf said.key.text said.fields found
+-- the finding of a field of the entry with this key, if its name is unknown and may mean a known one
+unfoldable pub misspelled_of : List ℕ → FieldReading → List Finding
+misspelled_of key f = if is_unknown_field f.name.text then meant_findings key f (meant_field f.name.text) else []
+
+-- the findings of the misspelled fields of an entry. Other unknown fields are reported once in a file
+abbrev pub misspelled_findings : EntryReading → List Finding
+misspelled_findings said = flat_map (misspelled_of said.key.text) said.fields

@@ -1,7 +1,7 @@
 -- Meaning: words of public contracts.
 -- Numbers in the digits of one script beyond ASCII, such as Persian years. Biber 2.18 reads them as numbers: a `year` by `num` of Perl's
 -- Unicode::UCD, which requires digits of one script (Biber::Input::file::bibtex), and the year of a `date` if it has four digits.
-use Rattle.std.specs.Prelude.{ℕ, ◌+◌, Bool, not, ◌==◌, ◌&&◌, List, [], ◌∷◌, chars, length, nat_lt}
+use Rattle.std.specs.Prelude.{ℕ, ◌+◌, Bool, false, not, ◌==◌, ◌&&◌, List, [], ◌∷◌, chars, length, nat_lt}
 use Rattle.std.specs.List.{list_all, list_any}
 
 -- the digits zero beyond ASCII. The ten digits of a script are its zero and the nine characters after it (Unicode 14.0, category Nd)
@@ -16,6 +16,19 @@ digit_zeros =
 -- whether a character is one of the ten digits from this zero on
 abbrev pub is_digit_from : ℕ → ℕ → Bool
 is_digit_from first c = not (nat_lt c first) && nat_lt c (first + 10)
+
+-- whether a character is a digit of a script beyond ASCII
+unfoldable pub is_other_digit : ℕ → Bool
+is_other_digit c = list_any (λ first. is_digit_from first c) digit_zeros
+
+-- whether the first of these characters is such a digit
+abbrev pub begins_other : List ℕ → Bool
+begins_other [] = false
+begins_other (c ∷ rest) = is_other_digit c
+
+-- whether a text begins with a digit of a script beyond ASCII
+abbrev pub begins_with_other_digit : List ℕ → Bool
+begins_with_other_digit text = begins_other (chars text)
 
 -- whether each character of a text is one of the ten digits from this zero on
 abbrev pub are_digits_from : List ℕ → ℕ → Bool

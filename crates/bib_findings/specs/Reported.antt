@@ -21,7 +21,7 @@ use Rattle.bib_findings.specs.Demands.{missing_fields}
 use Rattle.bib_findings.specs.Entries.{field_finding, field_message, field_place, has_own_field, is_empty_value, last_named, range_or}
 use Rattle.bib_findings.specs.Errors.{finding_at}
 use Rattle.bib_findings.specs.Identities.{own_literal}
-use Rattle.bib_findings.specs.OtherDigits.{are_other_digits}
+use Rattle.bib_findings.specs.OtherDigits.{are_other_digits, begins_with_other_digit}
 use Rattle.bib_findings.specs.VolumeLabels.{is_volume_label}
 use Rattle.bib_findings.specs.declared.codes.Code.{Code}
 use Rattle.bib_findings.specs.declared.codes.Code.TheVariants as code
@@ -54,11 +54,15 @@ abbrev pub begins_alphanumeric : List ℕ → Bool
 begins_alphanumeric [] = false
 begins_alphanumeric (b ∷ rest) = is_ascii_alphanumeric b
 
+-- whether a text begins with an ASCII letter, or with a digit of any script
+abbrev pub begins_like_pages : List ℕ → Bool
+begins_like_pages text = begins_alphanumeric text || begins_with_other_digit text
+
 -- whether BibLaTeX knows the text of a field or prints it as it is, although it can't be parsed: the gender `pp`, and pages that begin with
--- an ASCII letter or digit, such as `12A` or `xiv + 447`. Biber warns of ranges of pages without a start.
+-- an ASCII letter or a digit, such as `12A` or `xiv + 447`. Biber warns of ranges of pages without a start.
 abbrev pub is_known_text : List ℕ → List ℕ → Bool
 is_known_text name text =
-    (bytes_eq name (codes "gender") && bytes_eq text plural_gender) || (bytes_eq name (codes "pages") && begins_alphanumeric text)
+    (bytes_eq name (codes "gender") && bytes_eq text plural_gender) || (bytes_eq name (codes "pages") && begins_like_pages text)
 
 -- whether the text of a value without the white space around it is a usual label of a volume
 abbrev pub is_label_value : Value → Bool

@@ -1,13 +1,13 @@
 -- Meaning: words of public contracts.
 -- The entry types that BibLaTeX knows, and the finding of an entry with a misspelled one.
-use Rattle.std.specs.Prelude.{◌≡◌, ℕ, Bool, MatchBool, not, ◌&&◌, List, [], ◌∷◌, ◌++◌, codes, Option}
-use Rattle.std.specs.List.{list_any}
+use Rattle.std.specs.Prelude.{ℕ, Bool, List, [], ◌∷◌, ◌++◌, codes, is_some, Option, if◌then◌else◌}
+use Rattle.std.specs.Option.{option_map_or}
 use Rattle.std.specs.Str.{str_to_ascii_lowercase}
 use Rattle.bib_tables.specs.Requirements.{Names, fields}
 use Rattle.bib_syntax.specs.Reading.{EntryReading}
 use Rattle.bib_findings.specs.Entries.{part_range}
 use Rattle.bib_findings.specs.Errors.{finding_at}
-use Rattle.bib_findings.specs.Nearest.{IsNearest, is_known_name, is_plausible, unknown_message}
+use Rattle.bib_findings.specs.Nearest.{is_known_name, suggestion, unknown_message}
 use Rattle.bib_findings.specs.declared.codes.Code.TheVariants.{UnknownType}
 use Rattle.bib_findings.specs.declared.finding.Finding.{Finding}
 
@@ -24,23 +24,23 @@ known_types = fields "article artwork audio bibnote book bookinbook booklet coll
 abbrev pub is_known_type : List ℕ → Bool
 is_known_type name = is_known_name known_types name
 
--- whether this is the finding of an entry with an unknown type, at the type, with the nearest known type as the suggestion, if one is near
--- enough
-pub record IsOfUnknownType (said : EntryReading) (found : Finding) : Type 0 where
-  pub meant : Option (List ℕ)
-  pub nearest : IsNearest known_types (str_to_ascii_lowercase said.kind.text) meant
-  pub is : found ≡ finding_at UnknownType (part_range said.kind)
-      (unknown_message said.key.text (codes "unknown entry type") said.kind.text meant)
+-- the known type that a type may mean
+unfoldable pub meant_type : List ℕ → Option (List ℕ)
+meant_type name = suggestion known_types (str_to_ascii_lowercase name)
 
--- whether a known type is near enough to a name to be suggested for it
+-- whether there is a known type that a type may mean
 abbrev pub has_type_suggestion : List ℕ → Bool
-has_type_suggestion name = list_any (is_plausible (str_to_ascii_lowercase name)) known_types
+has_type_suggestion name = is_some (meant_type name)
 
--- whether a type is unknown, and a known one is suggested for it
-abbrev pub is_misspelled_type : List ℕ → Bool
-is_misspelled_type name = not (is_known_type name) && has_type_suggestion name
+-- the finding of an entry with an unknown type, at the type, with the known type that it may mean
+abbrev pub misspelled_type_finding : EntryReading → List ℕ → Finding
+misspelled_type_finding said known =
+    finding_at UnknownType (part_range said.kind) (unknown_message said.key.text (codes "unknown entry type") said.kind.text known)
 
--- whether these are the findings of an entry's type: one if the type is misspelled. Other unknown types are reported once in a file
-abbrev pub AreOfType : EntryReading → List Finding → Type 0
-AreOfType said found =
-    MatchBool (is_misspelled_type said.kind.text) ((one : Finding) × IsOfUnknownType said one × (found ≡ one ∷ [])) (found ≡ [])
+-- the same if there is such a known type
+abbrev pub meant_type_findings : EntryReading → Option (List ℕ) → List Finding
+meant_type_findings said meant = option_map_or (λ known. misspelled_type_finding said known ∷ []) meant []
+
+-- the finding of an entry's type, if the type is unknown and may mean a known one. Other unknown types are reported once in a file
+unfoldable pub type_findings : EntryReading → List Finding
+type_findings said = if is_known_type said.kind.text then [] else meant_type_findings said (meant_type said.kind.text)

@@ -277,7 +277,7 @@ impl Code {
             Self::UnreadField =>
                 "The text of a field can't be parsed: a closing brace has no opening one, math has one dollar sign, or a command's argument has no closing brace. The field is removed. Add what is missing, or write \\$ for a dollar sign.",
             Self::UnknownAbbreviation =>
-                "A name has no braces or quotes around it, and is neither defined by @string nor a month (jan to dec). It is parsed as text. BibTeX and Biber put nothing in its place. Write it in braces, or define it. If a style defines it, list it in the table `own` of bibkit.toml.",
+                "A name has no braces or quotes around it, and is neither defined by @string nor a month (jan to dec). It is parsed as text. BibTeX and Biber put nothing in its place, or the text of a definition before it whose name differs only in case: then the message names this definition. Write it in braces or in the case of its definition, or define it. If a style defines it, list it in the table `own` of bibkit.toml.",
             Self::CircularAbbreviation =>
                 "The definition of an abbreviation refers to the abbreviation itself, directly or through others. Fields that use it are removed. Write the text itself in one of the definitions.",
             Self::DuplicateKey =>
@@ -295,7 +295,7 @@ impl Code {
             Self::MalformedField =>
                 "The field isn't the number, range, date or word that it should be. The text after the colon says what is wrong.",
             Self::NotANumber =>
-                "The pages aren't ranges of numbers, or the volume isn't a number. BibLaTeX prints the text as it is, and pages without `p.` or `pp.` before them. With --validate-datamodel, Biber leaves out the volume. Pages that are one text aren't reported if they begin with an ASCII letter or digit. A volume with a usual label such as `B` or `75/76` isn't reported.",
+                "The pages aren't ranges of numbers, or the volume isn't a number. BibLaTeX prints the text as it is, and pages without `p.` or `pp.` before them. With --validate-datamodel, Biber leaves out the volume. Pages that are one text aren't reported if they begin with an ASCII letter, or with a digit of any script. A volume with a usual label such as `B` or `75/76` isn't reported.",
             Self::MalformedDate =>
                 "The field isn't a date, so Biber ignores it. Write it as YYYY-MM-DD, YYYY-MM or YYYY, or as two of these with a slash between them.",
             Self::UnknownField =>

@@ -18,7 +18,7 @@ use crate::entry_names::entry_name;
 use crate::fields::is_empty_value;
 use crate::finding::Finding;
 use crate::identities::own_literal;
-use crate::other_digits::are_other_digits;
+use crate::other_digits::{are_other_digits, begins_with_other_digit};
 use crate::places::{field_place, has_own_field, last_named, malformed_place};
 use crate::volume_labels::is_volume_label;
 use bib_chunks::chunk::{ChunksRef, format_verbatim};
@@ -124,12 +124,19 @@ fn begins_alphanumeric(bytes: &[u8]) -> bool
     }
 }
 
+// Returns whether a text begins with an ASCII letter, or with a digit of any script.
+fn begins_like_pages(text: &str) -> bool
+    ensures { result ≡ spec.begins_like_pages text.now }
+{
+    begins_alphanumeric(text.as_bytes()) || begins_with_other_digit(text)
+}
+
 // Returns whether BibLaTeX knows the text of a field or prints it as it is, although it can't be parsed: the gender `pp`, and pages that
-// begin with an ASCII letter or digit.
+// begin with an ASCII letter or a digit.
 fn is_known_text(name: &str, text: &str) -> bool
     ensures { result ≡ is_known_text name.now text.now }
 {
-    (name == "gender" && text == "pp") || (name == "pages" && begins_alphanumeric(text.as_bytes()))
+    (name == "gender" && text == "pp") || (name == "pages" && begins_like_pages(text))
 }
 
 // Returns whether the text of a value without the white space around it is a usual label of a volume.

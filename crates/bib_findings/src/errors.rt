@@ -1,17 +1,20 @@
 //! Findings of errors and of skipped blocks.
 
 ghost use Rattle.std.specs.Prelude.{◌≡◌, [], ◌++◌, if◌then◌else◌, map, IfOk, OnOk};
+ghost use Rattle.std.specs.BTreeMap.{get_by_text};
 ghost use Rattle.std.specs.String.{string_bytes};
-ghost use Rattle.bib_syntax.specs.Views.{entry_reading_of};
+ghost use Rattle.bib_syntax.specs.Views.{entry_reading_of, field_of};
 ghost use Rattle.bib_findings.specs.Errors as spec;
 ghost use Rattle.bib_findings.specs.Errors.{block_finding, error_finding, error_code, error_message, with_name};
+ghost use Rattle.bib_findings.specs.LastDefinitions.{AreLastDefinitions};
 ghost use Rattle.bib_findings.specs.Starts.{AreEntriesByStart};
 
 use crate::codes::Code;
 use crate::cuts::entries_by_start;
+use crate::definition_cases::{error_note, last_definitions};
 use crate::entry_names::entry_name;
 use crate::finding::Finding;
-use bib_syntax::raw::{ParseError, ParseErrorKind, RawEntry, SkippedBlock, Token};
+use bib_syntax::raw::{Pair, ParseError, ParseErrorKind, RawEntry, SkippedBlock, Token};
 use bib_text::spanned::Spanned;
 use bib_text::text::Text;
 use std::alloc::{AllocError, Global};
@@ -62,15 +65,23 @@ fn error_message(alloc: Global, kind: &ParseErrorKind) -> Result<String, AllocEr
     }
 }
 
-// Returns the finding of an error.
-fn error_finding(alloc: Global, error: &ParseError) -> Result<Finding, AllocError>
-    ensures { IfOk result (λ finding. finding ≡ error_finding error.now) }
+// Returns the finding of an error in a file with these definitions of abbreviations. `lasts` has the last of them for each name in ASCII
+// lowercase.
+fn error_finding<'f, 's>(
+    alloc: Global,
+    lasts: &BTreeMap<String, &'f Pair<'s>>,
+    definitions: &'f [Pair<'s>],
+    error: &ParseError,
+) -> Result<Finding, AllocError>
+    requires { AreLastDefinitions (get_by_text lasts.now) (map field_of definitions.now) }
+    ensures { IfOk result (λ finding. finding ≡ error_finding (map field_of definitions.now) error.now) }
 {
-    let message = Text::from_string(error_message(alloc, &error.kind)?);
+    let message = error_message(alloc, &error.kind)?;
+    let note = error_note(alloc, lasts, definitions, error)?;
     Ok(Finding {
         code: error_code(&error.kind),
         span: error.span.start..error.span.end,
-        message,
+        message: Text::from_string(format!(in alloc; "{message}{note}")?),
     })
 }
 
@@ -267,16 +278,21 @@ pub(crate) fn add_blocks(
     Ok(())
 }
 
-// Appends the findings of errors.
+// Appends the findings of errors in a file with these definitions of abbreviations.
 pub(crate) fn add_errors(
     alloc: Global,
     found: &mut Vec<Finding>,
+    definitions: &[Pair<'_>],
     errors: &[ParseError],
 ) -> Result<(), AllocError>
-    ensures { OnOk result (found.new.items ≡ found.old.items ++ map error_finding errors.now) }
+    ensures { OnOk result (found.new.items ≡ found.old.items ++ map (error_finding (map field_of definitions.now)) errors.now) }
 {
+    if errors.is_empty() {
+        return Ok(());
+    }
+    let lasts = last_definitions(alloc, definitions)?;
     'errors: for error in errors {
-        found.push(error_finding(alloc, error)?)?;
+        found.push(error_finding(alloc, &lasts, definitions, error)?)?;
     }
     Ok(())
 }

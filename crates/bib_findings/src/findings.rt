@@ -206,7 +206,8 @@ pub fn sorted_by_place(found: Vec<Finding>) -> Result<Vec<Finding>, AllocError>
 }
 
 /// Returns the findings of skipped blocks, of errors and of entries, and `between`, sorted by their starts. `text` is the recovered text.
-/// `skipped` contains its skipped blocks, `errors` the errors, `entries` the kept entries, and `between` the findings between them.
+/// `skipped` contains its skipped blocks, `definitions` its definitions of abbreviations, `errors` the errors, `entries` the kept entries,
+/// and `between` the findings between them.
 /// `origins` contains the index of each entry in `said`, the raw entries of the file. `lacking` contains for each entry whether fields of
 /// it may be lost (see `lacking_flags`). Fails only if out of memory.
 pub fn findings_in(
@@ -214,6 +215,7 @@ pub fn findings_in(
     text: &str,
     skipped: &[SkippedBlock],
     lacking: &[bool],
+    definitions: &[Pair<'_>],
     errors: &[ParseError],
     said: &[Spanned<RawEntry<'_>>],
     origins: &[usize],
@@ -222,13 +224,13 @@ pub fn findings_in(
 ) -> Result<Vec<Finding>, AllocError>
     requires same_length { length origins.now ≡ length entries.now }
     requires there { All (λ index. index < length said.now) origins.now }
-    ensures { IfOk result (λ found. AreFindingsIn text.now skipped.now lacking.now errors.now (entries_said said.now)
-        origins.now entries.now between.items found.items) }
+    ensures { IfOk result (λ found. AreFindingsIn text.now skipped.now lacking.now (map field_of definitions.now) errors.now
+        (entries_said said.now) origins.now entries.now between.items found.items) }
 {
     let mut between = between;
     let mut found = Vec::new(alloc);
     add_blocks(alloc, &mut found, text, said, skipped)?;
-    add_errors(alloc, &mut found, errors)?;
+    add_errors(alloc, &mut found, definitions, errors)?;
     add_entries(alloc, &mut found, lacking, said, origins, entries)?;
     found.append(&mut between)?;
     sorted_by_place(found)
@@ -271,7 +273,16 @@ pub fn findings_of(
     let mut unresolved = resolve_readable(alloc, &spans, &names, &mut entries)?;
     errors.append(&mut unresolved)?;
     findings_in(
-        alloc, text, skipped, &lacking, &errors, said, &origins, &entries, linked,
+        alloc,
+        text,
+        skipped,
+        &lacking,
+        definitions,
+        &errors,
+        said,
+        &origins,
+        &entries,
+        linked,
     )
 }
 

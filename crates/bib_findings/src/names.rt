@@ -1,19 +1,16 @@
 //! Field names that BibLaTeX knows, and findings of fields with a misspelled one.
 
-ghost use Rattle.std.specs.Prelude.{◌≡◌, ◌∷◌, [], true, IfOk, OnOk, option_copied};
+ghost use Rattle.std.specs.Prelude.{◌≡◌, ◌++◌, IfOk, OnOk, option_copied};
 ghost use Rattle.std.specs.BTreeMap.{get_by_text};
-ghost use Rattle.std.specs.Str.{str_to_ascii_lowercase};
 ghost use Rattle.bib_syntax.specs.Views.{entry_reading_of, field_of};
-ghost use Rattle.bib_findings.specs.Adding.{Adds};
 ghost use Rattle.bib_findings.specs.Met.{AreFieldNames, IsFieldName};
 ghost use Rattle.bib_findings.specs.Names as spec;
-ghost use Rattle.bib_findings.specs.Names.{AreMisspelledOf, AreOfMisspelled, IsOfUnknown, known_fields};
-ghost use Rattle.bib_findings.specs.Nearest.{IsNearest};
+ghost use Rattle.bib_findings.specs.Names.{misspelled_findings, misspelled_of};
 
 use crate::codes::Code;
 use crate::finding::Finding;
 use crate::foreign::{begins_with, is_foreign};
-use crate::nearest::{is_among, nearest, unknown_message};
+use crate::nearest::{is_among, suggestion, unknown_message};
 use bib_syntax::raw::{Pair, RawEntry};
 use bib_text::spanned::Spanned;
 use bib_text::text::Text;
@@ -293,7 +290,7 @@ fn look_up(alloc: Global, name: &str) -> Result<FieldName, AllocError>
         return Ok(FieldName::Known);
     }
     let lowercase = name.to_ascii_lowercase(alloc)?;
-    let meant = nearest(alloc, &KNOWN_FIELDS, &lowercase)?;
+    let meant = suggestion(alloc, &KNOWN_FIELDS, &lowercase)?;
     Ok(FieldName::Unknown(meant))
 }
 
@@ -315,17 +312,16 @@ pub(crate) fn meet(
     Ok(is)
 }
 
-// Returns the finding of an unknown field of the entry with this key, with `meant` as the suggestion.
-fn unknown_finding(
+// Returns the finding of an unknown field of the entry with this key, with the known name that it may mean.
+fn misspelled_finding(
     alloc: Global,
     key: &str,
     field: &Pair<'_>,
-    meant: Option<&'static str>,
+    known: &str,
 ) -> Result<Finding, AllocError>
-    requires { IsNearest known_fields (str_to_ascii_lowercase field.now.key.v.now) (option_copied meant) }
-    ensures { IfOk result (IsOfUnknown key.now (field_of field.now)) }
+    ensures { IfOk result (λ finding. finding ≡ spec.misspelled_finding key.now (field_of field.now) known.now) }
 {
-    let message = unknown_message(alloc, key, "unknown field", field.key.v, meant)?;
+    let message = unknown_message(alloc, key, "unknown field", field.key.v, known)?;
     Ok(Finding {
         code: Code::UnknownField,
         span: field.key.span.start..field.key.span.end,
@@ -333,7 +329,7 @@ fn unknown_finding(
     })
 }
 
-// Appends the finding of an unknown field of the entry with this key, if there is the suggestion `meant`.
+// Appends the finding of an unknown field of the entry with this key, if it may mean a known name.
 fn add_if_meant(
     alloc: Global,
     found: &mut Vec<Finding>,
@@ -341,18 +337,16 @@ fn add_if_meant(
     field: &Pair<'_>,
     meant: Option<&'static str>,
 ) -> Result<(), AllocError>
-    requires unknown { spec.is_unknown_field field.now.key.v.now ≡ true }
-    requires nearest { IsNearest known_fields (str_to_ascii_lowercase field.now.key.v.now) (option_copied meant) }
-    ensures { OnOk result (Adds (AreMisspelledOf key.now (field_of field.now ∷ [])) found.old.items found.new.items) }
+    ensures { OnOk result (found.new.items ≡ found.old.items ++
+        spec.meant_findings key.now (field_of field.now) (option_copied meant.entry)) }
 {
-    if meant.is_none() {
-        return Ok(());
+    if let Some(known) = meant {
+        found.push(misspelled_finding(alloc, key, field, known)?)?;
     }
-    found.push(unknown_finding(alloc, key, field, meant)?)?;
     Ok(())
 }
 
-// Appends a finding for a field of the entry with this key, if its name is unknown and there is a suggestion.
+// Appends a finding for a field of the entry with this key, if its name is unknown and may mean a known one.
 fn add_if_misspelled(
     alloc: Global,
     found: &mut Vec<Finding>,
@@ -362,7 +356,7 @@ fn add_if_misspelled(
 ) -> Result<(), AllocError>
     requires { AreFieldNames (get_by_text met.old) }
     ensures met { OnOk result (AreFieldNames (get_by_text met.new)) }
-    ensures added { OnOk result (Adds (AreMisspelledOf key.now (field_of field.now ∷ [])) found.old.items found.new.items) }
+    ensures added { OnOk result (found.new.items ≡ found.old.items ++ misspelled_of key.now (field_of field.now)) }
 {
     match meet(alloc, met, field.key.v)? {
         FieldName::Foreign => Ok(()),
@@ -380,7 +374,7 @@ pub(crate) fn add_misspelled_fields(
 ) -> Result<(), AllocError>
     requires { AreFieldNames (get_by_text met.old) }
     ensures met { OnOk result (AreFieldNames (get_by_text met.new)) }
-    ensures added { OnOk result (Adds (AreOfMisspelled (entry_reading_of said.now)) found.old.items found.new.items) }
+    ensures added { OnOk result (found.new.items ≡ found.old.items ++ misspelled_findings (entry_reading_of said.now)) }
 {
     'fields: for field in &said.v.fields {
         add_if_misspelled(alloc, found, met, said.v.key.v, field)?;

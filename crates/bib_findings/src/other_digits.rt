@@ -22,6 +22,31 @@ fn is_digit_from(zero: u32, c: char) -> bool
     zero <= code && code - zero < 10
 }
 
+// Returns whether a character is one of the ten digits from one of these zeros on.
+fn is_digit_of(zeros: &[u32], c: char) -> bool
+    ensures { result ≡ list_any (λ zero. spec.is_digit_from zero c) zeros.now }
+{
+    zeros.iter().any(|zero| is_digit_from(*zero, c))
+}
+
+// Returns whether a character is a digit of a script beyond ASCII.
+#[tactic(auto, unfolding(crate::specs::OtherDigits::is_other_digit))]
+fn is_other_digit(c: char) -> bool
+    ensures { result ≡ spec.is_other_digit c }
+{
+    is_digit_of(&ZEROS, c)
+}
+
+/// Returns whether a text begins with a digit of a script beyond ASCII.
+pub(crate) fn begins_with_other_digit(text: &str) -> bool
+    ensures { result ≡ spec.begins_with_other_digit text.now }
+{
+    match text.chars().next() {
+        Some(c) => is_other_digit(c),
+        None => false,
+    }
+}
+
 // Returns whether each character of a text is one of the ten digits from this zero on.
 fn are_digits_from(zero: u32, text: &str) -> bool
     ensures { result ≡ spec.are_digits_from text.now zero }

@@ -1,16 +1,12 @@
 //! Entry types that BibLaTeX knows, and findings of entries with a misspelled one.
 
-ghost use Rattle.std.specs.Prelude.{◌≡◌, IfOk, OnOk, option_copied};
-ghost use Rattle.std.specs.Str.{str_to_ascii_lowercase};
+ghost use Rattle.std.specs.Prelude.{◌≡◌, ◌++◌, IfOk, OnOk, option_copied};
 ghost use Rattle.bib_syntax.specs.Views.{entry_reading_of};
-ghost use Rattle.bib_findings.specs.Adding.{Adds};
 ghost use Rattle.bib_findings.specs.Types as spec;
-ghost use Rattle.bib_findings.specs.Types.{AreOfType, IsOfUnknownType, known_types};
-ghost use Rattle.bib_findings.specs.Nearest.{IsNearest};
 
 use crate::codes::Code;
 use crate::finding::Finding;
-use crate::nearest::{is_among, nearest, unknown_message};
+use crate::nearest::{is_among, suggestion, unknown_message};
 use bib_syntax::raw::RawEntry;
 use bib_text::spanned::Spanned;
 use bib_text::text::Text;
@@ -86,24 +82,23 @@ pub(crate) fn is_known_type(name: &str) -> bool
 
 /// Returns the known type that an unknown one may mean, or `None` if there is no such type.
 pub(crate) fn meant_type(alloc: Global, name: &str) -> Result<Option<&'static str>, AllocError>
-    ensures { IfOk result (λ meant. IsNearest known_types (str_to_ascii_lowercase name.now) (option_copied meant)) }
+    ensures { IfOk result (λ meant. option_copied meant ≡ spec.meant_type name.now) }
 {
     let lowercase = name.to_ascii_lowercase(alloc)?;
-    let meant = nearest(alloc, &KNOWN_TYPES, &lowercase)?;
+    let meant = suggestion(alloc, &KNOWN_TYPES, &lowercase)?;
     Ok(meant)
 }
 
-// Returns the finding of an entry with an unknown type, with `meant` as the suggestion.
-fn unknown_finding(
+// Returns the finding of an entry with an unknown type, with the known type that it may mean.
+fn misspelled_finding(
     alloc: Global,
     said: &Spanned<RawEntry<'_>>,
-    meant: Option<&'static str>,
+    known: &str,
 ) -> Result<Finding, AllocError>
-    requires { IsNearest known_types (str_to_ascii_lowercase said.now.v.kind.v.now) (option_copied meant) }
-    ensures { IfOk result (IsOfUnknownType (entry_reading_of said.now)) }
+    ensures { IfOk result (λ finding. finding ≡ spec.misspelled_type_finding (entry_reading_of said.now) known.now) }
 {
     let kind = &said.v.kind;
-    let message = unknown_message(alloc, said.v.key.v, "unknown entry type", kind.v, meant)?;
+    let message = unknown_message(alloc, said.v.key.v, "unknown entry type", kind.v, known)?;
     Ok(Finding {
         code: Code::UnknownType,
         span: kind.span.start..kind.span.end,
@@ -111,21 +106,34 @@ fn unknown_finding(
     })
 }
 
-// Appends a finding if BibLaTeX doesn't know the type of an entry, and there is a suggestion.
+// Appends the finding of an entry with an unknown type, if the type may mean a known one.
+fn add_if_meant(
+    alloc: Global,
+    found: &mut Vec<Finding>,
+    said: &Spanned<RawEntry<'_>>,
+    meant: Option<&'static str>,
+) -> Result<(), AllocError>
+    ensures { OnOk result (found.new.items ≡ found.old.items ++
+        spec.meant_type_findings (entry_reading_of said.now) (option_copied meant.entry)) }
+{
+    if let Some(known) = meant {
+        found.push(misspelled_finding(alloc, said, known)?)?;
+    }
+    Ok(())
+}
+
+// Appends a finding if BibLaTeX doesn't know the type of an entry, and the type may mean a known one.
 pub(crate) fn add_misspelled_type(
     alloc: Global,
     found: &mut Vec<Finding>,
     said: &Spanned<RawEntry<'_>>,
 ) -> Result<(), AllocError>
-    ensures { OnOk result (Adds (AreOfType (entry_reading_of said.now)) found.old.items found.new.items) }
+    ensures { OnOk result (found.new.items ≡ found.old.items ++ spec.type_findings (entry_reading_of said.now)) }
 {
     if is_known_type(said.v.kind.v) {
         return Ok(());
     }
-    let suggested = meant_type(alloc, said.v.kind.v)?;
-    if suggested.is_none() {
-        return Ok(());
-    }
-    found.push(unknown_finding(alloc, said, suggested)?)?;
+    let meant = meant_type(alloc, said.v.kind.v)?;
+    add_if_meant(alloc, found, said, meant)?;
     Ok(())
 }

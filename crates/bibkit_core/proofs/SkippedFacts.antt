@@ -8,7 +8,7 @@ use Rattle.bib_findings.specs.Entries.AreOfEach.{none}
 use Rattle.bib_findings.specs.Errors.{block_finding}
 use Rattle.bib_findings.specs.Findings.{AreFindingsIn, AreSortedByPlace}
 use Rattle.bib_findings.specs.declared.finding.Finding.{Finding}
-use Rattle.bib_syntax.specs.Reading.{EntryReading, FileReading}
+use Rattle.bib_syntax.specs.Reading.{EntryReading, FieldReading, FileReading}
 use Rattle.bib_syntax.specs.Recovery.{IsFullRecovery, IsRecovery, Recovered, skipped_block}
 use Rattle.bib_syntax.specs.Recovery.{Recovered as recovered}
 use Rattle.bib_syntax.specs.declared.raw.recovery.SkippedBlock.{SkippedBlock}
@@ -48,8 +48,9 @@ none_of_each : {A : Type 0} {Are : EntryReading → A → List Finding → Type 
 none_of_each none = refl
 
 -- without errors, kept entries and findings between entries, the findings of a file are those of its skipped blocks
-pub findings_of_blocks : {text : List ℕ} {skipped : List SkippedBlock} {lacking : List Bool} {said : List EntryReading}
-    {between found : List Finding} → between ≡ [] → AreFindingsIn text skipped lacking [] said [] [] between found
+pub findings_of_blocks : {text : List ℕ} {skipped : List SkippedBlock} {lacking : List Bool} {definitions : List FieldReading}
+    {said : List EntryReading} {between found : List Finding} → between ≡ []
+    → AreFindingsIn text skipped lacking definitions [] said [] [] between found
     → AreSortedByPlace (map (block_finding text said) skipped) found
 findings_of_blocks {text} {skipped} {said = said} {found = found} no_others are =
     let blocks = map (block_finding text said) skipped in

@@ -25,6 +25,7 @@ fn block_findings(alloc: Global, text: &str) -> Result<Vec<Finding>, AllocError>
         &recovery.skipped,
         &[],
         &[],
+        &[],
         &recovery.raw.entries,
         &[],
         &[],

@@ -1,13 +1,8 @@
-use Rattle.std.proofs.Common.{Result, Ok, Err, OnOk}
 use Rattle.bib_tables.specs.Requirements.{texts}
 use Rattle.bib_syntax.specs.Views.{entry_reading_of}
 use Rattle.bib_findings.proofs.AddingFacts.{entry_added}
+use Rattle.bib_findings.proofs.NameFacts.{for_any}
 use Rattle.bib_findings.proofs.findings.add_entry.Goals as goal
-
--- a fact holds for any result
-for_any : {A E : Type 0} (r : Result A E) (P : Type 0) → P → OnOk r P
-for_any (Ok a) P fact = fact
-for_any (Err e) P fact = tt
 
 pub returns-clause-met : goal.returns-clause-met
 returns-clause-met c = for_any c.add_single.result _ c.in_ok-add_misspelled_fields.ensures.met

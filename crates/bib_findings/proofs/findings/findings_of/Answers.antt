@@ -75,7 +75,8 @@ returns c =
     c.in_ok-lacking.ensures in
     if_ok_more
     (λ found.
-    AreFindingsIn c.args.text.now c.deref-10.result.now c.deref-11.result.now c.deref-12.result.now (entries_said c.deref-13.result.now)
+    AreFindingsIn c.args.text.now c.deref-10.result.now c.deref-11.result.now (map field_of c.as_slice-definitions.result.now)
+    c.deref-12.result.now (entries_said c.deref-13.result.now)
     c.deref-14.result.now c.deref-15.result.now linked found.items)
     (λ found. AreFindingsOf c.args.text.now c.args.ends.now says skipped found.items) c.findings_in.result
     (λ found are. record {
@@ -93,11 +94,13 @@ returns c =
       between = linked;
       are_between = are_between;
       are =
-          findings_of c.args.text.now c.deref-10.result.now skipped c.deref-11.result.now lacking c.deref-12.result.now
+          findings_of c.args.text.now c.deref-10.result.now skipped c.deref-11.result.now lacking
+          (map field_of c.as_slice-definitions.result.now) says.abbreviations c.deref-12.result.now
           (of_entries ++ of_references) (entries_said c.deref-13.result.now) says.entries
           c.deref-14.result.now origins c.deref-15.result.now entries
           linked found.items
-          c.deref-10.ensures.value c.deref-11.ensures.value (c.deref-12.ensures.value ∙ c.in_ok-append.ensures.items)
+          c.deref-10.ensures.value c.deref-11.ensures.value (ap (map field_of) c.as_slice-definitions.ensures.value)
+          (c.deref-12.ensures.value ∙ c.in_ok-append.ensures.items)
           (ap (map entry_reading_of) c.deref-13.ensures.value) c.deref-14.ensures.value
           (c.deref-15.ensures.value ∙ all) are;
     })

@@ -1,6 +1,6 @@
-use Rattle.std.proofs.Common.{◌∙◌, subst}
+use Rattle.std.proofs.Common.{ap, sym, ◌∙◌, subst}
+use Rattle.std.specs.Prelude.{is_some}
 use Rattle.bib_findings.specs.Met.{IsFieldName}
-use Rattle.bib_findings.proofs.NameFacts.{suggested}
 use Rattle.bib_findings.proofs.OnceFacts.{foreign_once, known_once, unknown_once}
 use Rattle.bib_findings.proofs.once.is_field_once.Goals as goal
 
@@ -17,4 +17,4 @@ pub returns-in-Unknown-clause-is : goal.returns-in-Unknown-clause-is
 returns-in-Unknown-clause-is c kind known =
     let is = subst (IsFieldName c.args.name.now) c.in-Unknown.is c.in_ok-meet.ensures.is in
     c.is_unknown_once.ensures
-    ∙ unknown_once kind c.args.name.now c.args.has_known_type _ known is.0 is.1 (suggested c.args.name.now _ is.2)
+    ∙ unknown_once kind c.args.name.now c.args.has_known_type _ known is.0 is.1 (ap is_some (sym is.2))
