@@ -1,20 +1,16 @@
 -- Definitions with the same pieces, and the last definition of each abbreviation.
-use Rattle.std.proofs.Common.{◌≡◌, ◌<◌, ◌≤◌, ◌+◌, ℕ, Bool, true, false, ◌&&◌, List, [], ◌∷◌, ◌++◌, length, drop, get_or, map, suc, Option, Some, None, refl, sym, ap, ap₂, ◌∙◌, arith, cond}
-use Rattle.std.specs.Prelude.{bytes_eq, find, nat_lt, reverse}
+use Rattle.std.proofs.Common.{◌≡◌, ◌<◌, ◌≤◌, ◌+◌, ℕ, Bool, true, false, ◌&&◌, List, [], ◌∷◌, ◌++◌, length, drop, get_or, map, suc, Option, Some, refl, sym, ap, ap₂, ◌∙◌, cond}
+use Rattle.std.specs.Prelude.{bytes_eq, find, reverse}
 use Rattle.std.specs.Borrow.{Bor}
 use Rattle.std.specs.Map.{update}
-use Rattle.std.specs.Str.{str_to_ascii_lowercase}
-use Rattle.std.proofs.lemmas.Bool.Decides.{nat_tests}
 use Rattle.std.proofs.lemmas.List.{drop_all, length-map, reverse-append}
 use Rattle.bib_text.specs.declared.spanned.Spanned.{Spanned}
 use Rattle.bib_text.proofs.BytesFacts.{bytes_turned}
-use Rattle.bib_text.proofs.ListFacts.{some_same}
 use Rattle.bib_syntax.specs.Reading.{FieldReading, Piece}
 use Rattle.bib_syntax.specs.Views.{field_of, piece_of}
 use Rattle.bib_syntax.specs.declared.raw.Pair.{Pair}
 use Rattle.bib_syntax.specs.declared.raw.RawChunk.{RawChunk}
 use Rattle.bib_findings.specs.Counted.{lowercase_name}
-use Rattle.bib_findings.specs.DefinitionCases.{last_begun}
 use Rattle.bib_findings.specs.Definitions.{are_equal_pieces, is_equal_piece}
 use Rattle.bib_findings.specs.LastDefinitions.{AreLastDefinitions, read_definition}
 use Rattle.bib_findings.proofs.SeenFacts.{from_index}
@@ -103,51 +99,3 @@ lasts_more old new earlier definition stored is are updates name =
         → read_definition (cond b (Some definition) (old name)) ≡ cond b (Some one) (find test (reverse earlier))
     by true = refl
     by false = are name
-
--- if the first item that passes one test also passes another one, it is the first that passes both
-find_both : {A : Type 0} (p q : A → Bool) (all : List A) (x : A) → find p all ≡ Some x → q x ≡ true
-    → find (λ z. p z && q z) all ≡ Some x
-find_both p q [] x found passes = absurd (let clash : None ≡ Some x = found in cc)
-find_both p q (y ∷ ys) x found passes = by (p y) refl (λ rest. find_both p q ys x rest passes) where
-  by : (b : Bool) → p y ≡ b → (find p ys ≡ Some x → find (λ z. p z && q z) ys ≡ Some x)
-      → cond (p y && q y) (Some y) (find (λ z. p z && q z) ys) ≡ Some x
-  by true is later =
-      let here : Some y ≡ Some x = sym (ap (λ b. cond b (Some y) (find p ys)) is) ∙ found in
-      let same : y ≡ x = some_same here in
-      ap (λ b. cond (b && q y) (Some y) (find (λ z. p z && q z) ys)) is
-      ∙ ap (λ b. cond b (Some y) (find (λ z. p z && q z) ys)) (ap q same ∙ passes) ∙ ap Some same
-  by false is later =
-      ap (λ b. cond (b && q y) (Some y) (find (λ z. p z && q z) ys)) is
-      ∙ later (sym (ap (λ b. cond b (Some y) (find p ys)) is) ∙ found)
-
--- if no item passes one test, none passes it and another one
-find_neither : {A : Type 0} (p q : A → Bool) (all : List A) → find p all ≡ None → find (λ z. p z && q z) all ≡ None
-find_neither p q [] none = refl
-find_neither p q (y ∷ ys) none = by (p y) refl (find_neither p q ys) where
-  by : (b : Bool) → p y ≡ b → (find p ys ≡ None → find (λ z. p z && q z) ys ≡ None)
-      → cond (p y && q y) (Some y) (find (λ z. p z && q z) ys) ≡ None
-  by true is later = absurd (let clash : Some y ≡ None = sym (ap (λ b. cond b (Some y) (find p ys)) is) ∙ none in cc)
-  by false is later =
-      ap (λ b. cond (b && q y) (Some y) (find (λ z. p z && q z) ys)) is
-      ∙ later (sym (ap (λ b. cond b (Some y) (find p ys)) is) ∙ none)
-
--- whether a definition has this name, in any ASCII case
-abbrev has_name : List ℕ → FieldReading → Bool
-has_name name f = bytes_eq (str_to_ascii_lowercase name) (lowercase_name f)
-
--- the last definition of a name is the last one that begins before an offset, if it begins there
-pub last_is_begun : (lasts : List ℕ → Option (Bor Pair)) (definitions : List FieldReading) (at : ℕ) (name : List ℕ) (last : Bor Pair)
-    → AreLastDefinitions lasts definitions → lasts (str_to_ascii_lowercase name) ≡ Some last → last.now.key.span.start < at
-    → Some (field_of last.now) ≡ last_begun definitions at name
-last_is_begun lasts definitions at name last are is before =
-    sym
-    (find_both (has_name name) (λ f. nat_lt f.name.start at) (reverse definitions) (field_of last.now)
-    (sym (are (str_to_ascii_lowercase name)) ∙ ap read_definition is) (grind (arith, nat_tests)))
-
--- if there is no definition of a name, none begins before an offset
-pub none_begun : (lasts : List ℕ → Option (Bor Pair)) (definitions : List FieldReading) (at : ℕ) (name : List ℕ)
-    → AreLastDefinitions lasts definitions → lasts (str_to_ascii_lowercase name) ≡ None → None ≡ last_begun definitions at name
-none_begun lasts definitions at name are is =
-    sym
-    (find_neither (has_name name) (λ f. nat_lt f.name.start at) (reverse definitions)
-    (sym (are (str_to_ascii_lowercase name)) ∙ ap read_definition is))

@@ -1,7 +1,7 @@
 -- Meaning: words of public contracts.
 -- Unknown abbreviations whose names are defined in another ASCII case. BibTeX and Biber match the names of abbreviations in any ASCII case,
 -- and use the last definition before an abbreviation; this library matches them exactly.
-use Rattle.std.specs.Prelude.{ℕ, Bool, ◌&&◌, List, [], ◌++◌, codes, find, if◌then◌else◌, nat_le, nat_lt, reverse, Option}
+use Rattle.std.specs.Prelude.{ℕ, List, [], ◌++◌, codes, find, if◌then◌else◌, nat_le, reverse, Option}
 use Rattle.std.specs.Option.{option_map_or}
 use Rattle.std.specs.Str.{str_eq_ignore_ascii_case}
 use Rattle.bib_syntax.specs.Reading.{FieldReading}
@@ -9,26 +9,22 @@ use Rattle.bib_syntax.specs.declared.raw.ParseError.{ParseError}
 use Rattle.bib_syntax.specs.declared.raw.ParseErrorKind.{ParseErrorKind}
 use Rattle.bib_syntax.specs.declared.raw.ParseErrorKind.TheVariants.{UnknownAbbreviation}
 
--- whether a definition has this name, in any ASCII case, and begins before this offset
-abbrev pub is_begun : ℕ → List ℕ → FieldReading → Bool
-is_begun at name f = str_eq_ignore_ascii_case name f.name.text && nat_lt f.name.start at
-
--- the last definition with this name, in any ASCII case, that begins before this offset
-abbrev pub last_begun : List FieldReading → ℕ → List ℕ → Option FieldReading
-last_begun definitions at name = find (is_begun at name) (reverse definitions)
+-- the last definition with this name, in any ASCII case
+abbrev pub last_defined : List FieldReading → List ℕ → Option FieldReading
+last_defined definitions name = find (λ f. str_eq_ignore_ascii_case name f.name.text) (reverse definitions)
 
 -- the note about the definition of an abbreviation that has this name
 abbrev pub case_note : List ℕ → List ℕ
 case_note name = codes "; BibTeX and Biber use the definition of \"" ++ (name ++ codes "\", which differs only in case")
 
--- the note about this definition of an abbreviation at this offset. It is empty if the definition ends after the offset: BibTeX doesn't use
--- an abbreviation in its own definition
+-- the note about the last definition of an abbreviation at this offset. It is empty if the definition ends after the offset: BibTeX and
+-- Biber then use an earlier one or none, and BibTeX doesn't use an abbreviation in its own definition
 abbrev pub definition_note : ℕ → FieldReading → List ℕ
 definition_note at f = if nat_le f.value.end at then case_note f.name.text else []
 
--- the note about an unknown abbreviation with this name at this offset. It is empty if BibTeX and Biber don't find the abbreviation either
+-- the note about an unknown abbreviation with this name at this offset. It is empty without a definition in another case
 abbrev pub abbreviation_note : List FieldReading → ℕ → List ℕ → List ℕ
-abbreviation_note definitions at name = option_map_or (definition_note at) (last_begun definitions at name) []
+abbreviation_note definitions at name = option_map_or (definition_note at) (last_defined definitions name) []
 
 -- the note about an error of this kind at this offset: that of an unknown abbreviation, or else none
 abbrev pub kind_note : List FieldReading → ℕ → ParseErrorKind → List ℕ

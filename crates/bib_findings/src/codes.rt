@@ -277,7 +277,7 @@ impl Code {
             Self::UnreadField =>
                 "The text of a field can't be parsed: a closing brace has no opening one, math has one dollar sign, or a command's argument has no closing brace. The field is removed. Add what is missing, or write \\$ for a dollar sign.",
             Self::UnknownAbbreviation =>
-                "A name has no braces or quotes around it, and is neither defined by @string nor a month (jan to dec). It is parsed as text. BibTeX and Biber put nothing in its place, or the text of a definition before it whose name differs only in case: then the message names this definition. Write it in braces or in the case of its definition, or define it. If a style defines it, list it in the table `own` of bibkit.toml.",
+                "A name has no braces or quotes around it, and is neither defined by @string nor a month (jan to dec). It is parsed as text. BibTeX and Biber put nothing in its place, or the text of a definition before it whose name differs only in case. The message names this definition if it is the last one. Write it in braces or in the case of its definition, or define it. If a style defines it, list it in the table `own` of bibkit.toml.",
             Self::CircularAbbreviation =>
                 "The definition of an abbreviation refers to the abbreviation itself, directly or through others. Fields that use it are removed. Write the text itself in one of the definitions.",
             Self::DuplicateKey =>

@@ -1,6 +1,6 @@
 //! Notes on unknown abbreviations whose names are defined in another ASCII case.
 
-ghost use Rattle.std.specs.Prelude.{◌≡◌, ◌++◌, ◌∷◌, [], List, map, option_map, IfOk, OnOk};
+ghost use Rattle.std.specs.Prelude.{◌≡◌, ◌++◌, ◌∷◌, [], List, map, IfOk, OnOk};
 ghost use Rattle.std.specs.BTreeMap.{get_by_text};
 ghost use Rattle.std.specs.String.{string_bytes};
 ghost use Rattle.bib_syntax.specs.Reading.{FieldReading};
@@ -40,48 +40,6 @@ pub(crate) fn last_definitions<'f, 's>(
     Ok(lasts)
 }
 
-// Returns whether a definition has this name, in any ASCII case, and begins before this offset.
-fn is_begun(at: usize, name: &str, definition: &Pair<'_>) -> bool
-    ensures { result ≡ spec.is_begun at name.now (field_of definition.now) }
-{
-    name.eq_ignore_ascii_case(definition.key.v) && definition.key.span.start < at
-}
-
-// Returns the last of these definitions that has this name, in any ASCII case, and begins before this offset.
-fn last_begun<'f, 's>(definitions: &'f [Pair<'s>], at: usize, name: &str) -> Option<&'f Pair<'s>>
-    ensures { option_map (λ f. field_of f.now) result ≡ spec.last_begun (map field_of definitions.now) at name.now }
-{
-    definitions
-        .iter()
-        .rev()
-        .find(|definition| is_begun(at, name, definition))
-}
-
-// Returns the same as `last_begun`. `lasts` has the last of the definitions for each name in ASCII lowercase; the others are searched only
-// if it begins at the offset or after it.
-fn last_begun_among<'f, 's>(
-    alloc: Global,
-    lasts: &BTreeMap<String, &'f Pair<'s>>,
-    definitions: &'f [Pair<'s>],
-    at: usize,
-    name: &str,
-) -> Result<Option<&'f Pair<'s>>, AllocError>
-    requires { AreLastDefinitions (get_by_text lasts.now) (map field_of definitions.now) }
-    ensures { IfOk result (λ last. option_map (λ f. field_of f.now) last
-        ≡ spec.last_begun (map field_of definitions.now) at name.now) }
-{
-    let lowercase = name.to_ascii_lowercase(alloc)?;
-    match lasts.get(lowercase.as_str()).copied() {
-        Some(last) => {
-            if last.key.span.start < at {
-                return Ok(Some(last));
-            }
-            Ok(last_begun(definitions, at, name))
-        }
-        None => Ok(None),
-    }
-}
-
 // Returns the note about the definition of an abbreviation that has this name.
 fn case_note(alloc: Global, name: &str) -> Result<String, AllocError>
     ensures { IfOk result (λ text. string_bytes text ≡ spec.case_note name.now) }
@@ -101,38 +59,38 @@ fn definition_note(alloc: Global, at: usize, definition: &Pair<'_>) -> Result<St
     Ok(String::new(alloc))
 }
 
-// Returns the note about an unknown abbreviation with this name at this offset. It is empty if BibTeX and Biber don't find it either.
-fn abbreviation_note<'f, 's>(
+// Returns the note about an unknown abbreviation with this name at this offset. `lasts` has the last definition of each name in ASCII
+// lowercase.
+fn abbreviation_note(
     alloc: Global,
-    lasts: &BTreeMap<String, &'f Pair<'s>>,
-    definitions: &'f [Pair<'s>],
+    lasts: &BTreeMap<String, &Pair<'_>>,
     at: usize,
     name: &str,
 ) -> Result<String, AllocError>
-    requires { AreLastDefinitions (get_by_text lasts.now) (map field_of definitions.now) }
-    ensures { IfOk result (λ text. string_bytes text ≡ spec.abbreviation_note (map field_of definitions.now) at name.now) }
+    ensures { IfOk result (λ text. (definitions : List FieldReading) → AreLastDefinitions (get_by_text lasts.now) definitions
+        → string_bytes text ≡ spec.abbreviation_note definitions at name.now) }
 {
-    match last_begun_among(alloc, lasts, definitions, at, name)? {
+    let lowercase = name.to_ascii_lowercase(alloc)?;
+    match lasts.get(lowercase.as_str()).copied() {
         Some(last) => definition_note(alloc, at, last),
         None => Ok(String::new(alloc)),
     }
 }
 
-// Returns the note about an error: that of an unknown abbreviation, or else the empty text. `lasts` has the last of the definitions for
-// each name in ASCII lowercase.
-pub(crate) fn error_note<'f, 's>(
+// Returns the note about an error: that of an unknown abbreviation, or else the empty text. `lasts` has the last definition of each name
+// in ASCII lowercase.
+pub(crate) fn error_note(
     alloc: Global,
-    lasts: &BTreeMap<String, &'f Pair<'s>>,
-    definitions: &'f [Pair<'s>],
+    lasts: &BTreeMap<String, &Pair<'_>>,
     error: &ParseError,
 ) -> Result<String, AllocError>
-    requires { AreLastDefinitions (get_by_text lasts.now) (map field_of definitions.now) }
-    ensures { IfOk result (λ text. string_bytes text ≡ spec.error_note (map field_of definitions.now) error.now) }
+    ensures { IfOk result (λ text. (definitions : List FieldReading) → AreLastDefinitions (get_by_text lasts.now) definitions
+        → string_bytes text ≡ spec.error_note definitions error.now) }
 {
     match &error.kind {
         ParseErrorKind::UnknownAbbreviation(name) => {
             let at = error.span.start;
-            abbreviation_note(alloc, lasts, definitions, at, name.as_str())
+            abbreviation_note(alloc, lasts, at, name.as_str())
         }
         _ => Ok(String::new(alloc)),
     }

@@ -1,8 +1,9 @@
 //! Findings of errors and of skipped blocks.
 
-ghost use Rattle.std.specs.Prelude.{◌≡◌, [], ◌++◌, if◌then◌else◌, map, IfOk, OnOk};
+ghost use Rattle.std.specs.Prelude.{◌≡◌, [], ◌++◌, if◌then◌else◌, List, map, IfOk, OnOk};
 ghost use Rattle.std.specs.BTreeMap.{get_by_text};
 ghost use Rattle.std.specs.String.{string_bytes};
+ghost use Rattle.bib_syntax.specs.Reading.{FieldReading};
 ghost use Rattle.bib_syntax.specs.Views.{entry_reading_of, field_of};
 ghost use Rattle.bib_findings.specs.Errors as spec;
 ghost use Rattle.bib_findings.specs.Errors.{block_finding, error_finding, error_code, error_message, with_name};
@@ -65,19 +66,17 @@ fn error_message(alloc: Global, kind: &ParseErrorKind) -> Result<String, AllocEr
     }
 }
 
-// Returns the finding of an error in a file with these definitions of abbreviations. `lasts` has the last of them for each name in ASCII
-// lowercase.
-fn error_finding<'f, 's>(
+// Returns the finding of an error. `lasts` has the last definition of each name of an abbreviation in ASCII lowercase.
+fn error_finding(
     alloc: Global,
-    lasts: &BTreeMap<String, &'f Pair<'s>>,
-    definitions: &'f [Pair<'s>],
+    lasts: &BTreeMap<String, &Pair<'_>>,
     error: &ParseError,
 ) -> Result<Finding, AllocError>
-    requires { AreLastDefinitions (get_by_text lasts.now) (map field_of definitions.now) }
-    ensures { IfOk result (λ finding. finding ≡ error_finding (map field_of definitions.now) error.now) }
+    ensures { IfOk result (λ finding. (definitions : List FieldReading) → AreLastDefinitions (get_by_text lasts.now) definitions
+        → finding ≡ error_finding definitions error.now) }
 {
     let message = error_message(alloc, &error.kind)?;
-    let note = error_note(alloc, lasts, definitions, error)?;
+    let note = error_note(alloc, lasts, error)?;
     Ok(Finding {
         code: error_code(&error.kind),
         span: error.span.start..error.span.end,
@@ -292,7 +291,7 @@ pub(crate) fn add_errors(
     }
     let lasts = last_definitions(alloc, definitions)?;
     'errors: for error in errors {
-        found.push(error_finding(alloc, &lasts, definitions, error)?)?;
+        found.push(error_finding(alloc, &lasts, error)?)?;
     }
     Ok(())
 }
