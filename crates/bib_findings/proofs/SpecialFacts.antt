@@ -19,7 +19,7 @@ and_false true = refl
 and_false false = refl
 
 -- the first special character of a character as it is shown and of the characters after it
-IsNext : Zone → ℕ → List ℕ → Type 0
+abbrev IsNext : Zone → ℕ → List ℕ → Type 0
 IsNext zone c rest =
     first_special zone (shown c ++ rest)
     ≡ cond (is_unescaped_special zone c) (Some c) (first_special (zone_after_shown zone c) rest)
