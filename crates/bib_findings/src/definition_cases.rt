@@ -71,10 +71,11 @@ fn abbreviation_note(
         → string_bytes text ≡ spec.abbreviation_note definitions at name.now) }
 {
     let lowercase = name.to_ascii_lowercase(alloc)?;
-    match lasts.get(lowercase.as_str()).copied() {
-        Some(last) => definition_note(alloc, at, last),
-        None => Ok(String::new(alloc)),
-    }
+    let Some(last) = lasts.get(lowercase.as_str()).copied() else {
+        return Ok(String::new(alloc));
+    };
+    let note = definition_note(alloc, at, last)?;
+    Ok(note)
 }
 
 // Returns the note about an error: that of an unknown abbreviation, or else the empty text. `lasts` has the last definition of each name

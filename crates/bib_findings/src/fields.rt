@@ -71,7 +71,12 @@ fn add_unless_new(
 fn have_name_of(fields: &[Pair<'_>], other: &Pair<'_>) -> bool
     ensures { result ≡ list_any (have_one_name (field_of other.now)) (map field_of fields.now) }
 {
-    fields.iter().any(|field| is_word(other.key.v, field.key.v))
+    'fields: for field in fields {
+        if is_word(other.key.v, field.key.v) {
+            return true;
+        }
+    }
+    false
 }
 
 // Appends a finding for each field of an entry whose name an earlier field has, in any ASCII case. Compares each field with all earlier

@@ -23,7 +23,7 @@ fn found(alloc: Global, file: &str) -> Result<Vec<Finding>, AllocError> {
     let lacking = lacking_flags(alloc, &skipped, &names, &said, &origins, &entries)?;
     let mut unresolved = resolve_readable(alloc, &spans, &names, &mut entries)?;
     errors.append(&mut unresolved)?;
-    findings_in(alloc, file, &skipped, &lacking, &errors, &said, &origins, &entries, between)
+    findings_in(alloc, file, &skipped, &lacking, &raw.abbreviations, &errors, &said, &origins, &entries, between)
 }
 
 // Each finding's place, code and message.
