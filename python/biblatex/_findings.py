@@ -28,7 +28,7 @@ class Finding:
     """A problem of a text, or a likely one.
 
     `line` and `column` are counted from 1, and `column` is in characters. `severity` is `"error"` if a part of the text isn't
-    parsed as it is written, `"info"` if nothing is wrong for BibLaTeX and BibTeX reads each field, and `"warning"` otherwise.
+    parsed as it is written, `"info"` if nothing is wrong for BibLaTeX and BibTeX skips no field, and `"warning"` otherwise.
     `code` is one of the codes in docs/BIBKIT.md, for example `"syntax"`.
     """
 

@@ -68,7 +68,7 @@ abbrev pub code_named : List ℕ → Option Code
 code_named name = find (λ code. bytes_eq (code_name code) name) all_codes
 
 -- the severity of a code: an error if the file isn't UTF-8, a block is skipped, an entry or a field is removed, or a cited entry is
--- missing; information if nothing is wrong for BibLaTeX and BibTeX reads each field; a warning otherwise
+-- missing; information if nothing is wrong for BibLaTeX and BibTeX skips no field; a warning otherwise
 abbrev pub severity_of : Code → Severity
 severity_of UnreadBytes = Error
 severity_of Syntax = Error

@@ -1,6 +1,7 @@
 -- Meaning: words of public contracts.
--- The findings of comments in entries. A percent sign between the parts of an entry begins a comment for Biber and this library. BibTeX has
--- no comments in entries: it reports an error at the percent sign, and skips the rest of the entry.
+-- The findings of comments in entries. A percent sign after a comma or after a value of an entry begins a comment for Biber and this
+-- library. Elsewhere between the parts of an entry, it is a syntax error for this library. BibTeX has no comments in entries: it reports an
+-- error at the percent sign, and skips the rest of the entry.
 use Rattle.std.specs.Prelude.{ℕ, ◌+◌, ◌==◌, List, [], ◌∷◌, ◌++◌, codes, Option, None, Some, option_map}
 use Rattle.std.specs.List.{flat_map, position}
 use Rattle.std.specs.Option.{option_or}
@@ -30,7 +31,7 @@ first_comment text said = comment_outside text said.key.end said.fields said.end
 -- the message about a comment in the entry with this key
 abbrev pub comment_message : List ℕ → List ℕ
 comment_message key =
-    entry_name key ++ codes ": BibTeX can't read a comment in an entry, and skips the rest of the entry; move it before the entry"
+    entry_name key ++ codes ": BibTeX can't read a comment in an entry, and skips the rest of the entry; move the comment before the entry"
 
 -- the finding of an entry with this key at a byte offset, if there is one
 abbrev pub comment_finding : List ℕ → Option ℕ → List Finding

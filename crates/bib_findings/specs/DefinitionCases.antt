@@ -15,7 +15,7 @@ last_defined definitions name = find (λ f. str_eq_ignore_ascii_case name f.name
 
 -- the note about the definition of an abbreviation that has this name
 abbrev pub case_note : List ℕ → List ℕ
-case_note name = codes "; BibTeX and Biber use the definition of \"" ++ (name ++ codes "\", which differs only in case")
+case_note name = codes "; \"" ++ (name ++ codes "\" is defined, and BibTeX and Biber ignore the case")
 
 -- the note about the last definition of an abbreviation at this offset. It is empty if the definition ends after the offset: BibTeX and
 -- Biber then use an earlier one or none, and BibTeX doesn't use an abbreviation in its own definition

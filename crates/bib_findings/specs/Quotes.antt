@@ -16,7 +16,8 @@ use Rattle.bib_findings.specs.declared.finding.Finding.{Finding}
 -- the end of the message: what is wrong, how BibTeX and Biber read it, and what to do
 abbrev pub quote_note : List ℕ
 quote_note =
-    codes " has unbalanced braces in quotes, so BibTeX and Biber may end the text elsewhere; balance them or write the whole text in braces"
+    codes " has unbalanced braces in quotes, so BibTeX and Biber may end the text elsewhere; "
+    ++ codes "write it in braces, with as many closing braces as opening ones"
 
 -- the message about a field with this name, of the entry with this key
 abbrev pub quote_message : List ℕ → List ℕ → List ℕ

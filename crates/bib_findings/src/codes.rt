@@ -10,7 +10,7 @@ pub enum Severity {
     Error,
     /// Something may be wrong.
     Warning,
-    /// Nothing is wrong for BibLaTeX, and BibTeX reads each field.
+    /// Nothing is wrong for BibLaTeX, and BibTeX skips no field.
     Info,
 }
 
@@ -111,8 +111,8 @@ pub enum Code {
 }
 
 // The codes in the order of their listing. First come findings of a file's bytes, of parsing and of inheriting, then those about an entry's
-// type, fields and key. Then come those about text after entries, references, duplicates, the case of keys, the order of entries and
-// abbreviations, and last those about documents.
+// type, fields and key. Then come those about text after entries, text that BibTeX or Biber reads otherwise, references, duplicates, the
+// case of keys, the order of entries and abbreviations, and last those about documents.
 static CODES: [Code; 39] = [
     Code::UnreadBytes,
     Code::EscapeSequence,
@@ -218,7 +218,7 @@ impl Code {
     }
 
     /// Returns its severity: an error if the file isn't UTF-8, a block is skipped, an entry or a field is removed, or a cited entry is
-    /// missing; information if nothing is wrong for BibLaTeX and BibTeX reads each field; a warning otherwise.
+    /// missing; information if nothing is wrong for BibLaTeX and BibTeX skips no field; a warning otherwise.
     pub fn severity(self) -> Severity
         ensures { result ≡ severity_of self }
     {

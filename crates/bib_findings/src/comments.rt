@@ -47,7 +47,7 @@ fn comment_message(alloc: Global, key: &str) -> Result<String, AllocError>
 {
     let entry = entry_name(key);
     format!(in alloc;
-        "{entry}: BibTeX can't read a comment in an entry, and skips the rest of the entry; move it before the entry"
+        "{entry}: BibTeX can't read a comment in an entry, and skips the rest of the entry; move the comment before the entry"
     )
 }
 

@@ -44,9 +44,7 @@ pub(crate) fn last_definitions<'f, 's>(
 fn case_note(alloc: Global, name: &str) -> Result<String, AllocError>
     ensures { IfOk result (λ text. string_bytes text ≡ spec.case_note name.now) }
 {
-    format!(in alloc;
-        "; BibTeX and Biber use the definition of \"{name}\", which differs only in case"
-    )
+    format!(in alloc; "; \"{name}\" is defined, and BibTeX and Biber ignore the case")
 }
 
 // Returns the note about this definition of an abbreviation at this offset. It is empty if the definition ends after the offset.

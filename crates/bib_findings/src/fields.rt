@@ -67,7 +67,7 @@ fn add_unless_new(
     Ok(())
 }
 
-// Returns whether one of these fields has the name of another one, in any ASCII case.
+// Returns whether one of these fields has the name of `other`, in any ASCII case.
 fn have_name_of(fields: &[Pair<'_>], other: &Pair<'_>) -> bool
     ensures { result ≡ list_any (have_one_name (field_of other.now)) (map field_of fields.now) }
 {
@@ -114,7 +114,7 @@ fn add_repeated_of_many(
     Ok(())
 }
 
-// The greatest number of fields that are compared with each other. It takes less time than storing so few names.
+// The greatest number of fields whose names are compared with each other. Comparing so few names takes less time than storing them.
 const FEW_FIELDS: usize = 16;
 
 /// Appends a finding for each field of an entry whose name an earlier field has, in any ASCII case.

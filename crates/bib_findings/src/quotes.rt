@@ -22,7 +22,7 @@ use std::ops::Range;
 fn quote_note() -> &'static str
     ensures { result.now ≡ spec.quote_note }
 {
-    " has unbalanced braces in quotes, so BibTeX and Biber may end the text elsewhere; balance them or write the whole text in braces"
+    " has unbalanced braces in quotes, so BibTeX and Biber may end the text elsewhere; write it in braces, with as many closing braces as opening ones"
 }
 
 // Returns the span of the first piece of a value that is in quotes, and whose braces aren't balanced.

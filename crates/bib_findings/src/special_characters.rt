@@ -146,7 +146,7 @@ fn zone_after_shown(zone: Zone, c: char) -> Zone
     }
 }
 
-// Returns the zone after a character that is shown if no brace is open before it. `depth` braces are open.
+// Returns the zone after a character that is shown if no brace is open before it. `depth` braces are open before it.
 fn zone_at(depth: usize, zone: Zone, c: char) -> Zone
     ensures { result ≡ if depth == 0 then spec.zone_after_shown zone c else zone }
 {
