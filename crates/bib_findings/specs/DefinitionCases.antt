@@ -22,7 +22,8 @@ case_note name = codes "; \"" ++ (name ++ codes "\" is defined, and BibTeX and B
 abbrev pub definition_note : ℕ → FieldReading → List ℕ
 definition_note at f = if nat_le f.value.end at then case_note f.name.text else []
 
--- the note about an unknown abbreviation with this name at this offset. It is empty without a definition in another case
+-- the note about an unknown abbreviation with this name at this offset. It is empty unless the last definition of the name, in any ASCII
+-- case, ends before the offset
 abbrev pub abbreviation_note : List FieldReading → ℕ → List ℕ → List ℕ
 abbreviation_note definitions at name = option_map_or (definition_note at) (last_defined definitions name) []
 
