@@ -21,7 +21,7 @@ shared_people said first =
     if have_open_list said first then codes "title, year and first person"
     else codes "title, year and people"
 
--- the words for the identity that two entries share, if they are likely the same work
+-- the words for the identity that two entries share; the entries are likely the same work
 abbrev pub common_ground : EntryReading → EntryReading → List ℕ
 common_ground said first =
     if share_doi said first then codes "DOI"

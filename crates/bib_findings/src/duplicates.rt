@@ -138,7 +138,7 @@ fn shared_people(
     Ok("title, year and people")
 }
 
-// Returns the words for the identity that two entries share, if they are likely the same work.
+// Returns the words for the identity that two entries share. The entries are likely the same work.
 fn common_ground(
     alloc: Global,
     said: &Spanned<RawEntry<'_>>,

@@ -31,17 +31,17 @@ command_of Subscript = codes "\\textsubscript{"
 command_of SmallCapitals = codes "\\textsc{"
 command_of KeepsCase = codes "{"
 
--- this tag and the text after it, if a piece begins with the text of the tag after the less-than sign
+-- this tag and the text after it, if a piece (the text after a less-than sign) begins with the rest of the tag
 abbrev pub opened_by : List ℕ → Tag → Option (Tag × List ℕ)
 opened_by piece tag = option_map (λ rest. (tag, rest)) (without_prefix (tag_name tag) piece)
 
--- the opening tag whose text after the less-than sign a piece begins with, and the text after the tag
+-- an opening tag and the text after it, if a piece (the text after a less-than sign) begins with the rest of the tag
 abbrev pub opened : List ℕ → Option (Tag × List ℕ)
 opened piece =
     option_or (option_or (option_or (option_or (option_or (opened_by piece Italic) (opened_by piece Bold)) (opened_by piece Superscript))
     (opened_by piece Subscript)) (opened_by piece SmallCapitals)) (opened_by piece KeepsCase)
 
--- the text after the closing tag whose text after the less-than sign a piece begins with
+-- the text after a closing tag, if a piece (the text after a less-than sign) begins with the rest of the tag
 abbrev pub closed : List ℕ → Option (List ℕ)
 closed piece =
     option_or (option_or

@@ -65,7 +65,7 @@ fn command_of(tag: Tag) -> &'static str
     }
 }
 
-// If a piece begins with the text of this tag after the less-than sign, returns the tag and the text after it.
+// If `piece`, the text after a less-than sign, begins with the rest of this tag, returns the tag and the text after it.
 fn opened_by(piece: &str, tag: Tag) -> Option<(Tag, &str)>
     ensures { option_map (λ found. (found.0, found.1.now)) result ≡ spec.opened_by piece.now tag }
 {
@@ -73,7 +73,7 @@ fn opened_by(piece: &str, tag: Tag) -> Option<(Tag, &str)>
     Some((tag, rest))
 }
 
-// Returns the opening tag whose text after the less-than sign a piece begins with, and the text after the tag.
+// If `piece`, the text after a less-than sign, begins with the rest of an opening tag, returns the tag and the text after it.
 fn opened(piece: &str) -> Option<(Tag, &str)>
     ensures { option_map (λ found. (found.0, found.1.now)) result ≡ spec.opened piece.now }
 {
@@ -85,7 +85,7 @@ fn opened(piece: &str) -> Option<(Tag, &str)>
         .or_else(|| opened_by(piece, Tag::KeepsCase))
 }
 
-// Returns the text after the closing tag whose text after the less-than sign a piece begins with.
+// If `piece`, the text after a less-than sign, begins with the rest of a closing tag, returns the text after the tag.
 fn closed(piece: &str) -> Option<&str>
     ensures { option_map (λ rest. rest.now) result ≡ spec.closed piece.now }
 {

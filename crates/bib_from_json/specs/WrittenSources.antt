@@ -22,7 +22,7 @@ entry_source entry = source_head entry ++ (flat_map field_source entry.fields ++
 abbrev pub next_source : Bool → GivenEntry → List ℕ
 next_source first entry = if first then entry_source entry else codes "\n" ++ entry_source entry
 
--- entries, with an empty line before each except a first one
+-- entries, with an empty line before each; if the flag is true, the first one has none before it
 abbrev pub sources_from : Bool → List GivenEntry → List ℕ
 sources_from first [] = []
 sources_from first (entry ∷ entries) = next_source first entry ++ sources_from false entries

@@ -82,7 +82,7 @@ abbrev pub member_of_names : List ℕ → List Name → List Given
 member_of_names name names =
     if length names == 0 then [] else record { name = name; content = Some (content.Names names); is_whole = true } ∷ []
 
--- the members of a variable with the names of all its lines
+-- the member of a variable with the names of all its lines, if there are any
 unfoldable pub names_members : List ℕ → List VariableLine → List Given
 names_members name lines = member_of_names name (flat_map (name_in name) lines)
 
@@ -101,7 +101,7 @@ joined_after name separator before (line ∷ rest) =
 abbrev pub joined_given : List ℕ → List ℕ → List Given
 joined_given name text = if length text == 0 then [] else text_given name text ∷ []
 
--- the members of a variable with the texts of all its lines
+-- the member of a variable with the texts of all its lines, unless they are empty
 unfoldable pub joined_members : List ℕ → List ℕ → List VariableLine → List Given
 joined_members name separator lines = joined_given name (joined_after name separator [] lines)
 

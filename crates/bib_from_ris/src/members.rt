@@ -49,7 +49,7 @@ fn names_in(alloc: Global, lines: &[VariableLine], name: &str) -> Result<Items<N
     Ok(names)
 }
 
-// Appends the members of a variable with the names of all its lines.
+// Appends the member of a variable with the names of all its lines, if there are any.
 #[tactic(auto, unfolding(crate::specs::Members::names_members))]
 fn push_names_members(
     alloc: Global,
@@ -99,7 +99,7 @@ fn joined_text(
     Ok(text)
 }
 
-// Appends the members of a variable with the texts of all its lines.
+// Appends the member of a variable with the texts of all its lines, unless they are empty.
 #[tactic(auto, unfolding(crate::specs::Members::joined_members))]
 fn push_joined_members(
     alloc: Global,

@@ -32,7 +32,7 @@ unescaped_by (escape ∷ others) text =
 abbrev pub unescaped_piece : List ℕ → List ℕ
 unescaped_piece text = unescaped_by escapes text
 
--- the first ampersand of a text and the text after it, with the five escapes replaced
+-- an ampersand and the text after it, with the five escapes in both replaced
 abbrev pub unescaped_rest : List ℕ → List ℕ
 unescaped_rest text = flat_map unescaped_piece (slice_split (λ b. b == char.ampersand) text)
 

@@ -44,7 +44,7 @@ fn push_piece(written: &mut String, piece: &str) -> Result<(), AllocError>
     Ok(())
 }
 
-// Appends the first ampersand of a text and `text`, which follows it, with the named escapes replaced.
+// Appends an ampersand and `text`, which follows it, with the named escapes in both replaced.
 fn push_pieces(written: &mut String, text: &str) -> Result<(), AllocError>
     ensures { OnOk result (string_bytes written.new ≡ string_bytes written.old ++ spec.unescaped_rest text.now) }
 {

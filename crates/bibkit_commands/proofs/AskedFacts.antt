@@ -32,7 +32,7 @@ wrong_rest words more given (Ok word) none same is =
     wrong_second words more (option_map (λ word. word.now) word) none (is ∙ ap (find is_no_rule) same)
 wrong_rest words more given (Err e) none same is = is
 
--- the request of a command by its name, and of the command with this name
+-- if `name` is the name of `command`, a request of `command` is a request of the command with this name
 pub asked_as : (command : FileCommand) (name : List ℕ) (arguments : Arguments) (this : Asked) → reading_command_named name ≡ command
     → IsAskedBy command arguments this → IsAskedBy (reading_command_named name) arguments this
 asked_as command name arguments this is asked = subst (λ one. IsAskedBy one arguments this) (sym is) asked

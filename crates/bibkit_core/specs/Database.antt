@@ -24,12 +24,12 @@ use Rattle.bibkit_core.specs.declared.tally.Tally.{Tally}
 abbrev pub joined_texts : List StoredFile → FilesText
 joined_texts files = fold (λ texts file. with_next texts (string_bytes file.decoded.text)) no_files files
 
--- the findings of the entries that the document, if there is one, doesn't cite
+-- the findings of the entries that the document doesn't cite, if there is a document and they are requested (`has_unused`)
 abbrev pub unused_by : Option Document → List EntryReading → List Finding
 unused_by None entries = []
 unused_by (Some document) entries = unused_findings document.has_unused document.citations entries
 
--- the findings of the citations of the document, if there is one, that are the names of none of these entries
+-- the findings of the citations of the document that none of these entries has as a name; none without a document
 abbrev pub missing_by : Option Document → List EntryReading → List Finding
 missing_by None entries = []
 missing_by (Some document) entries = missing_among entries document.citations.keys.items

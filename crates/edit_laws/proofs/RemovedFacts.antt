@@ -48,7 +48,7 @@ AllZip-remove R (x ∷ xs) [] k all = absurd all
 AllZip-remove R (x ∷ xs) (y ∷ ys) zero all = all.1
 AllZip-remove R (x ∷ xs) (y ∷ ys) (suc k) all = (all.0, AllZip-remove R xs ys k all.1)
 
--- the old index of an index after the entry at `k` is removed
+-- the old index of the entry that is at an index after the entry at `k` was removed
 abbrev pub skip : ℕ → ℕ → ℕ
 skip k i = cond (nat_lt i k) i (suc i)
 

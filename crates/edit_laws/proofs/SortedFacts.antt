@@ -69,7 +69,8 @@ described_at [] i x here = cc
 described_at (e ∷ xs) zero x here = let same : e ≡ x = cc in ap described same
 described_at (e ∷ xs) (suc i) x here = described_at xs i x here
 
--- if corresponding entries of two lists have the same key, type and texts, these are permuted
+-- if each entry of `ys` has the key, type and texts of the entry of `xs` that the swaps move to its index, these of `ys` are a
+-- permutation of those of `xs`
 permuted_lists : (moves : List (ℕ × ℕ)) (xs ys : List Entry) → SwapsInRange (length xs) moves → length ys ≡ length xs
     → ((i : ℕ) (x y : Entry) → slice_get xs (before_swaps moves i) ≡ Some x → slice_get ys i ≡ Some y → described x ≡ described y)
     → IsPermutation (map described xs) (map described ys)

@@ -5,7 +5,7 @@ use Rattle.bib_findings.specs.UnusedDefinitions.{other_abbreviation_in}
 use Rattle.bib_findings.specs.UsedNames.{borrowed_texts}
 use Rattle.bib_findings.proofs.unused_definitions.push_of_definition.Given as goal
 
--- the other names in the first pieces were appended
+-- the names in the first pieces were appended, without the definition's own name
 abbrev pub invariant-pieces : goal.invariant-pieces
 invariant-pieces l =
     borrowed_texts l.names.items

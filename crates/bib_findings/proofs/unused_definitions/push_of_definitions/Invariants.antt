@@ -5,7 +5,7 @@ use Rattle.bib_findings.specs.UnusedDefinitions.{used_by_definition}
 use Rattle.bib_findings.specs.UsedNames.{borrowed_texts}
 use Rattle.bib_findings.proofs.unused_definitions.push_of_definitions.Given as goal
 
--- the other names in the first definitions were appended
+-- the names in the values of the first definitions were appended, without the own name of each definition
 abbrev pub invariant-definitions : goal.invariant-definitions
 invariant-definitions l =
     borrowed_texts l.names.items
