@@ -160,7 +160,7 @@ pub math_by_parts : (text : List ℕ) (parts : Bool) → list_any (λ c. c == 36
 math_by_parts text true none is = (none, is)
 math_by_parts text false none is = λ settled. is settled.1
 
--- after settled math in UTF-8, outside verbatim fields, the rest decides
+-- outside verbatim fields, settled math in UTF-8 and the atoms after it are settled exactly if these atoms are settled after `Nothing`
 pub math_on : (v : Bool) (before : Before) (chunk : Chunk) (text bytes : List ℕ) → chunk ≡ MathChunk text → bytes ≡ text
     → IsUtf8 bytes → v ≡ false → IsSettledMath bytes → ContinuesIn v before (atoms_of chunk) Nothing []
 math_on v before chunk text bytes is same utf8 normal settled =

@@ -200,7 +200,7 @@ share_doi said other = are_same (doi_of said) (doi_of other)
 abbrev pub share_isbn : EntryReading → EntryReading → Bool
 share_isbn said other = are_same (isbn_of said) (isbn_of other)
 
--- whether two entries are parts of books with different titles: both may have the DOI of one book
+-- whether two entries are parts of books, and the parts have different titles: both may have the DOI of one book
 abbrev pub are_other_parts : EntryReading → EntryReading → Bool
 are_other_parts said other = is_part_of_book said && is_part_of_book other && differs_in said other (codes "title")
 

@@ -377,7 +377,7 @@ fn are_other_works(
     have_other_people(alloc, said, other)
 }
 
-// Returns whether two entries are parts of books with different titles.
+// Returns whether two entries are parts of books, and the parts have different titles.
 fn are_other_parts(
     alloc: Global,
     said: &Spanned<RawEntry<'_>>,

@@ -15,7 +15,7 @@ use Rattle.bib_source.proofs.EndFacts.{last_same, no_last}
 use Rattle.bib_source.proofs.HunkFacts.{joined, same_sides, unshown}
 use Rattle.bib_source.proofs.RunFacts.{cut_at}
 
--- lines with a last one; a list has no lines, or it has a last one
+-- the lines before the last one, and the last one. Each list of lines is empty or has a last one (`last_of`)
 record HasLast (lines : List Line) : Type 0 where
   before : List Line
   line : Line

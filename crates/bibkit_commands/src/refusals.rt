@@ -217,8 +217,8 @@ fn kept_names<'s>(
     Ok(kept)
 }
 
-// Returns the message for the error `KeyIsThere` of giving entries these keys. It has the first new key that is a name that an entry keeps,
-// if there is one.
+// Returns the message for the error `KeyIsThere`, if entries can't get these keys. If an entry keeps one of the new keys as a name, in any
+// ASCII case, the message contains the first such key.
 fn taken_key_line(
     alloc: Global,
     name: &str,

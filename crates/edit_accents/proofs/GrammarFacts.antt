@@ -1,4 +1,5 @@
--- The texts of literals: their characters have balanced braces, or no quote, and other such characters are the text of a literal too.
+-- The characters of literals: in braces, they have balanced braces; in quotes, they have no unescaped quote. Any such characters are the
+-- text of a literal.
 use Rattle.std.proofs.Common.{◌≡◌, inl, inr, ℕ, zero, suc, ◌-◌, ◌≤◌, Bool, true, false, List, [], ◌∷◌, ◌++◌, length, refl, sym, ap, ◌∙◌, subst, arith, append_assoc}
 use Rattle.std.specs.Prelude.{◌==◌, ◌&&◌, not, encode_utf8, encode_utf8_all}
 use Rattle.std.specs.Str.{IsUtf8, chars}

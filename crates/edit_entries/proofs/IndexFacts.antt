@@ -93,7 +93,7 @@ first_append test (y ∷ ys) x =
     here false true n None all same = ap next_index same
     here false false n None all same = ap next_index same
 
--- the first entry that passes among some and one more is the first of them, or else the last one if it passes
+-- the first entry that passes among the first `i + 1` is the first one that passes among the first `i`, or else the one at `i` if it passes
 pub first_more : {A : Type 0} (view : A → EntryReading) (test : EntryReading → Bool) (xs : List A) (i : ℕ) (x : A)
     → i < length xs → x ≡ get_or xs i x
     → first_position test (map view (take (i + 1) xs))

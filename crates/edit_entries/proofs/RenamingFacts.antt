@@ -1,4 +1,4 @@
--- The changes that give entries new keys are of parts that are in order.
+-- The changes that give entries new keys are in order, and none of them overlaps the next.
 use Rattle.std.proofs.Common.{◌≡◌, ◌⊎◌, inl, inr, ℕ, zero, suc, ◌+◌, ◌<◌, ◌≤◌, Bool, true, false, cond, List, [], ◌∷◌, ◌++◌, map, refl, sym, ap, ◌∙◌, subst, arith, append-nil, Option, Some, None, Result, Ok, Err}
 use Rattle.std.specs.Prelude.{IfErr, IfOk, bytes_eq, slice_get}
 use Rattle.std.specs.List.{AllByRecursion}

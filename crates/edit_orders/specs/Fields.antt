@@ -13,7 +13,7 @@ use Rattle.edit_orders.specs.declared.order.Property.{Property}
 use Rattle.edit_orders.specs.declared.order.Property.TheVariants as property
 use Rattle.edit_orders.specs.declared.values.SortValue.{SortValue}
 
--- the text of a piece: of a literal, or the name of an abbreviation
+-- the text of a literal, or the name of an abbreviation
 abbrev pub plain_piece : Piece → List ℕ
 plain_piece (literal p) = p.text
 plain_piece (abbreviation p) = p.text

@@ -16,7 +16,7 @@ use bib_text::spanned::Spanned;
 use bib_text::text::Text;
 use std::alloc::{AllocError, Global};
 
-// Returns the text of a piece: of a literal, or the name of an abbreviation.
+// Returns the text of a literal, or the name of an abbreviation.
 fn piece_text<'s>(piece: &Spanned<RawChunk<'s>>) -> &'s str
     ensures { result.now ≡ spec.plain_piece (piece_of piece.now) }
 {
