@@ -19,8 +19,8 @@ fn would_be_empty(entry: &RawEntry<'_>, keys: &[&str], edits: &[Edit<'_>]) -> bo
         && keys.contains(&entry.key.v)
 }
 
-/// Returns the message for the error `why` of unsetting a field of the entries with these keys, the last of these edits. It has the first key
-/// of an entry in `src` of which the edits would remove all fields, if there is one.
+/// Returns the message for the error `why` of the last of `edits`, which unsets a field of the entries with these keys. If the edits would
+/// remove all fields of an entry in `src`, the message contains the key of the first such entry.
 pub fn unset_line(
     alloc: Global,
     name: &str,
