@@ -1,10 +1,10 @@
 use Rattle.std.proofs.lemmas.Grind.{common_steps}
 use Rattle.std.proofs.Common.{◌∙◌, refl, arith, subst, length}
-use Rattle.bib_chunks.proofs.BraceFacts.{closes_plain, closes_hidden, closes_slash_end, closes_open, closes_close, closes_close_none, closes_end, end_is, iff_trans, iff_cases, Closes}
+use Rattle.bib_text.proofs.BoolFacts.{iff_trans, iff_cases}
+use Rattle.bib_text.proofs.BraceFacts.{Closes, closes_plain, closes_hidden, closes_slash_end, closes_open, closes_close, closes_close_none, closes_end, end_is, is_plain_from}
 use Rattle.bib_text.proofs.TextFacts.{less_after}
 use Rattle.bib_text.specs.Places.{place}
-use Rattle.bib_text.proofs.BraceFacts.{is_plain_from}
-use Rattle.bib_chunks.proofs.settling.is_parts.Goals as goal
+use Rattle.bib_text.proofs.braces.has_balanced_braces.Goals as goal
 
 pub parts-init : goal.parts-init
 parts-init c = rw c.new-scanner.ensures (refl, omega arith, (λ p. p, λ p. p))

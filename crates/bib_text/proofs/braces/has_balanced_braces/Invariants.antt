@@ -1,9 +1,9 @@
 use Rattle.std.proofs.Common.{◌≡◌, ◌≤◌, ◌-◌, length}
 use Rattle.bib_text.specs.Braces.{IsParts}
 use Rattle.bib_text.specs.Places.{place}
-use Rattle.bib_chunks.proofs.BraceFacts.{Closes}
+use Rattle.bib_text.proofs.BraceFacts.{Closes}
 use Rattle.std.specs.Prelude.{◌↔◌}
-use Rattle.bib_chunks.proofs.settling.is_parts.Given as goal
+use Rattle.bib_text.proofs.braces.has_balanced_braces.Given as goal
 
 -- the braces balance exactly if `depth` braces close from here to the end
 abbrev pub invariant-parts : goal.invariant-parts
