@@ -55,10 +55,6 @@ or_grouped false y z = refl
 pub true_from_not : (x : Bool) → false ≡ not x → x ≡ true
 true_from_not x is = not-false x (sym is)
 
--- equivalence is transitive
-pub iff_trans : {A B C : Type 0} → A ↔ B → B ↔ C → A ↔ C
-iff_trans first second = (λ a. second.0 (first.0 a), λ c. first.1 (second.1 c))
-
 -- a test of a statement is a test of an equivalent one
 pub iff_cases : {A B : Type 0} (b : Bool) → A ↔ B → MatchBool b B (B → ⊥) → MatchBool b A (A → ⊥)
 iff_cases true same holds = same.1 holds

@@ -8,14 +8,15 @@ use Rattle.std.proofs.lemmas.Str.{len_utf8_bounds}
 use Rattle.bib_text.specs.Braces.{IsParts, Parts}
 use Rattle.bib_text.specs.Places.{Place, place, CharAt, Run, between}
 use Rattle.bib_text.specs.Places.Run.{stop, step}
+use Rattle.bib_text.proofs.BraceFacts.{ahead_parts}
 use Rattle.bib_text.proofs.PlaceFacts.{Ahead, ahead_then, ahead_char, ahead_run, char_left, same_place, same_char, test_clash}
-use Rattle.bib_syntax.specs.Reading.{Part, part, Piece, FieldReading, EntryReading}
+use Rattle.bib_syntax.specs.Reading.{Part, Piece, FieldReading, EntryReading}
 use Rattle.bib_syntax.specs.Grammar.{Braced, Element, Elements, Gap, longest}
 use Rattle.bib_syntax.specs.Grammar.{Number as number}
 use Rattle.bib_syntax.specs.Grammar.{Element as element}
 use Rattle.bib_syntax.specs.Grammar.{Elements as elements}
 use Rattle.bib_syntax.specs.Grammar.{Gap as gap}
-use Rattle.bib_syntax.proofs.FieldFacts.{ahead_identifier, ahead_parts, ahead_quoted_parts, ahead_elements}
+use Rattle.bib_syntax.proofs.FieldFacts.{ahead_identifier, ahead_quoted_parts, ahead_elements}
 use Rattle.bib_syntax.proofs.LawFacts.{start_not_white}
 use Rattle.edit_entries.specs.Placed.{IsPlaced}
 use Rattle.std.specs.Str.{IsCharBoundary}
@@ -169,7 +170,12 @@ parts_in_braces value b =
     } in
     let ahead = ahead_parts b.parts in
     let first : Inside frame b.inside =
-    record { text = b.opens.same; start = omega (arith, b.opens.next); end = omega (arith, b.opens.next); moved = omega (arith, b.opens.next) } in
+    record {
+      text = b.opens.same;
+      start = omega (arith, b.opens.next);
+      end = omega (arith, b.opens.next);
+      moved = omega (arith, b.opens.next);
+    } in
     let last : Inside frame b.following = record {
       text = ahead.text ∙ b.opens.same;
       start = omega (arith, ahead.at, b.opens.next);

@@ -1,77 +1,75 @@
 use Rattle.std.proofs.lemmas.Grind.{common_steps}
-use Rattle.std.proofs.Common.{◌∙◌, refl, arith, subst, length}
-use Rattle.bib_text.proofs.BoolFacts.{iff_trans, iff_cases}
-use Rattle.bib_text.proofs.BraceFacts.{Closes, closes_plain, closes_hidden, closes_slash_end, closes_open, closes_close, closes_close_none, closes_end, end_is, is_plain_from}
-use Rattle.bib_text.proofs.TextFacts.{less_after}
-use Rattle.bib_text.specs.Places.{place}
+use Rattle.std.proofs.Common.{◌≡◌, false, ℕ, List, ◌∷◌, slice_index_or, arith}
+use Rattle.bib_text.specs.Braces.{close_braces}
+use Rattle.bib_text.proofs.BraceTestFacts.{close_byte, hidden_byte, open_byte, parts_decided, plain_byte, slash_byte}
+use Rattle.bib_text.proofs.ListFacts.{next_is}
+use Rattle.bib_text.proofs.braces.has_balanced_braces.Goals.{then-is_hidden, else-is_hidden+then-byte-eq92, else-is_hidden+else-byte-eq92+then-byte-eq123, else-is_hidden+else-byte-eq92+else-byte-eq123+then-byte-eq125+else-depth-eq0, else-is_hidden+else-byte-eq92+else-byte-eq123+else-byte-eq125}
 use Rattle.bib_text.proofs.braces.has_balanced_braces.Goals as goal
 
-pub parts-init : goal.parts-init
-parts-init c = rw c.new-scanner.ensures (refl, omega arith, (λ p. p, λ p. p))
+pub bytes-preserved : goal.bytes-preserved
+bytes-preserved c =
+    let was = c.bytes.is_hidden in
+    let h = c.if-is_hidden.is_hidden in
+    let depth = c.bytes.depth in
+    let d = c.if-is_hidden.depth in
+    let all = c.as_bytes-byte-items.result.now in
+    let i = c.bytes.byte-index in
+    let b = slice_index_or all i 0 in
+    let within = c.bytes.invariant.within in
+    let left =
+    λ (step : (bs : List ℕ) → close_braces was depth (b ∷ bs) ≡ close_braces h d bs).
+    next_is (close_braces was depth) (close_braces h d) all i c.bytes-test.true step c.bytes.invariant.left in
+    elim c.if-is_hidden.branch [
+      | then-is_hidden w ↦ record {
+        left = left (λ bs. hidden_byte was h depth d b bs w.if-is_hidden.true w.is_hidden-is w.depth-is);
+        within = omega (arith, within, w.depth-is);
+      }
+      | else-is_hidden+then-byte-eq92 w ↦ record {
+        left =
+            left
+            (λ bs.
+            slash_byte was h depth d b bs w.if-is_hidden.false w.if-byte-eq92.true w.is_hidden-is w.depth-is);
+        within = omega (arith, within, w.depth-is);
+      }
+      | else-is_hidden+else-byte-eq92+then-byte-eq123 w ↦ record {
+        left =
+            left
+            (λ bs.
+            open_byte was h depth d b bs w.if-is_hidden.false w.if-byte-eq123.true w.is_hidden-is w.depth-is);
+        within = omega (arith, within, w.depth-is);
+      }
+      | else-is_hidden+else-byte-eq92+else-byte-eq123+then-byte-eq125+else-depth-eq0 w ↦ record {
+        left =
+            left
+            (λ bs.
+            close_byte was h depth d b bs w.if-is_hidden.false w.if-byte-eq125.true w.if-depth-eq0.false
+            w.is_hidden-is w.depth-is);
+        within = omega (arith, within, w.depth-is);
+      }
+      | else-is_hidden+else-byte-eq92+else-byte-eq123+else-byte-eq125 w ↦ record {
+        left =
+            left
+            (λ bs.
+            plain_byte was h depth d b bs w.if-is_hidden.false w.if-byte-eq92.false w.if-byte-eq123.false
+            w.if-byte-eq125.false w.is_hidden-is w.depth-is);
+        within = omega (arith, within, w.depth-is);
+      }
+    ]
 
-pub parts-preserved-then-c-eq123 : goal.parts-preserved-then-c-eq123
-parts-preserved-then-c-eq123 c =
-    let char = rw c.if-c-eq123.true at c.in-Some.ensures in (
-      char.same ∙ c.parts.invariant.0,
-      omega (arith, c.parts.invariant.1, char.next),
-      iff_trans c.parts.invariant.2 (closes_open c.parts.depth _ refl char),
-    )
+pub returns-then-depth-eq0-clause-test : goal.returns-then-depth-eq0-clause-test
+returns-then-depth-eq0-clause-test c = grind (arith, common_steps)
 
-pub returns-then-depth-eq0 : goal.returns-then-depth-eq0
-returns-then-depth-eq0 c =
-    let char = rw c.if-c-eq125.true at c.in-Some.ensures in
-    λ parts.
-    closes_close_none _ refl char
-    (subst (λ n. Closes n c.parts.scanner (place c.args.text.now (length c.args.text.now))) c.if-depth-eq0.true
-    (c.parts.invariant.2.0 parts))
+pub returns-then-depth-eq0-clause-parts : goal.returns-then-depth-eq0-clause-parts
+returns-then-depth-eq0-clause-parts c = parts_decided false c.args.text.now c.utf8.text (returns-then-depth-eq0-clause-test c)
 
-pub parts-preserved-then-c-eq125 : goal.parts-preserved-then-c-eq125
-parts-preserved-then-c-eq125 c =
-    let char = rw c.if-c-eq125.true at c.in-Some.ensures in (
-      char.same ∙ c.parts.invariant.0,
-      omega (arith, c.parts.invariant.1, char.next),
-      iff_trans c.parts.invariant.2 (closes_close c.parts.depth _ c.if-depth-eq0.false char),
-    )
+pub returns-then-not-is_hidden-clause-test : goal.returns-then-not-is_hidden-clause-test
+returns-then-not-is_hidden-clause-test c = grind (arith, common_steps)
 
-pub parts-preserved-in-Some-eat-2 : goal.parts-preserved-in-Some-eat-2
-parts-preserved-in-Some-eat-2 c =
-    let slash = rw c.if-c-eq92.true at c.in-Some.ensures in (
-      c.in-Some-eat.ensures.same ∙ slash.same ∙ c.parts.invariant.0,
-      omega (arith, c.parts.invariant.1, slash.next, c.in-Some-eat.ensures.next),
-      iff_trans c.parts.invariant.2 (closes_hidden c.parts.depth _ refl slash c.in-Some-eat.ensures),
-    )
+pub returns-then-not-is_hidden-clause-parts : goal.returns-then-not-is_hidden-clause-parts
+returns-then-not-is_hidden-clause-parts c = parts_decided _ c.args.text.now c.utf8.text (returns-then-not-is_hidden-clause-test c)
 
-pub returns-in_default-eat : goal.returns-in_default-eat
-returns-in_default-eat c =
-    let slash = rw c.if-c-eq92.true at c.in-Some.ensures in
-    λ parts. closes_slash_end c.parts.depth _ refl slash c.in_default-eat.ensures.0 (c.parts.invariant.2.0 parts)
+pub returns-else-not-is_hidden-clause-test : goal.returns-else-not-is_hidden-clause-test
+returns-else-not-is_hidden-clause-test c = grind (arith, common_steps)
 
-pub parts-smaller : goal.parts-smaller
-parts-smaller c = less_after c.in-Some.ensures
-
-pub parts-preserved : goal.parts-preserved
-parts-preserved c = (
-  c.in-Some.ensures.same ∙ c.parts.invariant.0,
-  omega (arith, c.parts.invariant.1, c.in-Some.ensures.next),
-  iff_trans c.parts.invariant.2
-      (closes_plain c.parts.depth _ refl c.in-Some.ensures
-      (is_plain_from c.in-Some.c c.if-c-eq123.false c.if-c-eq125.false c.if-c-eq92.false) c.if-c-eq125.false),
-)
-
-pub returns : goal.returns
-returns c =
-    iff_cases _ c.parts.invariant.2
-    (closes_end c.parts.depth _ c.in_default.ensures.0
-    (end_is c.args.text.now c.parts.invariant.0 c.in_default.ensures.0))
-
-pub parts-smaller-in-Some-eat-2 : goal.parts-smaller-in-Some-eat-2
-parts-smaller-in-Some-eat-2 c = grind (arith, common_steps)
-
-pub parts-smaller-then-c-eq123 : goal.parts-smaller-then-c-eq123
-parts-smaller-then-c-eq123 c = grind (arith, common_steps)
-
-pub parts-smaller-then-c-eq125 : goal.parts-smaller-then-c-eq125
-parts-smaller-then-c-eq125 c = grind (arith, common_steps)
-
-pub overflow_add-depth : goal.overflow_add-depth
-overflow_add-depth c = grind (arith, common_steps)
+pub returns-else-not-is_hidden-clause-parts : goal.returns-else-not-is_hidden-clause-parts
+returns-else-not-is_hidden-clause-parts c = parts_decided _ c.args.text.now c.utf8.text (returns-else-not-is_hidden-clause-test c)

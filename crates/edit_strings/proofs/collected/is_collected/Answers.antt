@@ -25,4 +25,4 @@ returns c =
     (subst (λ n. c.args.least ≤ n) c.count_of.ensures c.if-count_of-least.false)
     (sym c.in_ok-is_shortened.ensures ∙ c.if-not-branch.false)
     (balanced_if c.is_balanced.result c.args.text.now c.is_balanced.ensures c.if-not-is_balanced.false)
-    c.has_balanced_braces.ensures
+    c.has_balanced_braces.ensures.parts
