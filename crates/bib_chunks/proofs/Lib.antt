@@ -12,7 +12,6 @@ pub mod ValueFacts
 pub mod WholeFacts
 pub mod WordFacts
 pub mod WrittenFacts
-mod BraceFacts
 pub mod JoinedFacts
 pub mod ListFacts
 mod SettledFacts

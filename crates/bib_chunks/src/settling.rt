@@ -3,13 +3,13 @@
 ghost use Rattle.std.specs.Prelude.{◌≡◌, ◌==◌, ◌↔◌, [], IsTrue, MatchBool, MatchOption};
 ghost use Rattle.std.specs.List.{list_any};
 ghost use Rattle.std.specs.Str.{chars};
-ghost use Rattle.bib_text.specs.Braces.{IsParts};
 ghost use Rattle.bib_chunks.specs.Settled.{is_pair, IsSettled};
 ghost use Rattle.bib_chunks.specs.Settling.{MayFollow, neighbour, character_atom, text_atoms, Continues, IsUnsettledAfter, ContinuesIn, IsStuckIn, IsSettledMath};
 ghost use Rattle.bib_chunks.specs.Styled.{atoms_of, styled};
 ghost use Rattle.bib_text.specs.Characters as char;
 
 use crate::chunk::{Chunk, ChunksRef};
+use bib_text::braces::has_balanced_braces;
 use bib_text::scanner::Scanner;
 
 // The neighbour before an atom (a character or a math text), if the parser could merge the two: a normal or a verbatim
@@ -78,34 +78,6 @@ fn holds_dollar(text: &str) -> bool
     scanner.eat().is_some()
 }
 
-// Returns whether the unescaped braces of a text balance and no unescaped backslash ends it. A backslash escapes the next
-// character.
-fn is_parts(text: &str) -> bool
-    ensures { MatchBool result (IsParts text.now) (IsParts text.now → ⊥) }
-{
-    let mut scanner = Scanner::new(text);
-    let mut depth = 0usize;
-    'parts: while let Some(c) = scanner.eat() {
-        if c == '{' {
-            depth += 1;
-            continue 'parts;
-        }
-        if c == '}' {
-            if depth == 0 {
-                return false;
-            }
-            depth -= 1;
-            continue 'parts;
-        }
-        if c == '\\' {
-            let Some(_) = scanner.eat() else {
-                return false;
-            };
-        }
-    }
-    depth == 0
-}
-
 // Returns whether a math text may occur in settled text outside verbatim fields.
 fn is_settled_math(text: &str) -> bool
     ensures { MatchBool result (IsSettledMath text.now) (IsSettledMath text.now → ⊥) }
@@ -113,7 +85,7 @@ fn is_settled_math(text: &str) -> bool
     if holds_dollar(text) {
         return false;
     }
-    is_parts(text)
+    has_balanced_braces(text)
 }
 
 // Returns the `Before` of the atom that follows a chunk, or `None` if one of its atoms may not occur there.

@@ -4,6 +4,7 @@ use Rattle.std.specs.List.{AllByRecursion}
 use Rattle.std.specs.Str.{IsUtf8, IsCharBoundary}
 use Rattle.bib_text.specs.Places.{Place, place, CharAt, Run}
 use Rattle.bib_text.specs.Places.Run.{stop, step}
+use Rattle.bib_text.proofs.BraceFacts.{ahead_parts}
 use Rattle.bib_text.proofs.PlaceFacts.{ahead_run, boundary_following, same_place}
 use Rattle.bib_syntax.specs.Grammar.{BlockKind, Body, Element, Elements, Field, Fields, Identifier, Number, longest}
 use Rattle.bib_syntax.specs.Grammar.{Body as body}
@@ -16,7 +17,7 @@ use Rattle.bib_syntax.specs.Recovery.{Recovered}
 use Rattle.bib_syntax.specs.Recovery.{Keeps as keep}
 use Rattle.bib_syntax.specs.Recovery.{Recovered as recovered}
 use Rattle.bib_syntax.specs.declared.raw.recovery.SkippedBlock.{SkippedBlock}
-use Rattle.bib_syntax.proofs.FieldFacts.{ahead_field, ahead_gap, ahead_parts, ahead_quoted_parts}
+use Rattle.bib_syntax.proofs.FieldFacts.{ahead_field, ahead_gap, ahead_quoted_parts}
 use Rattle.bib_syntax.proofs.FileFacts.{ahead_block, ahead_head, ahead_line_comment}
 use Rattle.bib_syntax.proofs.KeptFacts.{ahead_passed}
 use Rattle.bib_queries.specs.Standing.{IsFieldIn}

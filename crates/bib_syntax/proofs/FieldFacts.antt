@@ -2,9 +2,8 @@
 use Rattle.std.proofs.Common.{List, [], ◌∷◌, ◌++◌, subst, append_assoc, append-nil, inl, inr, ◌==◌}
 use Rattle.std.specs.Char.{is_whitespace}
 use Rattle.bib_text.specs.Places.{Place, CharAt, Longest, Stops}
+use Rattle.bib_text.proofs.BraceFacts.{ahead_parts}
 use Rattle.bib_text.proofs.PlaceFacts.{stops_without, Ahead, ahead_here, ahead_then, ahead_char, ahead_run}
-use Rattle.bib_text.specs.Braces.{Parts}
-use Rattle.bib_text.specs.Braces.{Parts as parts}
 use Rattle.bib_syntax.proofs.WordFacts.{ahead_number}
 use Rattle.bib_syntax.proofs.ReadingFacts.{error_back}
 use Rattle.bib_syntax.specs.Reading.{Part, Piece, FieldReading}
@@ -89,13 +88,6 @@ pub ahead_quoted_parts : {u v : Place} → QuotedParts u v → Ahead u v
 ahead_quoted_parts {u} quotes.none = ahead_here u
 ahead_quoted_parts (quotes.plain c p rest) = ahead_then (ahead_char c) (ahead_quoted_parts rest)
 ahead_quoted_parts (quotes.hidden s c rest) = ahead_then (ahead_char s) (ahead_then (ahead_char c) (ahead_quoted_parts rest))
-
-pub ahead_parts : {u v : Place} → Parts u v → Ahead u v
-ahead_parts {u} parts.none = ahead_here u
-ahead_parts (parts.plain c p rest) = ahead_then (ahead_char c) (ahead_parts rest)
-ahead_parts (parts.hidden s c rest) = ahead_then (ahead_char s) (ahead_then (ahead_char c) (ahead_parts rest))
-ahead_parts (parts.nested o inner c rest) =
-    ahead_then (ahead_char o) (ahead_then (ahead_parts inner) (ahead_then (ahead_char c) (ahead_parts rest)))
 
 pub ahead_quoted : {u v : Place} {p : Part} → Quoted u p v → Ahead u v
 ahead_quoted q = ahead_then (ahead_char q.opens) (ahead_then (ahead_quoted_parts q.parts) (ahead_char q.closes))

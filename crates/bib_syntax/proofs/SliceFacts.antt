@@ -5,6 +5,7 @@ use Rattle.std.proofs.lemmas.List.{length-take, length-drop}
 use Rattle.std.specs.List.{AllByRecursion}
 use Rattle.bib_text.specs.Places.{Place, place, Run, between}
 use Rattle.bib_text.specs.Places.Run.{stop, step}
+use Rattle.bib_text.proofs.BraceFacts.{ahead_parts}
 use Rattle.bib_text.proofs.PlaceFacts.{Ahead, ahead_then, ahead_char, ahead_run, char_within, before_char}
 use Rattle.bib_syntax.specs.Reading.{Part, part, Piece, FieldReading, FileReading, then}
 use Rattle.bib_syntax.specs.Grammar.{BlockKind, Body, Block, Braced, Element, Elements, Field, Fields, File, Identifier, Number, Quoted, longest}
@@ -15,7 +16,7 @@ use Rattle.bib_syntax.specs.Grammar.{Fields as fields}
 use Rattle.bib_syntax.specs.Grammar.{File as file}
 use Rattle.bib_syntax.specs.Grammar.Number.{whole, broken}
 use Rattle.bib_syntax.specs.Slices.{StandsIn, PieceStandsIn, FieldStandsIn, EntryStandsIn, ReadingStandsIn}
-use Rattle.bib_syntax.proofs.FieldFacts.{ahead_fields, ahead_element, ahead_field, ahead_gap, ahead_identifier, ahead_parts, ahead_quoted_parts}
+use Rattle.bib_syntax.proofs.FieldFacts.{ahead_fields, ahead_element, ahead_field, ahead_gap, ahead_identifier, ahead_quoted_parts}
 use Rattle.bib_syntax.proofs.WordFacts.{ahead_number}
 use Rattle.bib_syntax.proofs.FileFacts.{ahead_block, ahead_head, ahead_line_comment}
 use Rattle.bib_text.proofs.ListFacts.{all_append}

@@ -1,6 +1,6 @@
--- Facts about tests and their combinations.
+-- Facts about tests, their combinations, and the statements that they decide.
 use Rattle.std.proofs.Common.{◌≡◌, Bool, true, false, cond, refl, sym, ◌∙◌}
-use Rattle.std.specs.Prelude.{◌&&◌, ◌||◌, not}
+use Rattle.std.specs.Prelude.{◌&&◌, ◌||◌, ◌↔◌, MatchBool, not}
 use Rattle.std.proofs.lemmas.Bool.{and_parts, not-false, not-true, or_parts}
 
 -- if neither of two tests passes, the first doesn't
@@ -54,3 +54,8 @@ or_grouped false y z = refl
 -- a test whose negation fails passes
 pub true_from_not : (x : Bool) → false ≡ not x → x ≡ true
 true_from_not x is = not-false x (sym is)
+
+-- a test of a statement is a test of an equivalent one
+pub iff_cases : {A B : Type 0} (b : Bool) → A ↔ B → MatchBool b B (B → ⊥) → MatchBool b A (A → ⊥)
+iff_cases true same holds = same.1 holds
+iff_cases false same fails = λ a. fails (same.0 a)

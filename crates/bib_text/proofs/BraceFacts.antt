@@ -1,11 +1,12 @@
 -- Facts about texts with balanced braces.
-use Rattle.std.proofs.Common.{◌≡◌, ℕ, ◌-◌, true, false, refl, subst, arith}
-use Rattle.std.specs.Prelude.{◌==◌}
-use Rattle.std.proofs.lemmas.Bool.{ne_eqb}
+use Rattle.std.proofs.Common.{◌≡◌, ℕ, zero, suc, ◌<◌, ◌≤◌, true, false, refl, sym, ap, subst, arith, inl, inr, ⊎_elim, MatchBool, nat_eq}
+use Rattle.std.specs.Prelude.{◌⊎◌, ◌↔◌}
+use Rattle.std.proofs.lemmas.Bool.{both_ways, ne_eqb}
+use Rattle.std.proofs.lemmas.Str.{len_utf8_bounds}
 use Rattle.bib_text.specs.Places.{Place, CharAt, AtEnd}
 use Rattle.bib_text.specs.Braces.{Parts, is_plain}
 use Rattle.bib_text.specs.Braces.Parts.{none, plain, hidden, nested}
-use Rattle.bib_text.proofs.PlaceFacts.{char_clash, no_char_at_end, pass_clash, test_clash}
+use Rattle.bib_text.proofs.PlaceFacts.{Ahead, ahead_char, ahead_here, ahead_then, char_clash, no_char_at_end, pass_clash, same_char, test_clash}
 
 -- a character that is neither a brace nor a backslash is plain
 pub is_plain_from : (c : ℕ) → (c ≡ 123 → ⊥) → (c ≡ 125 → ⊥) → (c ≡ 92 → ⊥) → is_plain c ≡ true
@@ -28,3 +29,130 @@ parts_end end none = refl
 parts_end end (plain char passes parts) = absurd (no_char_at_end end char)
 parts_end end (hidden slash any parts) = absurd (no_char_at_end end slash)
 parts_end end (nested brace inner close rest) = absurd (no_char_at_end end brace)
+
+-- the text from `u` to `e` is parts with `n` closing braces of braces opened before `u`
+abbrev pub Closes : ℕ → Place → Place → Type 0
+Closes zero u e = Parts u e
+Closes (suc n) u e = (w : Place) × (x : Place) × Parts u w × CharAt w 125 x × Closes n x e
+
+pub ahead_parts : {u v : Place} → Parts u v → Ahead u v
+ahead_parts {u} none = ahead_here u
+ahead_parts (plain char passes rest) = ahead_then (ahead_char char) (ahead_parts rest)
+ahead_parts (hidden slash char rest) = ahead_then (ahead_char slash) (ahead_then (ahead_char char) (ahead_parts rest))
+ahead_parts (nested opens inner closes rest) =
+    ahead_then (ahead_char opens) (ahead_then (ahead_parts inner) (ahead_then (ahead_char closes) (ahead_parts rest)))
+
+closes_onward : (n : ℕ) (u e : Place) → Closes n u e → u.at ≤ e.at
+closes_onward zero u e parts = (ahead_parts parts).at
+closes_onward (suc n) u e (w, x, parts, close, rest) =
+    omega (arith, (ahead_parts parts).at, (ahead_char close).at, closes_onward n x e rest)
+
+-- parts from a plain character are empty, or have this character first
+parts_plain : {u v w : Place} {c : ℕ} → CharAt u c v → is_plain c ≡ true → Parts u w → (u ≡ w) ⊎ Parts v w
+parts_plain char passes none = inl refl
+parts_plain {w = w} char passes (plain other also rest) = inr (subst (λ p. Parts p w) (same_char other char).1 rest)
+parts_plain char passes (hidden other next rest) = absurd (both_ways _ refl (rw (same_char char other).0 at passes))
+parts_plain char passes (nested other inner close rest) = absurd (both_ways _ refl (rw (same_char char other).0 at passes))
+
+-- parts from a backslash are empty, or have the backslash and the character after it first
+parts_hidden : {u v w x : Place} {c : ℕ} → CharAt u 92 v → CharAt v c w → Parts u x → (u ≡ x) ⊎ Parts w x
+parts_hidden slash char none = inl refl
+parts_hidden slash char (plain other also rest) = absurd (both_ways _ refl (rw (sym (same_char slash other).0) at also))
+parts_hidden {x = x} slash char (hidden {w = z} {c = d} other next rest) =
+    let here = subst (λ p. CharAt p d z) (same_char other slash).1 next in
+    inr (subst (λ p. Parts p x) (same_char here char).1 rest)
+parts_hidden slash char (nested other inner close rest) = absurd (omega (arith, (same_char slash other).0))
+
+-- parts from a backslash are empty, or go on after it
+parts_slash : {u v x : Place} → CharAt u 92 v → Parts u x → (u ≡ x) ⊎ (v.at < x.at)
+parts_slash slash none = inl refl
+parts_slash slash (plain other also rest) = absurd (both_ways _ refl (rw (sym (same_char slash other).0) at also))
+parts_slash slash (hidden {c = c} other next rest) =
+    inr
+    (omega
+    (arith, slash.next, other.next, next.next, (len_utf8_bounds c).0, (ahead_parts rest).at))
+parts_slash slash (nested other inner close rest) = absurd (omega (arith, (same_char slash other).0))
+
+-- parts that begin at an opening brace are empty, or begin with a pair of braces
+parts_open : {u v x : Place} → CharAt u 123 v → Parts u x → (u ≡ x) ⊎ ((w : Place) × (y : Place) × Parts v w × CharAt w 125 y × Parts y x)
+parts_open char none = inl refl
+parts_open char (plain other also rest) = absurd (both_ways _ refl (rw (sym (same_char char other).0) at also))
+parts_open char (hidden other next rest) = absurd (omega (arith, (same_char char other).0))
+parts_open char (nested {w = w} {x = y} other inner close rest) =
+    inr (w, y, subst (λ p. Parts p w) (same_char other char).1 inner, close, rest)
+
+-- the place of a character isn't one at or after its end
+not_last : {u v e : Place} {c : ℕ} → v.at ≤ e.at → CharAt u c v → u ≡ e → ⊥
+not_last {c = c} within char last = omega (arith, within, char.next, (len_utf8_bounds c).0, ap (λ p. p.at) last)
+
+-- Suppose that non-empty parts from `u` are parts from `v`, and that parts from `v` are parts from `u`. If the character at `u` isn't
+-- a closing brace, `Closes` from `u` and `Closes` from `v` are equivalent.
+closes_after : (n : ℕ) (e : Place) {u v y : Place} {c : ℕ} → y.at ≤ e.at → CharAt u c y → (c ≡ 125 → ⊥)
+    → ((x : Place) → Parts u x → (u ≡ x) ⊎ Parts v x) → ((x : Place) → Parts v x → Parts u x)
+    → Closes n u e ↔ Closes n v e
+closes_after zero e within char other first back = (λ p. ⊎_elim (λ last. absurd (not_last within char last)) (λ q. q) (first e p), back e)
+closes_after (suc n) e {u} {v} {y} {c} within char other first back = (
+  λ (w, x, parts, close, rest).
+      ⊎_elim (λ last. absurd (other (same_char char (subst (λ p. CharAt p 125 x) (sym last) close)).0))
+      (λ q. (w, x, q, close, rest)) (first w parts),
+  λ (w, x, parts, close, rest). (w, x, back w parts, close, rest),
+)
+
+-- a plain character does not change how many braces close up to the end
+pub closes_plain : (n : ℕ) (e : Place) {u v : Place} {c : ℕ} → v.at ≤ e.at → CharAt u c v → is_plain c ≡ true
+    → (c ≡ 125 → ⊥) → Closes n u e ↔ Closes n v e
+closes_plain n e within char passes other =
+    closes_after n e within char other (λ x. parts_plain char passes) (λ x rest. plain char passes rest)
+
+-- nor do a backslash and the character after it
+pub closes_hidden : (n : ℕ) (e : Place) {u v w : Place} {c : ℕ} → v.at ≤ e.at → CharAt u 92 v → CharAt v c w
+    → Closes n u e ↔ Closes n w e
+closes_hidden n e within slash char =
+    closes_after n e within slash (λ same. omega (arith, same)) (λ x. parts_hidden slash char)
+    (λ x rest. hidden slash char rest)
+
+-- nothing closes from a backslash up to its end
+pub closes_slash_end : (n : ℕ) (e : Place) {u v : Place} → CharAt u 92 v → v ≡ e → Closes n u e → ⊥
+closes_slash_end zero e {u} {v} slash last parts =
+    let end : v.at ≡ e.at = ap (λ p. p.at) last in
+    ⊎_elim (λ same. not_last (omega (arith, end)) slash same) (λ more. omega (arith, more, end)) (parts_slash slash parts)
+closes_slash_end (suc n) e {u} {v} slash last (w, x, parts, close, rest) =
+    ⊎_elim
+    (λ same. let clash = (same_char slash (subst (λ p. CharAt p 125 x) (sym same) close)).0 in omega (arith, clash))
+    (λ more. omega (arith, more, ap (λ p. p.at) last, (ahead_char close).at, closes_onward n x e rest))
+    (parts_slash slash parts)
+
+-- before an opening brace one brace less is to be closed than after it
+pub closes_open : (n : ℕ) (e : Place) {u v : Place} → v.at ≤ e.at → CharAt u 123 v → Closes n u e ↔ Closes (suc n) v e
+closes_open zero e within char = (
+  λ parts. ⊎_elim (λ last. absurd (not_last within char last)) (λ q. q) (parts_open char parts),
+  λ (w, x, inner, close, rest). nested char inner close rest,
+)
+closes_open (suc n) e {u} {v} within char = (
+  λ (w, x, parts, close, rest).
+      ⊎_elim (λ last. let same = (same_char char (subst (λ p. CharAt p 125 x) (sym last) close)).0 in absurd (omega (arith, same)))
+      (λ (y, z, inner, inner_close, more). (y, z, inner, inner_close, (w, x, more, close, rest)))
+      (parts_open char parts),
+  λ (y, z, inner, inner_close, (w, x, more, close, rest)). (w, x, nested char inner inner_close more, close, rest),
+)
+
+-- before a closing brace one brace more is to be closed than after it
+pub closes_close : (n : ℕ) (e : Place) {u v : Place} → CharAt u 125 v → Closes (suc n) u e ↔ Closes n v e
+closes_close n e {u} {v} char = (
+  λ (w, x, parts, close, rest).
+      subst (λ p. Closes n p e)
+      (sym (same_char char (subst (λ p. CharAt p 125 x) (sym (no_parts char parts)) close)).1) rest,
+  λ rest. (u, v, none, char, rest),
+)
+
+-- a text that begins with a closing brace is not parts, since no brace is open before it
+pub closes_close_none : (e : Place) {u v : Place} → v.at ≤ e.at → CharAt u 125 v → Closes 0 u e → ⊥
+closes_close_none e within char parts = not_last within char (no_parts char parts)
+
+-- at the end all braces are closed exactly if none is open
+pub closes_end : (n : ℕ) (e : Place) {u : Place} → u ≡ e → MatchBool (nat_eq n 0) (Closes n u e) (Closes n u e → ⊥)
+closes_end zero e {u} same = subst (λ p. Parts u p) same none
+closes_end (suc n) e same =
+    rw (ne_eqb (suc n) 0 (λ none. omega (arith, none)))
+    (λ (w, x, parts, close, rest).
+    omega (arith, ap (λ p. p.at) same, (ahead_parts parts).at, close.next, closes_onward n x e rest))

@@ -1,8 +1,10 @@
 pub mod BoolFacts
 pub mod BoundaryFacts
 pub mod BraceFacts
+pub mod BraceTestFacts
 pub mod BytesFacts
 pub mod DigitFacts
+pub mod EncodedFacts
 pub mod EnumFacts
 pub mod ListFacts
 pub mod OptionFacts

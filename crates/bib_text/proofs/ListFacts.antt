@@ -1,5 +1,5 @@
 -- Facts on lists and options that several crates need.
-use Rattle.std.proofs.Common.{◌≡◌, ◌≢◌, ℕ, zero, suc, ◌+◌, ◌-◌, ◌<◌, ◌||◌, ◌⊎◌, inl, inr, Bool, true, false, cond, List, [], ◌∷◌, ◌++◌, drop, get_or, length, map, take, Option, Some, refl, sym, ap, ◌∙◌, subst, arith, eqb, length-drop, reverse}
+use Rattle.std.proofs.Common.{◌≡◌, ◌≢◌, ℕ, zero, suc, ◌+◌, ◌-◌, ◌<◌, ◌||◌, ◌⊎◌, inl, inr, Bool, true, false, cond, List, [], ◌∷◌, ◌++◌, drop, get_or, length, map, take, slice_index_or, Option, Some, refl, sym, ap, ◌∙◌, subst, arith, eqb, length-drop, reverse}
 use Rattle.std.specs.List.{AllByRecursion, AllZip, Contains, count_by, find, list_all, list_any, prefix_len, remove, starts_with}
 use Rattle.std.specs.List.Sorted.{IsSortedBy}
 use Rattle.std.specs.Prelude.{slice_get, slice_set}
@@ -202,3 +202,9 @@ passed_prefix p [] rest all = omega arith
 passed_prefix p (x ∷ xs) rest all =
     let parts = and_parts (p x) (list_all p xs) all in
     rw (parts.0, passed_prefix p xs rest parts.1) (omega arith)
+
+-- a test of the bytes still to visit is the other test of the bytes after the next one, if this holds for any bytes
+pub next_is : (test test' : List ℕ → Bool) (xs : List ℕ) (i : ℕ) {is : Bool} → i < length xs
+    → ((bs : List ℕ) → test (slice_index_or xs i 0 ∷ bs) ≡ test' bs) → test (drop i xs) ≡ is
+    → test' (drop (i + 1) xs) ≡ is
+next_is test test' xs i below step left = sym (step (drop (i + 1) xs)) ∙ ap test (sym (drop_more xs i 0 below)) ∙ left

@@ -1,7 +1,7 @@
 -- Meaning: words of public contracts.
 -- Texts with balanced braces, such as the text between two braces in a file. A backslash escapes the character after it.
 -- Each brace that isn't escaped belongs to a pair of an opening and a closing brace.
-use Rattle.std.specs.Prelude.{◌≡◌, ℕ, Bool, true, not, ◌&&◌, ◌==◌, List, length}
+use Rattle.std.specs.Prelude.{◌≡◌, ℕ, suc, ◌-◌, Bool, true, false, not, ◌&&◌, ◌==◌, List, [], ◌∷◌, cond, length, nat_lt}
 use Rattle.bib_text.specs.Places.{Place, CharAt, place}
 use Rattle.bib_text.specs.Characters as char
 
@@ -20,3 +20,17 @@ pub data Parts : Place → Place → Type 0 where
 -- the whole of `text` is zero or more parts of a braced text
 abbrev pub IsParts : List ℕ → Type 0
 IsParts text = Parts (place text 0) (place text (length text))
+
+-- whether bytes close this number of open braces and all braces that they open. An unescaped backslash escapes the next byte, and
+-- may not be the last byte. `is_hidden` says whether the first byte is escaped
+abbrev pub close_braces : Bool → ℕ → List ℕ → Bool
+close_braces is_hidden depth [] = not is_hidden && depth == 0
+close_braces true depth (b ∷ bs) = close_braces false depth bs
+close_braces false depth (b ∷ bs) =
+    cond (b == char.backslash) (close_braces true depth bs)
+    (cond (b == char.open_brace) (close_braces false (suc depth) bs)
+    (cond (b == char.close_brace) (nat_lt 0 depth && close_braces false (depth - 1) bs) (close_braces false depth bs)))
+
+-- whether the unescaped braces of a text are balanced and no unescaped backslash ends it. This is a test for `IsParts`
+abbrev pub has_balanced_braces : List ℕ → Bool
+has_balanced_braces text = close_braces false 0 text

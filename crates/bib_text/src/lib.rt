@@ -1,4 +1,4 @@
-//! Texts, lists of values, values with their spans, and a cursor over a text.
+//! Texts, lists of values, values with their spans, a cursor over a text, and a test for balanced braces.
 //!
 //! Contracts see a `Scanner` as a *place*: a text and a byte offset. A grammar rule relates two places, and consecutive
 //! rules share a place. Proofs of other crates therefore rarely need facts about UTF-8 or about the ends of lists.
@@ -10,6 +10,7 @@
 //! unwrapping don't allocate.
 #![tactic(auto)]
 
+pub mod braces;
 pub mod digits;
 pub mod items;
 pub mod scanner;

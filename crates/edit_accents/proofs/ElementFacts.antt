@@ -10,6 +10,7 @@ use Rattle.std.proofs.lemmas.Bool.Decides.{nat_tests}
 use Rattle.std.proofs.lemmas.Str.{IsUtf8-between, encode_ascii, encodes-chars}
 use Rattle.bib_text.specs.Places.{Place, CharAt, Run, Stops, Longest, between}
 use Rattle.bib_text.specs.Places.Run.{stop, step}
+use Rattle.bib_text.proofs.BraceFacts.{ahead_parts}
 use Rattle.bib_text.proofs.PlaceFacts.{Ahead, ahead_then, ahead_char, ahead_run, stops_at}
 use Rattle.bib_syntax.specs.Reading.{Part, part, Piece}
 use Rattle.bib_syntax.specs.Reading.Piece.{literal}
@@ -17,7 +18,7 @@ use Rattle.bib_syntax.specs.Grammar.{Braced, Element, Number, Quoted, longest}
 use Rattle.bib_syntax.specs.Grammar.{Element as element}
 use Rattle.bib_syntax.specs.Grammar.{Elements as elements}
 use Rattle.bib_syntax.specs.Grammar.{Number as number}
-use Rattle.bib_syntax.proofs.FieldFacts.{ahead_parts, ahead_quoted_parts}
+use Rattle.bib_syntax.proofs.FieldFacts.{ahead_quoted_parts}
 use Rattle.edit_entries.specs.Edits.{moved_piece}
 use Rattle.edit_entries.proofs.CutFacts.{cut_stood, stood, stood_parts, stood_quoted}
 use Rattle.edit_entries.proofs.ElementFacts.{Ending, NotOpened, before, brace_before, char_parted, parted, quote_before}

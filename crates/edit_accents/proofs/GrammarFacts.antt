@@ -11,19 +11,18 @@ use Rattle.bib_text.specs.Braces.{Parts, is_plain}
 use Rattle.bib_text.specs.Braces.{Parts as parts}
 use Rattle.bib_text.proofs.PlaceFacts.{ahead_then, ahead_char, test_clash}
 use Rattle.bib_text.proofs.TextFacts.{chars_whole}
-use Rattle.bib_text.proofs.BraceFacts.{is_plain_from, plain_is}
+use Rattle.bib_text.proofs.BraceFacts.{ahead_parts, is_plain_from, plain_is}
 use Rattle.bib_syntax.proofs.QuoteFacts.{is_quotable}
 use Rattle.bib_syntax.proofs.WordFacts.{quotable_differs}
 use Rattle.bib_syntax.specs.Grammar.{QuotedParts}
 use Rattle.bib_syntax.specs.Grammar.{QuotedParts as quotes}
 use Rattle.bib_syntax.specs.OpenBraces.{ClosesOpen}
 use Rattle.bib_syntax.specs.OpenBraces.ClosesOpen.{last, level}
-use Rattle.bib_syntax.proofs.FieldFacts.{ahead_parts, ahead_quoted_parts}
+use Rattle.bib_syntax.proofs.FieldFacts.{ahead_quoted_parts}
 use Rattle.bib_syntax.proofs.BraceFacts.{closes_suc}
 use Rattle.edit_entries.proofs.ElementFacts.{char_parted, parted}
 use Rattle.edit_entries.proofs.StandsFacts.{Stands, char_stands, first_part, last_part, nothing, past}
 use Rattle.edit_format.proofs.NameFacts.{none_between}
-use Rattle.edit_format.proofs.DelimiterFacts.{plain_before, hidden_before}
 use Rattle.edit_accents.specs.Balance.{text_fits}
 use Rattle.edit_accents.proofs.FitFacts.{over_dull}
 
@@ -172,6 +171,16 @@ close_before : (d : ℕ) (cs : List ℕ) {u v w : Place} → CharAt u 125 v → 
     → ((n : ℕ) → text_fits false false n cs ≡ true → ClosesOpen n v w) → ClosesOpen d u w
 close_before zero cs close on others = absurd (cc)
 close_before (suc n) cs close on others = level parts.none close (others n (sym (over_pair n cs) ∙ on))
+
+-- a plain character before a text that closes open braces
+plain_before : {n : ℕ} {u v w : Place} {c : ℕ} → CharAt u c v → is_plain c ≡ true → ClosesOpen n v w → ClosesOpen n u w
+plain_before char passes (last inner) = last (parts.plain char passes inner)
+plain_before char passes (level inner close more) = level (parts.plain char passes inner) close more
+
+-- an escaped character before a text that closes open braces
+hidden_before : {n : ℕ} {u v w x : Place} {c : ℕ} → CharAt u 92 v → CharAt v c w → ClosesOpen n w x → ClosesOpen n u x
+hidden_before slash char (last inner) = last (parts.hidden slash char inner)
+hidden_before slash char (level inner close more) = level (parts.hidden slash char inner) close more
 
 -- the text from a place, or from a backslash before it, closes the open braces
 abbrev ClosesFrom : Bool → ℕ → Place → Place → Type 0

@@ -7,6 +7,7 @@ use Rattle.std.proofs.lemmas.Bool.Decides.{eqb_tells}
 use Rattle.std.proofs.lemmas.Option.{slice_get-map}
 use Rattle.bib_text.specs.Places.{Place, place, CharAt, Run}
 use Rattle.bib_text.specs.Places.Run.{stop, step}
+use Rattle.bib_text.proofs.BraceFacts.{ahead_parts}
 use Rattle.bib_text.proofs.PlaceFacts.{ahead_char, ahead_run, ahead_then}
 use Rattle.bib_text.proofs.ListFacts.{get_set}
 use Rattle.bib_syntax.specs.Reading.{Part, Piece, FieldReading, EntryReading}
@@ -15,7 +16,7 @@ use Rattle.bib_syntax.specs.Grammar.{Element, Elements, Field, longest}
 use Rattle.bib_syntax.specs.Grammar.{Element as element}
 use Rattle.bib_syntax.specs.Grammar.{Elements as elements}
 use Rattle.bib_syntax.proofs.WordFacts.{ahead_number}
-use Rattle.bib_syntax.proofs.FieldFacts.{ahead_elements, ahead_identifier, ahead_parts, ahead_quoted_parts}
+use Rattle.bib_syntax.proofs.FieldFacts.{ahead_elements, ahead_identifier, ahead_quoted_parts}
 use Rattle.edit_entries.specs.Edits.{Edit, moved_place, moved_part, moved_piece, moved_field, moved_entry}
 use Rattle.edit_entries.specs.Documents.{Document, IsDocument, entry_edited}
 use Rattle.edit_entries.proofs.EditFacts.{front, moved_before}

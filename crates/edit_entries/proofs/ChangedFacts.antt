@@ -4,12 +4,13 @@ use Rattle.std.specs.Prelude.{slice_get, slice_set}
 use Rattle.std.specs.Char.{is_whitespace}
 use Rattle.std.specs.List.{AllByRecursion}
 use Rattle.std.specs.Str.{trim_end}
+use Rattle.bib_text.specs.Braces.{IsParts}
 use Rattle.bib_text.specs.Places.{place, Run}
 use Rattle.bib_text.proofs.PlaceFacts.{ahead_char, ahead_run, ahead_then, same_place}
 use Rattle.bib_syntax.specs.Reading.{Part, FieldReading, EntryReading}
 use Rattle.bib_syntax.proofs.FieldFacts.{ahead_field, ahead_identifier}
 use Rattle.edit_entries.specs.Edits.{Edit, edited, edited_all, moved_place, moved_field, moved_entry}
-use Rattle.edit_entries.specs.Documents.{CanBeKey, CanStandInBraces, Document, IsDocument, entry_renamed, text_at, value_changed, value_edit, value_stretch, with_value}
+use Rattle.edit_entries.specs.Documents.{CanBeKey, Document, IsDocument, entry_renamed, text_at, value_changed, value_edit, value_stretch, with_value}
 use Rattle.edit_entries.specs.References.{CanBeMade, Change, Changed, change_edit}
 use Rattle.edit_entries.specs.Stretches.{AreChangesInOrder, EndsInWhite}
 use Rattle.edit_entries.proofs.SplitFacts.{split_fields, split_file}
@@ -113,7 +114,7 @@ field_agrees d edit k e entry j f g read some here there after a =
         omega (arith, ap (λ y. y.value.end) x_is)
 
 value_made : (d : Document) (changes : List Change) (f : FieldReading) (new : List ℕ) → IsDocument d
-    → IsPieceOf d (Change.value f new) → CanStandInBraces new → EndsInWhite d.text (Change.value f new)
+    → IsPieceOf d (Change.value f new) → IsParts new → EndsInWhite d.text (Change.value f new)
     → Made d changes f.value.end
     → Made d (Change.value f new ∷ changes) f.value.start
 value_made d changes f new read piece can white made =

@@ -6,6 +6,7 @@ use Rattle.std.specs.List.{list_all}
 use Rattle.std.proofs.lemmas.List.{drop_at, take_all}
 use Rattle.std.proofs.lemmas.Str.{encode_ascii}
 use Rattle.std.proofs.lemmas.Bool.{and_parts}
+use Rattle.bib_text.specs.Braces.{IsParts}
 use Rattle.bib_text.specs.Places.{Place, place, CharAt, Run, between}
 use Rattle.bib_text.specs.Places.Run.{stop, step}
 use Rattle.bib_text.proofs.PlaceFacts.{stops_at_end}
@@ -14,7 +15,7 @@ use Rattle.bib_syntax.specs.Reading.{Part}
 use Rattle.bib_syntax.specs.Reading.Piece.{abbreviation, literal}
 use Rattle.bib_syntax.specs.Grammar.{Element, Identifier, NoDigit, Number, longest}
 use Rattle.edit_entries.specs.Changes.{braced_value}
-use Rattle.edit_entries.specs.Documents.{CanStandInBraces, text_at}
+use Rattle.edit_entries.specs.Documents.{text_at}
 use Rattle.edit_entries.specs.Setting.{CanBeNewName, IsBare, IsWritableAt, SetValue, begins_with_digit, is_bare_number, new_value}
 use Rattle.edit_entries.proofs.NewFieldFacts.{element_read}
 use Rattle.edit_entries.proofs.NewValueFacts.{CanBeRead, braced_elements}
@@ -24,7 +25,7 @@ use Rattle.bib_syntax.specs.Reading.{FieldReading}
 
 -- ---- a text in braces
 
-pub braced_read : (text : List ℕ) → CanStandInBraces text → CanBeRead (braced_value text)
+pub braced_read : (text : List ℕ) → IsParts text → CanBeRead (braced_value text)
 braced_read text can u v w stands ending white stops =
     let x = braced_elements text can u v w stands ending white stops in
     record { reading = x.reading; elements = x.elements; alike = ap (map (moved_piece (λ n. 0))) x.is }

@@ -6,6 +6,7 @@ use Rattle.std.proofs.lemmas.Bool.{cases_lt, not_from_false}
 use Rattle.std.proofs.lemmas.List.{map-append}
 use Rattle.std.proofs.lemmas.Str.{len_utf8_bounds}
 use Rattle.bib_text.specs.Places.{Place, CharAt, Stops}
+use Rattle.bib_text.proofs.BraceFacts.{ahead_parts}
 use Rattle.bib_text.proofs.PlaceFacts.{Ahead, ahead_then, ahead_char, ahead_run, same_place, test_clash}
 use Rattle.bib_syntax.specs.Reading.{Part, Piece, FieldReading, EntryReading, FileReading, then}
 use Rattle.bib_syntax.specs.Reading.Piece.{literal}
@@ -18,7 +19,7 @@ use Rattle.bib_syntax.specs.Grammar.{Gap as gap}
 use Rattle.bib_syntax.specs.Grammar.{Fields as fields}
 use Rattle.bib_syntax.specs.Grammar.{Body as body}
 use Rattle.bib_syntax.proofs.WordFacts.{ahead_number}
-use Rattle.bib_syntax.proofs.FieldFacts.{ahead_identifier, ahead_quoted_parts, ahead_parts, ahead_quoted, ahead_element, ahead_elements, ahead_field, ahead_gap, ahead_fields}
+use Rattle.bib_syntax.proofs.FieldFacts.{ahead_identifier, ahead_quoted_parts, ahead_quoted, ahead_element, ahead_elements, ahead_field, ahead_gap, ahead_fields}
 use Rattle.bib_syntax.proofs.FileFacts.{ahead_head, ahead_body, ahead_line_comment, says_entry}
 use Rattle.edit_entries.specs.Edits.{moved_part, moved_piece, moved_field, moved_entry, moved_file}
 use Rattle.edit_entries.proofs.ZoneFacts.{Frame, Zone, Inside, there, inside_between, char_there, char_back, stops_there, run_there, longest_there, parts_there, between_there, part_there}

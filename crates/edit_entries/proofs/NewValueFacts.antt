@@ -5,20 +5,20 @@ use Rattle.std.specs.Char.{is_whitespace, is_control}
 use Rattle.std.proofs.lemmas.Bool.{and_right}
 use Rattle.std.proofs.lemmas.Bool.Decides.{nat_tests}
 use Rattle.std.proofs.lemmas.Str.{len_utf8_bounds}
+use Rattle.bib_text.specs.Braces.{IsParts}
 use Rattle.bib_text.specs.Places.{Place, place, CharAt, Run, Stops, Longest}
 use Rattle.bib_text.specs.Places.Run.{stop, step}
 use Rattle.bib_text.proofs.PlaceFacts.{ahead_then, ahead_char, ahead_run, same_place, stops_at, char_within}
 use Rattle.bib_syntax.specs.Characters.{is_delimiter}
 use Rattle.bib_syntax.specs.Reading.{Piece, FieldReading, EntryReading}
 use Rattle.bib_syntax.specs.Reading.Piece.{literal}
-use Rattle.bib_text.proofs.BoundaryFacts.{Border}
 use Rattle.bib_syntax.specs.Grammar.{Braced, Elements, Field, Gap, longest}
 use Rattle.bib_syntax.specs.Grammar.{Element as element}
 use Rattle.bib_syntax.specs.Grammar.{Elements as elements}
 use Rattle.bib_syntax.specs.Grammar.{Gap as gap}
 use Rattle.bib_syntax.proofs.FieldFacts.{ahead_identifier, ahead_field, elements_stop}
 use Rattle.edit_entries.specs.Edits.{Edit, edited, moved_place, moved_field, moved_piece}
-use Rattle.edit_entries.specs.Documents.{CanStandInBraces, Document, IsDocument, field_edited, in_braces, text_at, value_changed, value_edit}
+use Rattle.edit_entries.specs.Documents.{Document, IsDocument, field_edited, in_braces, text_at, value_changed, value_edit}
 use Rattle.edit_entries.proofs.EditFacts.{Fits, before_frame, after_frame, moved_before, moved_after, zone_before, zone_after, new_bytes, text_stands}
 use Rattle.edit_entries.proofs.ZoneFacts.{Inside, there, inside, inside_between, char_there, run_there, longest_there, stops_there}
 use Rattle.edit_entries.proofs.GrammarFacts.{below_between, below_char, identifier_there}
@@ -315,16 +315,14 @@ value_exchanged d edit k e j f new read here there bytes can at =
 -- ---- a value in braces
 
 -- a text in braces parses to one literal, which begins after the brace
-pub braced_elements : (value : List ℕ) → CanStandInBraces value
+pub braced_elements : (value : List ℕ) → IsParts value
     → CanBeReadTo (ReadWith (λ u reading. reading ≡ literal (text_at (u.at + 1) value) ∷ [])) (in_braces value)
 braced_elements value can u v w stands ending white stops =
     let to : v ≡ place u.text (u.at + length (in_braces value)) =
     same_place {u = v} {v = place u.text (u.at + length (in_braces value))} stands.same stands.next in
-    let border : Border (place u.text (u.at + length (in_braces value))) =
-    subst (λ p. Border p) to (inr (ending.char, ending.next, ending.here)) in
     let braced : Braced u (text_at (u.at + 1) value) v =
     subst (λ p. Braced u (text_at (u.at + 1) value) p) (sym to)
-    (braced_stands u.text (drop v.at u.text) value u.at can stands.here border) in
+    (braced_stands u.text (drop v.at u.text) value u.at can stands.here) in
     record {
       reading = literal (text_at (u.at + 1) value) ∷ [];
       elements = elements.last (element.braced braced) white stops;
@@ -332,7 +330,7 @@ braced_elements value can u v w stands ending white stops =
     }
 
 pub value_changed_read : (d : Document) (k : ℕ) (e : EntryReading) (j : ℕ) (f : FieldReading) (value : List ℕ)
-    → IsDocument d → slice_get d.says.entries k ≡ Some e → slice_get e.fields j ≡ Some f → CanStandInBraces value
+    → IsDocument d → slice_get d.says.entries k ≡ Some e → slice_get e.fields j ≡ Some f → IsParts value
     → Run is_whitespace (place d.text (value_edit d.text f value).end) (place d.text f.value.end)
     → IsDocument (value_changed d k e j f value)
 value_changed_read d k e j f value read here there can white =

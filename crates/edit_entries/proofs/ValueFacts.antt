@@ -1,30 +1,30 @@
 -- The first and the last character of a value, and a text in braces in another text.
-use Rattle.std.proofs.Common.{◌≡◌, inl, inr, ℕ, ◌+◌, ◌-◌, ◌<◌, ◌≤◌, Bool, false, List, [], ◌∷◌, ◌++◌, length, drop, refl, sym, ap, ◌∙◌, subst, arith, Some, length-append}
+use Rattle.std.proofs.Common.{◌≡◌, inl, inr, ℕ, ◌+◌, ◌-◌, ◌<◌, ◌≤◌, Bool, false, List, [], ◌∷◌, ◌++◌, length, take, drop, refl, sym, ap, ◌∙◌, subst, arith, Some, append_assoc, length-append}
 use Rattle.std.specs.Prelude.{slice_get}
 use Rattle.std.specs.Char.{is_whitespace}
 use Rattle.std.proofs.lemmas.Bool.{cases_lt}
-use Rattle.std.proofs.lemmas.List.{take_at}
+use Rattle.std.proofs.lemmas.List.{take_all, take_at}
 use Rattle.std.proofs.lemmas.Str.{len_utf8_bounds}
+use Rattle.bib_text.specs.Braces.{IsParts, Parts}
 use Rattle.bib_text.specs.Places.{Place, place, CharAt, Run, between}
 use Rattle.bib_text.specs.Places.Run.{stop, step}
-use Rattle.bib_text.proofs.PlaceFacts.{Ahead, ahead_then, ahead_char, ahead_run, same_place, same_char, test_clash}
-use Rattle.bib_syntax.specs.Reading.{Part, part, Piece, FieldReading, EntryReading}
+use Rattle.bib_text.proofs.BraceFacts.{ahead_parts}
+use Rattle.bib_text.proofs.PlaceFacts.{Ahead, ahead_then, ahead_char, ahead_run, char_left, same_place, same_char, test_clash}
+use Rattle.bib_syntax.specs.Reading.{Part, Piece, FieldReading, EntryReading}
 use Rattle.bib_syntax.specs.Grammar.{Braced, Element, Elements, Gap, longest}
 use Rattle.bib_syntax.specs.Grammar.{Number as number}
 use Rattle.bib_syntax.specs.Grammar.{Element as element}
 use Rattle.bib_syntax.specs.Grammar.{Elements as elements}
 use Rattle.bib_syntax.specs.Grammar.{Gap as gap}
-use Rattle.bib_syntax.proofs.FieldFacts.{ahead_identifier, ahead_parts, ahead_quoted_parts, ahead_elements}
+use Rattle.bib_syntax.proofs.FieldFacts.{ahead_identifier, ahead_quoted_parts, ahead_elements}
 use Rattle.bib_syntax.proofs.LawFacts.{start_not_white}
 use Rattle.edit_entries.specs.Placed.{IsPlaced}
 use Rattle.std.specs.Str.{IsCharBoundary}
-use Rattle.edit_entries.specs.Edits.{moved_part}
-use Rattle.edit_entries.specs.Documents.{Document, IsDocument, CanStandInBraces, in_braces, text_at}
-use Rattle.bib_text.proofs.BoundaryFacts.{Border, char_boundary}
+use Rattle.edit_entries.specs.Documents.{Document, IsDocument, in_braces, text_at}
+use Rattle.bib_text.proofs.BoundaryFacts.{char_boundary}
 use Rattle.bib_text.proofs.DigitFacts.{digit_dark}
-use Rattle.edit_entries.proofs.EditFacts.{piece_frame, zone_piece}
-use Rattle.edit_entries.proofs.ZoneFacts.{Inside}
-use Rattle.edit_entries.proofs.GrammarFacts.{braced_there}
+use Rattle.edit_entries.proofs.EditFacts.{ascii_stands, piece_frame, rest_stands, text_stands, zone_piece}
+use Rattle.edit_entries.proofs.ZoneFacts.{Frame, Inside, Zone, parts_there}
 use Rattle.edit_entries.proofs.SplitFacts.{FieldsAfter, split_file, split_fields}
 use Rattle.edit_entries.proofs.EntryFacts.{ahead_to_field}
 
@@ -119,55 +119,73 @@ after_stands : {u v w : Place} {fs : List FieldReading} → FieldsAfter u fs v �
 after_stands (FieldsAfter.last gap) closes = gap_stands gap closes
 after_stands (FieldsAfter.more gap comma gap' rest) closes = gap_stands gap comma
 
--- ---- a value in braces, in the new text
-
-inner_text : (value : List ℕ) → between (place (in_braces value) 1) (place (in_braces value) (length value + 1)) ≡ value
-inner_text value = take_at value (125 ∷ []) (length value + 1 - 1) (omega arith)
+-- ---- a text in braces
 
 length-in_braces : (value : List ℕ) → length (in_braces value) ≡ length value + 2
 length-in_braces value = let size = length-append value (125 ∷ []) in omega arith
 
-braced_part : (value : List ℕ) {p : Part}
-    → Braced (place (in_braces value) 0) p (place (in_braces value) (length (in_braces value)))
-    → p ≡ part (place (in_braces value) 1) (place (in_braces value) (length value + 1))
-braced_part value b =
-    let following_text = ahead_then (ahead_char b.opens) (ahead_parts b.parts) in
-    let first : b.inside ≡ place (in_braces value) 1 =
-    same_place {u = b.inside} {v = place (in_braces value) 1} b.opens.same b.opens.next in
-    let last : b.following ≡ place (in_braces value) (length value + 1) =
-    same_place {u = b.following} {v = place (in_braces value) (length value + 1)} following_text.text
-    (omega (arith, b.closes.next, length-in_braces value)) in
-    b.reading ∙ ap (λ u. part u b.following) first ∙ ap (part (place (in_braces value) 1)) last
-
--- if a text in braces is moved to the byte offset `at`, the text between the braces is at `at + 1`
-moved_inner : (value : List ℕ) (start at : ℕ) → at ≡ start
-    → moved_part (λ n. n + start) (part (place (in_braces value) 1) (place (in_braces value) (length value + 1)))
-    ≡ text_at (at + 1) value
-moved_inner value start at is =
-    let build : List ℕ → ℕ → ℕ → Part = λ (t : List ℕ) (m n : ℕ). record { text = t; start = m; end = n } in
-    let first : 1 + start ≡ at + 1 = omega arith in
-    let last : length value + 1 + start ≡ at + 1 + length value = omega arith in
-    ap (λ t. build t (1 + start) (length value + 1 + start)) (inner_text value)
-    ∙ ap (λ n. build value n (length value + 1 + start)) first ∙ ap (build value (at + 1)) last
-
--- the bytes of a text in braces parse to this text before a character and at the end of a text
-pub braced_stands : (whole rest value : List ℕ) (at : ℕ) → CanStandInBraces value
-    → drop at whole ≡ in_braces value ++ rest → Border (place whole (at + length (in_braces value)))
+-- the bytes of a text with balanced braces, and of a brace before and after it, parse to this text in braces
+pub braced_stands : (whole rest value : List ℕ) (at : ℕ) → IsParts value → drop at whole ≡ in_braces value ++ rest
     → Braced (place whole at) (text_at (at + 1) value) (place whole (at + length (in_braces value)))
-braced_stands whole rest value at can here border =
-    let piece : List ℕ = in_braces value in
-    let z = zone_piece piece whole rest at here border in
-    let first : Inside (piece_frame piece whole at) (place piece 0) =
+braced_stands whole rest value at can here =
+    let end : ℕ = at + 1 + length value in
+    let opened : drop at whole ≡ 123 ∷ (value ++ (125 ∷ rest)) = here ∙ ap (λ t. 123 ∷ t) (append_assoc value (125 ∷ []) rest) in
+    let inner : drop (at + 1) whole ≡ value ++ (125 ∷ rest) = rest_stands whole (value ++ (125 ∷ rest)) at 123 opened in
+    let closed : drop end whole ≡ 125 ∷ rest = text_stands whole value (125 ∷ rest) (at + 1) inner in
+    let closes : CharAt (place whole end) 125 (place whole (end + 1)) = ascii_stands whole rest end 125 (omega arith) closed in
+    let z = zone_piece value whole (125 ∷ rest) (at + 1) inner (inr (125, place whole (end + 1), closes)) in
+    let first : Inside (piece_frame value whole (at + 1)) (place value 0) =
     record { text = refl; start = omega arith; end = omega arith; moved = omega arith } in
-    let last : Inside (piece_frame piece whole at) (place piece (length piece)) =
+    let last : Inside (piece_frame value whole (at + 1)) (place value (length value)) =
     record { text = refl; start = omega arith; end = omega arith; moved = omega arith } in
-    let said : moved_part (λ n. n + at) can.0 ≡ text_at (at + 1) value =
-    ap (moved_part (λ n. n + at)) (braced_part value can.1) ∙ moved_inner value at at refl in
-    let from : 0 + at ≡ at = omega arith in
-    let to : length piece + at ≡ at + length piece = omega arith in
-    subst (λ n. Braced (place whole n) (text_at (at + 1) value) (place whole (at + length piece))) from
-    (subst (λ n. Braced (place whole (0 + at)) (text_at (at + 1) value) (place whole n)) to
-    (subst (λ p. Braced (place whole (0 + at)) p (place whole (length piece + at))) said (braced_there z first last can.1)))
+    let from : 0 + (at + 1) ≡ at + 1 = omega arith in
+    let to : length value + (at + 1) ≡ end = omega arith in
+    let over : end + 1 ≡ at + length (in_braces value) = omega (arith, length-in_braces value) in
+    let size : end - (at + 1) ≡ length value = omega arith in
+    let content : between (place whole (at + 1)) (place whole end) ≡ value =
+    ap (λ n. take n (drop (at + 1) whole)) size ∙ ap (take (length value)) inner ∙ take_at value (125 ∷ rest) (length value) refl in
+    record {
+      inside = place whole (at + 1);
+      following = place whole end;
+      opens = ascii_stands whole (value ++ (125 ∷ rest)) at 123 (omega arith) opened;
+      parts = subst (λ n. Parts (place whole n) (place whole end)) from
+          (subst (λ n. Parts (place whole (0 + (at + 1))) (place whole n)) to (parts_there z first last can));
+      closes = subst (λ n. CharAt (place whole end) 125 (place whole n)) over closes;
+      reading = ap (λ t. let p : Part = record { text = t; start = at + 1; end = end } in p) (sym content);
+    }
+
+-- if the bytes of a text, and of a brace before and after it, parse to a text in braces, the text has balanced braces
+pub parts_in_braces : (value : List ℕ) {p : Part}
+    → Braced (place (in_braces value) 0) p (place (in_braces value) (length (in_braces value))) → IsParts value
+parts_in_braces value b =
+    let frame : Frame =
+    record { old = in_braces value; new = value; move = λ n. n - 1; from = 1; to = 0; end = length value + 1 } in
+    let size : length value + 1 - 1 ≡ length value = omega arith in
+    let z : Zone frame = record {
+      moves = λ n from below. omega arith;
+      same =
+          take_at value (125 ∷ []) (length value + 1 - 1) (sym size)
+          ∙ sym (ap (λ n. take n value) size ∙ take_all (length value) value (omega arith));
+      cut = λ {u} {v} {c} same char below. omega (arith, char_left char, char.next, ap length same);
+    } in
+    let ahead = ahead_parts b.parts in
+    let first : Inside frame b.inside =
+    record {
+      text = b.opens.same;
+      start = omega (arith, b.opens.next);
+      end = omega (arith, b.opens.next);
+      moved = omega (arith, b.opens.next);
+    } in
+    let last : Inside frame b.following = record {
+      text = ahead.text ∙ b.opens.same;
+      start = omega (arith, ahead.at, b.opens.next);
+      end = omega (arith, b.closes.next, length-in_braces value);
+      moved = omega (arith, b.closes.next, length-in_braces value);
+    } in
+    let from : b.inside.at - 1 ≡ 0 = omega (arith, b.opens.next) in
+    let to : b.following.at - 1 ≡ length value = omega (arith, b.closes.next, length-in_braces value) in
+    subst (λ n. Parts (place value n) (place value (length value))) from
+    (subst (λ n. Parts (place value (b.inside.at - 1)) (place value n)) to (parts_there z first last b.parts))
 
 -- ---- the stretch of a value
 

@@ -9,8 +9,8 @@ use Rattle.bib_text.specs.Places.{Place, place, CharAt, Run, Stops, Longest, AtE
 use Rattle.bib_text.specs.Places.Run.{stop, step}
 use Rattle.bib_text.specs.Braces.{Parts}
 use Rattle.bib_text.specs.Braces.Parts.{none, plain, hidden, nested}
+use Rattle.bib_text.proofs.BraceFacts.{ahead_parts}
 use Rattle.bib_text.proofs.PlaceFacts.{char_here, Ahead, ahead_then, ahead_char, ahead_run}
-use Rattle.bib_syntax.proofs.FieldFacts.{ahead_parts}
 use Rattle.bib_syntax.specs.Reading.{Part, part}
 use Rattle.edit_entries.specs.Edits.{moved_part}
 

@@ -8,7 +8,7 @@ use Rattle.std.specs.Str.{trim_end}
 use Rattle.bib_text.specs.Places.{Longest, Run, between, place}
 use Rattle.bib_syntax.specs.Characters.{is_key}
 use Rattle.bib_text.specs.Characters as char
-use Rattle.bib_syntax.specs.Grammar.{Braced, Identifier, IsRawReading, is_word, longest}
+use Rattle.bib_syntax.specs.Grammar.{Identifier, IsRawReading, is_word, longest}
 use Rattle.bib_syntax.specs.Reading.{Part, Piece, FieldReading, EntryReading, FileReading, then}
 use Rattle.bib_syntax.specs.Reading.Piece.{literal, abbreviation}
 use Rattle.edit_entries.specs.declared.errors.EditError.{EditError}
@@ -67,10 +67,6 @@ pub record HasField (e : EntryReading) (name : List ℕ) (j : ℕ) (f : FieldRea
 -- a text between two braces
 abbrev pub in_braces : List ℕ → List ℕ
 in_braces text = char.open_brace ∷ (text ++ char.close_brace ∷ [])
-
--- a text can be written in braces: with them it is one braced text
-abbrev pub CanStandInBraces : List ℕ → Type 0
-CanStandInBraces text = (p : Part) × Braced (place (in_braces text) 0) p (place (in_braces text) (length (in_braces text)))
 
 -- the bytes of a value, from its start to its end
 abbrev pub value_stretch : List ℕ → FieldReading → List ℕ

@@ -6,6 +6,7 @@ use Rattle.std.specs.Borrow.{Bor}
 use Rattle.std.specs.List.{AllByRecursion, find, flat_map, join_by, list_any, slice_split}
 use Rattle.std.specs.Option.{option_map_or, option_or}
 use Rattle.std.specs.Str.{trim, trim_end, trim_start}
+use Rattle.bib_text.specs.Braces.{IsParts}
 use Rattle.bib_text.specs.Characters as char
 use Rattle.bib_syntax.specs.Grammar.{is_word}
 use Rattle.bib_syntax.specs.Reading.{Part, Piece, FieldReading, EntryReading}
@@ -13,7 +14,7 @@ use Rattle.bib_syntax.specs.Reading.Piece.{literal, abbreviation}
 use Rattle.bib_tables.specs.ReferenceFields.{is_reference_field}
 use Rattle.bib_queries.specs.Names.{aliases_of}
 use Rattle.bib_queries.specs.Needed.{is_listed}
-use Rattle.edit_entries.specs.Documents.{CanBeKey, CanStandInBraces, Document, HasEntry, entry_renamed, first_position, is_keyed, value_changed, value_edit}
+use Rattle.edit_entries.specs.Documents.{CanBeKey, Document, HasEntry, entry_renamed, first_position, is_keyed, value_changed, value_edit}
 use Rattle.edit_entries.specs.Edits.{Edit}
 use Rattle.edit_entries.specs.NewNames.{CanBeNewKey, IsNewKeyTaken}
 use Rattle.edit_entries.specs.declared.errors.EditError.{EditError}
@@ -108,7 +109,7 @@ change_edit text (Change.value f new) = value_edit text f new
 -- the new key or value of a change can be written to a file
 abbrev pub CanBeMade : Change → Type 0
 CanBeMade (Change.key p new) = CanBeKey new
-CanBeMade (Change.value f new) = CanStandInBraces new
+CanBeMade (Change.value f new) = IsParts new
 
 -- the change of a field to a new value, if there is one
 abbrev pub value_change : FieldReading → Option (List ℕ) → List Change

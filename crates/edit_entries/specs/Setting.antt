@@ -3,6 +3,7 @@
 use Rattle.std.specs.Prelude.{◌≡◌, ℕ, ◌-◌, Bool, true, false, ◌&&◌, ◌||◌, not, if◌then◌else◌, bytes_eq, is_some, nat_lt, List, [], ◌∷◌, ◌++◌, map, take, drop, codes, None, ⊤, slice_set}
 use Rattle.std.specs.Char.{is_ascii_digit, is_ascii_whitespace, is_whitespace}
 use Rattle.std.specs.List.{list_all, list_any, suffix_len}
+use Rattle.bib_text.specs.Braces.{IsParts}
 use Rattle.bib_text.specs.Characters as char
 use Rattle.bib_text.specs.Places.{CharAt, Longest, Place, place}
 use Rattle.bib_syntax.specs.Grammar.{is_word}
@@ -11,7 +12,7 @@ use Rattle.bib_syntax.specs.Reading.Piece.{abbreviation, literal}
 use Rattle.bib_tables.specs.Months.{month_of_abbreviation}
 use Rattle.bib_queries.specs.Balance.{IsBalanced}
 use Rattle.edit_entries.specs.Changes.{EntryChange, FieldChange, NewField, NewValue, braced_value, edits_of_entry, entry_changed, field_reading, new_field_text}
-use Rattle.edit_entries.specs.Documents.{CanBeName, CanStandInBraces, Document, HasEntry, HasField, first_position, has_name, is_keyed, is_value, text_at}
+use Rattle.edit_entries.specs.Documents.{CanBeName, Document, HasEntry, HasField, first_position, has_name, is_keyed, is_value, text_at}
 use Rattle.edit_entries.specs.Edits.{edited, edited_all, placeless}
 use Rattle.edit_entries.specs.Layouts.{new_sign}
 use Rattle.edit_entries.specs.declared.errors.EditError.{EditError}
@@ -24,7 +25,7 @@ use Rattle.edit_entries.specs.declared.errors.EditError.TheVariants.{UnknownKey,
 -- a text can be a value in braces. For the file grammar, a backslash escapes the next character. For BibTeX, Biber and bibtool, it
 -- escapes nothing
 pub record CanBeValue (text : List ℕ) : Type 0 where
-  pub braced : CanStandInBraces text
+  pub braced : IsParts text
   pub balanced : IsBalanced text
 
 -- whether a text begins with an ASCII digit

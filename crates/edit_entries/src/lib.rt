@@ -13,7 +13,7 @@
 #![tactic(auto)]
 
 mod adding;
-pub mod braces;
+mod braces;
 mod definitions;
 pub mod document;
 pub mod editing;

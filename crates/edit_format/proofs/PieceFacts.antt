@@ -1,22 +1,23 @@
 -- A piece with the delimiters of a style parses to the same piece, except for its span.
-use Rattle.std.proofs.Common.{◌≡◌, ℕ, ◌+◌, ◌-◌, ◌≤◌, Bool, true, false, not, ◌&&◌, List, [], ◌∷◌, ◌++◌, length, codes, cond, refl, sym, ap, ◌∙◌, subst, arith}
+use Rattle.std.proofs.Common.{◌≡◌, ℕ, ◌+◌, ◌-◌, ◌≤◌, Bool, true, false, not, List, [], ◌∷◌, ◌++◌, length, codes, cond, refl, sym, ap, ◌∙◌, subst, arith}
 use Rattle.std.specs.List.{ends_with}
 use lib.Dec.{eqb}
 use Rattle.bib_text.specs.Places.{Place, between}
-use Rattle.bib_text.specs.Braces.{Parts}
+use Rattle.bib_text.specs.Braces.{Parts, has_balanced_braces}
+use Rattle.bib_text.proofs.BraceFacts.{ahead_parts}
 use Rattle.bib_text.proofs.PlaceFacts.{ahead_char, ahead_run, before_char}
 use Rattle.bib_syntax.specs.Reading.{Part, part, Piece}
 use Rattle.bib_syntax.specs.Reading.Piece.{literal, abbreviation}
 use Rattle.bib_syntax.specs.Grammar.{Braced, Identifier, NoDigit, Number, Quoted, QuotedParts, Element, longest}
 use Rattle.bib_syntax.specs.Grammar.{Element as element}
-use Rattle.bib_syntax.proofs.FieldFacts.{ahead_identifier, ahead_parts, ahead_quoted_parts}
+use Rattle.bib_syntax.proofs.FieldFacts.{ahead_identifier, ahead_quoted_parts}
 use Rattle.bib_syntax.proofs.WordFacts.{ahead_number}
 use Rattle.edit_entries.specs.Documents.{in_braces}
 use Rattle.edit_entries.specs.Edits.{moved_part, moved_piece}
 use Rattle.edit_entries.proofs.GrammarFacts.{below_char, quoted_parts_there}
 use Rattle.edit_entries.proofs.ZoneFacts.{char_back, inside_between, parts_there, there}
 use Rattle.bib_text.proofs.BoolFacts.{and_true_right}
-use Rattle.edit_format.specs.Delimited.{braced_in_style, can_stand_in_braces, can_stand_in_quotes, goes_in_braces, goes_in_quotes, has_quote, in_quotes, piece_as_written, quoted_in_style}
+use Rattle.edit_format.specs.Delimited.{braced_in_style, can_stand_in_quotes, goes_in_braces, goes_in_quotes, has_quote, in_quotes, piece_as_written, quoted_in_style}
 use Rattle.edit_format.specs.declared.style.Delimiters.{Delimiters}
 use Rattle.edit_format.specs.declared.style.Delimiters.TheVariants.{Keep, Braces, Quotes}
 use Rattle.edit_format.proofs.DelimiterFacts.{parts_of_quoted, quoted_of_parts}
@@ -76,7 +77,7 @@ can_be_quoted Keep content is = absurd (cc)
 can_be_quoted Braces content is = absurd (cc)
 can_be_quoted Quotes content is = and_true_right (not (has_quote content)) (can_stand_in_quotes content) is
 
-can_be_braced : (way : Delimiters) (content : List ℕ) → goes_in_braces way content ≡ true → can_stand_in_braces content ≡ true
+can_be_braced : (way : Delimiters) (content : List ℕ) → goes_in_braces way content ≡ true → has_balanced_braces content ≡ true
 can_be_braced Keep content is = absurd (cc)
 can_be_braced Braces content is = is
 can_be_braced Quotes content is = absurd (cc)

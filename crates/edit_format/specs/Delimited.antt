@@ -1,8 +1,9 @@
 -- Meaning: words of public contracts.
 -- Literals of values, with the delimiters of the style.
-use Rattle.std.specs.Prelude.{◌==◌, ◌&&◌, ℕ, suc, ◌-◌, Bool, true, false, not, List, [], ◌∷◌, ◌++◌, codes, cond, nat_lt}
+use Rattle.std.specs.Prelude.{◌==◌, ◌&&◌, ℕ, Bool, true, false, not, List, [], ◌∷◌, ◌++◌, codes, cond}
 use Rattle.std.specs.List.{ends_with, list_any}
 use lib.Dec.{eqb}
+use Rattle.bib_text.specs.Braces.{has_balanced_braces}
 use Rattle.bib_text.specs.Characters as char
 use Rattle.bib_text.specs.Places.{between, place}
 use Rattle.edit_entries.specs.Documents.{in_braces}
@@ -10,21 +11,6 @@ use Rattle.bib_syntax.specs.Reading.{Piece}
 use Rattle.bib_syntax.specs.Reading.Piece.{literal, abbreviation}
 use Rattle.edit_format.specs.declared.style.Delimiters.{Delimiters}
 use Rattle.edit_format.specs.declared.style.Delimiters.TheVariants.{Keep, Braces, Quotes}
-
--- whether bytes close this number of open braces and all braces that they open. An unescaped backslash escapes the next byte, and
--- may not be the last byte. `is_hidden` says whether the first byte is escaped
-abbrev pub close_braces : Bool → ℕ → List ℕ → Bool
-close_braces is_hidden depth [] = not is_hidden && depth == 0
-close_braces true depth (b ∷ bs) = close_braces false depth bs
-close_braces false depth (b ∷ bs) =
-    cond (b == char.backslash) (close_braces true depth bs)
-    (cond (b == char.open_brace) (close_braces false (suc depth) bs)
-    (cond (b == char.close_brace) (nat_lt 0 depth && close_braces false (depth - 1) bs) (close_braces false depth bs)))
-
--- whether a text can be written in braces: its unescaped braces are balanced, and no backslash at its end would escape the
--- delimiter
-abbrev pub can_stand_in_braces : List ℕ → Bool
-can_stand_in_braces content = close_braces false 0 content
 
 -- whether bytes have no unescaped quote. An unescaped backslash escapes the next byte, and may not be the last byte. `is_hidden`
 -- says whether the first byte is escaped
@@ -40,7 +26,7 @@ can_stand_in_quotes content = hide_quotes false content
 -- whether the style rewrites a quoted literal in braces
 abbrev pub goes_in_braces : Delimiters → List ℕ → Bool
 goes_in_braces Keep content = false
-goes_in_braces Braces content = can_stand_in_braces content
+goes_in_braces Braces content = has_balanced_braces content
 goes_in_braces Quotes content = false
 
 -- whether a text contains a quote

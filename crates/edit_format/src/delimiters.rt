@@ -6,31 +6,8 @@ ghost use Rattle.edit_entries.specs.Documents.{in_braces};
 ghost use Rattle.edit_format.specs.Delimited as styled;
 
 use crate::style::Delimiters;
+use bib_text::braces::has_balanced_braces;
 use std::alloc::AllocError;
-
-// Returns whether `content` can be written in braces: its unescaped braces are balanced, and no backslash at its end would
-// escape the delimiter.
-fn can_stand_in_braces(content: &str) -> bool
-    ensures { result ≡ styled.can_stand_in_braces content.now }
-{
-    let mut depth = 0usize;
-    let mut is_hidden = false;
-    'bytes: for byte in content.as_bytes() {
-        if is_hidden {
-            is_hidden = false;
-        } else if *byte == b'\\' {
-            is_hidden = true;
-        } else if *byte == b'{' {
-            depth += 1;
-        } else if *byte == b'}' {
-            if depth == 0 {
-                return false;
-            }
-            depth -= 1;
-        }
-    }
-    !is_hidden && depth == 0
-}
 
 // Returns whether `content` can be written in quotes: it has no unescaped quote, and no backslash at its end would escape the
 // delimiter.
@@ -63,7 +40,7 @@ fn goes_in_braces(delimiters: Delimiters, content: &str) -> bool
 {
     match delimiters {
         Delimiters::Keep => false,
-        Delimiters::Braces => can_stand_in_braces(content),
+        Delimiters::Braces => has_balanced_braces(content),
         Delimiters::Quotes => false,
     }
 }

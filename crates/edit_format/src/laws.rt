@@ -1,9 +1,9 @@
 //! Laws of formatted files. These functions have no code: their clauses are theorems about definitions.
 
 ghost use Rattle.std.specs.Prelude.{◌≡◌, ℕ, List, MatchBool, length};
-ghost use Rattle.bib_text.specs.Braces.{IsParts};
+ghost use Rattle.bib_text.specs.Braces.{IsParts, has_balanced_braces};
 ghost use Rattle.bib_text.specs.Places.{place};
-ghost use Rattle.edit_format.specs.Delimited.{can_stand_in_braces, can_stand_in_quotes};
+ghost use Rattle.edit_format.specs.Delimited.{can_stand_in_quotes};
 ghost use Rattle.edit_format.specs.Formatted.{text_in_style};
 ghost use Rattle.edit_format.specs.declared.style.Style.{Style};
 ghost use Rattle.bib_syntax.specs.Grammar.{IsRawReading, QuotedParts};
@@ -21,7 +21,7 @@ pub fn twice_is_once()
 /// content of a quoted literal.
 pub fn delimiters_fit()
     ensures braces { (text : List ℕ) → QuotedParts (place text 0) (place text (length text)) →
-        MatchBool (can_stand_in_braces text) (IsParts text) (IsParts text → ⊥) }
+        MatchBool (has_balanced_braces text) (IsParts text) (IsParts text → ⊥) }
     ensures quotes { (text : List ℕ) → IsParts text →
         MatchBool (can_stand_in_quotes text) (QuotedParts (place text 0) (place text (length text)))
         (QuotedParts (place text 0) (place text (length text)) → ⊥) }

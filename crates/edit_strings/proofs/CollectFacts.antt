@@ -7,6 +7,7 @@ use Rattle.std.specs.Str.{IsUtf8}
 use Rattle.std.proofs.lemmas.Bool.{false≢true}
 use Rattle.std.proofs.lemmas.List.{append_cancel_left, map-append, take_all, nil_from_length}
 use Rattle.std.proofs.lemmas.Str.{encode_ascii}
+use Rattle.bib_text.specs.Braces.{IsParts}
 use Rattle.bib_text.specs.Places.{Place, place, CharAt, between}
 use Rattle.bib_text.proofs.PlaceFacts.{char_left, same_place}
 use Rattle.bib_syntax.specs.Reading.{Part, Piece, FieldReading, FileReading, EntryReading, then}
@@ -15,7 +16,7 @@ use Rattle.bib_syntax.specs.Kept.{entry_alone}
 use Rattle.bib_syntax.specs.Grammar.{Element, Identifier, IsRawReading, NoDigit, longest}
 use Rattle.edit_entries.specs.Changes.{edits_of_entries, file_changed, text_changed, IsReadPlaceless, NewValue}
 use Rattle.edit_entries.specs.Cuts.{AreEntriesCut, IsPieceCut}
-use Rattle.edit_entries.specs.Documents.{CanBeName, CanStandInBraces, Document, IsDocument, has_name, text_at}
+use Rattle.edit_entries.specs.Documents.{CanBeName, Document, IsDocument, has_name, text_at}
 use Rattle.edit_entries.specs.EditList.{AreEditsInOrder}
 use Rattle.edit_entries.specs.Edits.{Edit, edited, moved_field, moved_file, placeless}
 use Rattle.edit_entries.specs.Placed.{IsPlaced}
@@ -253,7 +254,7 @@ module _ (d : Document) (read : IsDocument d) (utf8 : IsUtf8 d.text) (exchange :
 module _ (d : Document) (read : IsDocument d) (utf8 : IsUtf8 d.text) (exchange : Exchange)
     (changed : IsReadPlaceless (file_changed (exchanges exchange) d.says) (text_changed (exchanges exchange) d))
     (b : Bool) (names texts : List (List ℕ)) (can_names : AllByRecursion CanBeName names)
-    (can_texts : AllByRecursion CanStandInBraces texts) where
+    (can_texts : AllByRecursion IsParts texts) where
   abbrev now : List ℕ
   now = text_changed (exchanges exchange) d
 
@@ -411,7 +412,7 @@ module _ (d : Document) (read : IsDocument d) (utf8 : IsUtf8 d.text) (fields tex
       (λ f placed again value. by_text value (named_text fields f)) d.says.entries (all_placed d read) (all_placed d read)) in
       with_lines_read d read utf8 exchange changed _ names texts
       (all_weaker IsReadAsName CanBeName (λ n x. x.can) names (names_read d read named))
-      (all_weaker meets CanStandInBraces (λ t x. x.can) texts (those_meet meets chosen))
+      (all_weaker meets IsParts (λ t x. x.braced) texts (those_meet meets chosen))
       (λ none. nil_from_length names (as_many ∙ ap length none))
       (λ none. none_chosen meets chosen (no_names_texts fields d.says.entries none))
 
@@ -428,7 +429,7 @@ collected_alike known known' least texts found same chosen =
     known_there by by' {text} is meets = record {
       often = meets.often;
       shortened = ap (λ o. is_some o || is_longer_than_name text) (sym is) ∙ meets.shortened;
-      can = meets.can;
+      braced = meets.braced;
       balanced = meets.balanced;
     }
 

@@ -4,6 +4,7 @@ use Rattle.std.specs.Prelude.{◌==◌, is_some}
 use Rattle.std.specs.Char.{is_whitespace}
 use Rattle.std.specs.List.{AllByRecursion}
 use Rattle.std.proofs.lemmas.List.{take_at}
+use Rattle.bib_text.specs.Braces.{IsParts}
 use Rattle.bib_text.specs.Places.{place, CharAt, Run, Longest, between}
 use Rattle.bib_text.specs.Places.Run.{stop, step}
 use Rattle.bib_text.proofs.PlaceFacts.{ahead_char, ahead_run, stops_at, one_white}
@@ -14,7 +15,7 @@ use Rattle.bib_syntax.specs.Grammar.{Block, Element, Elements, Field, Fields, Fi
 use Rattle.bib_syntax.specs.Grammar.{Body as body}
 use Rattle.bib_syntax.specs.Grammar.{File as file}
 use Rattle.bib_syntax.proofs.LawFacts.{start_not_white}
-use Rattle.edit_entries.specs.Documents.{CanBeName, CanStandInBraces, Document, IsDocument, in_braces, text_at}
+use Rattle.edit_entries.specs.Documents.{CanBeName, Document, IsDocument, in_braces, text_at}
 use Rattle.edit_entries.specs.Edits.{moved_field}
 use Rattle.edit_entries.proofs.EditFacts.{ascii_stands, piece_frame, rest_stands, text_stands, zone_piece}
 use Rattle.edit_entries.proofs.JoinedFacts.{joined_by, joined_by_read}
@@ -96,7 +97,7 @@ return_read whole false at here size = file.end (omega (arith, size))
 return_read whole true at here size =
     file.skipped (ascii_stands whole [] at 13 (omega arith) here) refl (file.end (omega (arith, size)))
 
-line_read : (b : Bool) (name text : List ℕ) → CanBeName name → CanStandInBraces text → IsDocument (line_document b name text)
+line_read : (b : Bool) (name text : List ℕ) → CanBeName name → IsParts text → IsDocument (line_document b name text)
 line_read b name text can_name can_text =
     let whole : List ℕ = line_text b name text in
     let n1 : ℕ = 8 + length name in
@@ -121,7 +122,7 @@ line_read b name text can_name can_text =
     (ascii_stands whole from_value (n1 + 1 + 1) 32 (omega arith) s6) in
     let closes : CharAt (place whole n3) 125 (place whole (n3 + 1)) = ascii_stands whole (return_if b) n3 125 (omega arith) s8 in
     let name_read : Identifier longest (place whole 8) (text_at 8 name) (place whole n1) = name_stands whole from_sign name 8 can_name s3 in
-    let braced = braced_stands whole (125 ∷ return_if b) text n2 can_text s7 (inr (125, place whole (n3 + 1), closes)) in
+    let braced = braced_stands whole (125 ∷ return_if b) text n2 can_text s7 in
     let none : Longest is_whitespace (place whole n3) (place whole n3) =
     record { run = stop; stops = stops_at is_whitespace closes refl } in
     let field : Field longest (place whole 8) (line_field name text) (place whole n3) = record {
@@ -203,7 +204,7 @@ line_is false name text rest = ap (λ t. codes "@string{" ++ t)
 
 -- lines before the text of a document
 module _ (says : FileReading) (b : Bool) (d : Document) (read : IsDocument d) where
-  pub lines_read : (names texts : List (List ℕ)) → AllByRecursion CanBeName names → AllByRecursion CanStandInBraces texts
+  pub lines_read : (names texts : List (List ℕ)) → AllByRecursion CanBeName names → AllByRecursion IsParts texts
       → IsReadPlaceless (after_definitions (line_readings says names texts) d.says)
       (definition_lines says (line_end_by b) names texts ++ d.text)
   lines_read [] texts can_names can_texts = record { tells = d.says; read = read; alike = refl }

@@ -3,12 +3,13 @@ use Rattle.std.proofs.Common.{◌≡◌, ℕ, ◌<◌, ◌≤◌, Bool, true, fa
 use Rattle.std.specs.List.{ends_with}
 use lib.Dec.{eqb}
 use Rattle.bib_text.specs.Places.{Place, CharAt, between}
+use Rattle.bib_text.proofs.BraceFacts.{ahead_parts}
 use Rattle.bib_text.proofs.PlaceFacts.{Ahead, ahead_then, ahead_char, char_within}
 use Rattle.bib_syntax.specs.Reading.{part, Piece}
 use Rattle.bib_syntax.specs.Reading.Piece.{literal}
 use Rattle.bib_syntax.specs.Grammar.{Element, longest}
 use Rattle.bib_syntax.specs.Grammar.{Element as element}
-use Rattle.bib_syntax.proofs.FieldFacts.{ahead_parts, ahead_quoted_parts}
+use Rattle.bib_syntax.proofs.FieldFacts.{ahead_quoted_parts}
 use Rattle.edit_format.specs.Delimited.{piece_as_written}
 use Rattle.edit_format.specs.declared.style.Delimiters.TheVariants.{Keep}
 use Rattle.edit_entries.proofs.ElementFacts.{NotOpened, before, brace_before, one_byte, parted, quote_before}

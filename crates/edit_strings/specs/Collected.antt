@@ -7,13 +7,14 @@ use Rattle.std.specs.List.{find, flat_map, list_any, slice_split}
 use Rattle.std.specs.Option.{option_map, option_map_or}
 use Rattle.std.specs.Str.{trim}
 use Rattle.bib_tables.specs.Months.{month_of_abbreviation}
+use Rattle.bib_text.specs.Braces.{IsParts}
 use Rattle.bib_text.specs.Places.{place}
 use Rattle.bib_syntax.specs.Grammar.{NoDigit, is_word}
 use Rattle.bib_syntax.specs.Reading.{Piece, FieldReading, EntryReading, FileReading}
 use Rattle.bib_syntax.specs.Reading.Piece.{literal, abbreviation}
 use Rattle.bib_queries.specs.Balance.{IsBalanced}
 use Rattle.edit_entries.specs.Changes.{file_changed, text_changed, IsReadPlaceless, NewValue}
-use Rattle.edit_entries.specs.Documents.{CanBeName, CanStandInBraces, Document, has_name, last_position, text_at}
+use Rattle.edit_entries.specs.Documents.{CanBeName, Document, has_name, last_position, text_at}
 use Rattle.edit_entries.specs.Edits.{edited}
 use Rattle.edit_entries.specs.LineEnds.{line_end_of}
 use Rattle.edit_strings.specs.Exchanged.{Exchange, exchanges}
@@ -183,7 +184,7 @@ is_longer_than_name text = nat_lt (length (letters_or_s (name_letters text))) (l
 pub record CanBeCollected (known : List ℕ → Option (List ℕ)) (least : ℕ) (texts : List (List ℕ)) (text : List ℕ) : Type 0 where
   pub often : least ≤ times_of text texts
   pub shortened : (is_some (known text) || is_longer_than_name text) ≡ true
-  pub can : CanStandInBraces text
+  pub braced : IsParts text
   pub balanced : IsBalanced text
 
 -- these texts, each once, in the order of their first occurrences

@@ -9,7 +9,7 @@ ghost use Rattle.edit_strings.specs.Views.{lent_texts};
 use crate::naming::is_longer_than_name;
 use crate::texts::count_of;
 use bib_queries::balance::is_balanced;
-use edit_entries::braces::can_stand_in_braces;
+use bib_text::braces::has_balanced_braces;
 use std::alloc::{AllocError, Global};
 use std::collections::{BTreeMap, BTreeSet};
 
@@ -45,7 +45,7 @@ fn is_collected(
     if !is_balanced(text) {
         return Ok(false);
     }
-    can_stand_in_braces(alloc, text)
+    Ok(has_balanced_braces(text))
 }
 
 // Returns the texts to collect, each once, in the order of their first occurrence.

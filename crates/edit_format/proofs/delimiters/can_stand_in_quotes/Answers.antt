@@ -1,6 +1,7 @@
 use Rattle.std.proofs.Common.{◌≡◌, ℕ, List, ◌∷◌, slice_index_or}
 use Rattle.edit_format.specs.Delimited.{hide_quotes}
-use Rattle.edit_format.proofs.ByteStepFacts.{hidden_sign, next_is, plain_sign, slash_sign}
+use Rattle.bib_text.proofs.ListFacts.{next_is}
+use Rattle.edit_format.proofs.ByteStepFacts.{hidden_sign, plain_sign, slash_sign}
 use Rattle.edit_format.proofs.delimiters.can_stand_in_quotes.Goals.{then-is_hidden, else-is_hidden+then-byte-eq92, else-is_hidden+else-byte-eq92+else-byte-eq34}
 use Rattle.edit_format.proofs.delimiters.can_stand_in_quotes.Goals as goal
 

@@ -2,7 +2,7 @@ use Rattle.std.proofs.lemmas.Grind.{common_steps}
 use Rattle.std.proofs.Common.{arith, ap, subst}
 use Rattle.bib_syntax.specs.Closings.{ClosesAt, IsCloseOf}
 use Rattle.bib_text.specs.Places.{place}
-use Rattle.bib_syntax.proofs.FieldFacts.{ahead_parts}
+use Rattle.bib_text.proofs.BraceFacts.{ahead_parts}
 use Rattle.bib_syntax.proofs.raw.words.braced_parts.Goals as goal
 
 pub from-requires-clause-following : goal.from-requires-clause-following

@@ -1,8 +1,10 @@
-use Rattle.std.proofs.Common.{◌≡◌, ℕ, List, ◌∷◌, slice_index_or, arith}
-use Rattle.edit_format.specs.Delimited.{close_braces}
-use Rattle.edit_format.proofs.ByteStepFacts.{close_byte, hidden_byte, next_is, open_byte, plain_byte, slash_byte}
-use Rattle.edit_format.proofs.delimiters.can_stand_in_braces.Goals.{then-is_hidden, else-is_hidden+then-byte-eq92, else-is_hidden+else-byte-eq92+then-byte-eq123, else-is_hidden+else-byte-eq92+else-byte-eq123+then-byte-eq125+else-depth-eq0, else-is_hidden+else-byte-eq92+else-byte-eq123+else-byte-eq125}
-use Rattle.edit_format.proofs.delimiters.can_stand_in_braces.Goals as goal
+use Rattle.std.proofs.lemmas.Grind.{common_steps}
+use Rattle.std.proofs.Common.{◌≡◌, false, ℕ, List, ◌∷◌, slice_index_or, arith}
+use Rattle.bib_text.specs.Braces.{close_braces}
+use Rattle.bib_text.proofs.BraceTestFacts.{close_byte, hidden_byte, open_byte, parts_decided, plain_byte, slash_byte}
+use Rattle.bib_text.proofs.ListFacts.{next_is}
+use Rattle.bib_text.proofs.braces.has_balanced_braces.Goals.{then-is_hidden, else-is_hidden+then-byte-eq92, else-is_hidden+else-byte-eq92+then-byte-eq123, else-is_hidden+else-byte-eq92+else-byte-eq123+then-byte-eq125+else-depth-eq0, else-is_hidden+else-byte-eq92+else-byte-eq123+else-byte-eq125}
+use Rattle.bib_text.proofs.braces.has_balanced_braces.Goals as goal
 
 pub bytes-preserved : goal.bytes-preserved
 bytes-preserved c =
@@ -53,3 +55,21 @@ bytes-preserved c =
         within = omega (arith, within, w.depth-is);
       }
     ]
+
+pub returns-then-depth-eq0-clause-test : goal.returns-then-depth-eq0-clause-test
+returns-then-depth-eq0-clause-test c = grind (arith, common_steps)
+
+pub returns-then-depth-eq0-clause-parts : goal.returns-then-depth-eq0-clause-parts
+returns-then-depth-eq0-clause-parts c = parts_decided false c.args.text.now c.utf8.text (returns-then-depth-eq0-clause-test c)
+
+pub returns-then-not-is_hidden-clause-test : goal.returns-then-not-is_hidden-clause-test
+returns-then-not-is_hidden-clause-test c = grind (arith, common_steps)
+
+pub returns-then-not-is_hidden-clause-parts : goal.returns-then-not-is_hidden-clause-parts
+returns-then-not-is_hidden-clause-parts c = parts_decided _ c.args.text.now c.utf8.text (returns-then-not-is_hidden-clause-test c)
+
+pub returns-else-not-is_hidden-clause-test : goal.returns-else-not-is_hidden-clause-test
+returns-else-not-is_hidden-clause-test c = grind (arith, common_steps)
+
+pub returns-else-not-is_hidden-clause-parts : goal.returns-else-not-is_hidden-clause-parts
+returns-else-not-is_hidden-clause-parts c = parts_decided _ c.args.text.now c.utf8.text (returns-else-not-is_hidden-clause-test c)
