@@ -14,6 +14,7 @@ pub mod FilesFacts
 pub mod KeptFacts
 pub mod LawFacts
 pub mod LeftFacts
+pub mod LineReadFacts
 pub mod ModeFacts
 pub mod QuoteFacts
 pub mod ReadingFacts

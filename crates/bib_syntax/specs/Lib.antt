@@ -7,6 +7,8 @@ pub mod Failures
 pub mod Files
 pub mod Grammar
 pub mod Kept
+pub mod LineViews
+pub mod Lines
 pub mod Views
 pub mod OpenBraces
 pub mod Reading

@@ -1,0 +1,3 @@
+pub mod CutFacts
+pub mod JoinFacts
+pub mod UnitFacts

@@ -1,0 +1,9 @@
+-- Meaning: words of public contracts.
+-- The units that values of the code represent.
+use Rattle.bib_syntax.specs.Views.{file_of}
+use Rattle.edit_units.specs.Units.{UnitReading}
+use Rattle.edit_units.specs.declared.units.Unit.{Unit}
+
+-- the reading of a unit
+abbrev pub unit_of : Unit → UnitReading
+unit_of u = record { start = u.span.start; end = u.span.end; blocks = u.blocks.items; says = file_of u.raw }
