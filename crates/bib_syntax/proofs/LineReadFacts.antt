@@ -10,7 +10,7 @@ use Rattle.bib_text.proofs.PlaceFacts.{Ahead, ahead_here, ahead_then, ahead_char
 use Rattle.bib_syntax.specs.EntryReader.{FileRead}
 use Rattle.bib_syntax.specs.Grammar.{Block, File, LineComment, longest}
 use Rattle.bib_syntax.specs.Grammar.{File as file}
-use Rattle.bib_syntax.specs.Lines.{AreLines, InLine, IsLine, LineReading, is_in_line, lines_together}
+use Rattle.bib_syntax.specs.Lines.{AreLinesFrom, InLine, IsLine, LineReading, continues_line, lines_together}
 use Rattle.bib_syntax.specs.Lines.{InLine as in_line}
 use Rattle.bib_syntax.specs.LineViews.{IsPartRead, line_of}
 use Rattle.bib_syntax.specs.Reading.{FileReading, empty_reading, then}
@@ -20,12 +20,12 @@ use Rattle.bib_syntax.specs.declared.raw.lines.RawLine.{RawLine}
 use Rattle.bib_syntax.proofs.FileFacts.{ahead_block, ahead_line_comment, is_skipped, no_file_read, then-empty_reading, then-then}
 
 -- a character that continues a line is skipped in a file
-skipped_in_line : (c : ℕ) → is_in_line c ≡ true → is_skipped c ≡ true
+skipped_in_line : (c : ℕ) → continues_line c ≡ true → is_skipped c ≡ true
 skipped_in_line c passes = (and_parts (is_skipped c) (not (c == 10)) passes).0
 
 -- a character that is neither an at sign, nor a percent sign, nor a line feed continues a line
-pub is_in_line_from : (c : ℕ) → (c ≡ 64 → ⊥) → (c ≡ 37 → ⊥) → (c ≡ 10 → ⊥) → is_in_line c ≡ true
-is_in_line_from c no_at no_percent no_feed = rw (ne_eqb c 64 no_at, ne_eqb c 37 no_percent, ne_eqb c 10 no_feed)
+pub continues_line_from : (c : ℕ) → (c ≡ 64 → ⊥) → (c ≡ 37 → ⊥) → (c ≡ 10 → ⊥) → continues_line c ≡ true
+continues_line_from c no_at no_percent no_feed = rw (ne_eqb c 64 no_at, ne_eqb c 37 no_percent, ne_eqb c 10 no_feed)
 
 pub ahead_in_line : {u v : Place} {blocks : List (Range ℕ)} {says : FileReading} → InLine u blocks says v → Ahead u v
 ahead_in_line {u} in_line.none = ahead_here u
@@ -34,7 +34,7 @@ ahead_in_line (in_line.line_comment m rest) = ahead_then (ahead_line_comment m) 
 ahead_in_line (in_line.block b rest) = ahead_then (ahead_block b) (ahead_in_line rest)
 
 -- a run of characters that continue a line
-pub run_in_line : {u v : Place} → Run is_in_line u v → InLine u [] empty_reading v
+pub run_in_line : {u v : Place} → Run continues_line u v → InLine u [] empty_reading v
 run_in_line stop = in_line.none
 run_in_line (step char passes rest) = in_line.skipped char passes (run_in_line rest)
 
@@ -54,7 +54,8 @@ pub in_line_then : {u v w : Place} {blocks others : List (Range ℕ)} {says more
 in_line_then in_line.none second = second
 in_line_then (in_line.skipped char passes rest) second = in_line.skipped char passes (in_line_then rest second)
 in_line_then (in_line.line_comment m rest) second = in_line.line_comment m (in_line_then rest second)
-in_line_then {u} {v} {w} {others = others} {more = more} (in_line.block {v = x} {first = first} {rest = rest} {blocks = blocks} b inner) second =
+in_line_then {u} {v} {w} {others = others} {more = more}
+    (in_line.block {v = x} {first = first} {rest = rest} {blocks = blocks} b inner) second =
     subst (λ r. InLine u (record { start = u.at; end = x.at } ∷ (blocks ++ others)) r w) (sym (then-then first rest more))
     (in_line.block b (in_line_then inner second))
 
@@ -81,7 +82,7 @@ file_in_line {u} (in_line.block {first = first} {rest = rest} b inner) =
     }
 
 -- after one or more characters that continue a line less of the text is left
-pub in_line_smaller : {u x v : Place} {c : ℕ} → CharAt u c x → is_in_line c ≡ true → Longest is_in_line u v
+pub in_line_smaller : {u x v : Place} {c : ℕ} → CharAt u c x → continues_line c ≡ true → Longest continues_line u v
     → length v.text - v.at < length u.text - u.at
 in_line_smaller {u} char passes run = left_smaller (ahead_here u) char (ahead_run (longest_rest run char passes).run)
 
@@ -141,9 +142,9 @@ lines_push (LinesBefore.more first feed' rest) line feed = LinesBefore.more firs
 
 -- the last line
 pub lines_last : {u v end : Place} {ls : List LineReading} {l : LineReading} → LinesBefore u ls v → IsLine v l end → AtEnd end
-    → AreLines u (ls ++ l ∷ [])
-lines_last LinesBefore.none line at_end = AreLines.last line at_end
-lines_last (LinesBefore.more first feed rest) line at_end = AreLines.more first feed (lines_last rest line at_end)
+    → AreLinesFrom u (ls ++ l ∷ [])
+lines_last LinesBefore.none line at_end = AreLinesFrom.last line at_end
+lines_last (LinesBefore.more first feed rest) line at_end = AreLinesFrom.more first feed (lines_last rest line at_end)
 
 -- the content of a line feed and of what follows it
 after_feed : {u v : Place} {r : FileReading} → CharAt u 10 v → File longest v r → File longest u r
@@ -163,13 +164,14 @@ lines_read {u} (LinesBefore.more {l = l} {ls = ls} line feed rest) =
     }
 
 -- the content of the lines of a text is its raw reading
-pub lines_are_file : {u : Place} {ls : List LineReading} → AreLines u ls → File longest u (lines_together ls)
-lines_are_file (AreLines.last {l = l} line at_end) = (file_in_line line.inside).there empty_reading (file.end at_end)
-lines_are_file (AreLines.more {l = l} {ls = ls} line feed rest) =
+pub lines_are_file : {u : Place} {ls : List LineReading} → AreLinesFrom u ls → File longest u (lines_together ls)
+lines_are_file (AreLinesFrom.last {l = l} line at_end) = (file_in_line line.inside).there empty_reading (file.end at_end)
+lines_are_file (AreLinesFrom.more {l = l} {ls = ls} line feed rest) =
     (file_in_line line.inside).there (lines_together ls) (after_feed feed (lines_are_file rest))
 
 -- the lines of a vector after a line was pushed
-pub lines_pushed : {new : List RawLine} (old : List RawLine) (line : RawLine) → new ≡ old ++ line ∷ [] → map line_of new ≡ map line_of old ++ line_of line ∷ []
+pub lines_pushed : {new : List RawLine} (old : List RawLine) (line : RawLine) → new ≡ old ++ line ∷ [] → map line_of new
+    ≡ map line_of old ++ line_of line ∷ []
 lines_pushed old line is = ap (map line_of) is ∙ map-append line_of old (line ∷ [])
 
 -- a line without a line feed after it is the last one

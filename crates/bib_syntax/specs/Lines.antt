@@ -9,13 +9,13 @@ use Rattle.bib_syntax.specs.Grammar.{Block, LineComment, longest}
 use Rattle.bib_syntax.specs.Reading.{FileReading, empty_reading, then}
 
 -- whether a character outside of blocks and line comments continues a line: it is neither an at sign, nor a percent sign, nor a line feed
-abbrev pub is_in_line : ℕ → Bool
-is_in_line c = not (c == char.at) && not (c == char.percent) && not (c == char.line_feed)
+abbrev pub continues_line : ℕ → Bool
+continues_line c = not (c == char.at) && not (c == char.percent) && not (c == char.line_feed)
 
 -- a part of a line: blocks with these spans and this content, line comments, and other characters
 pub data InLine : Place → List (Range ℕ) → FileReading → Place → Type 0 where
   none : {u : Place} → InLine u [] empty_reading u
-  skipped : {u v w : Place} {c : ℕ} {blocks : List (Range ℕ)} {says : FileReading} → CharAt u c v → is_in_line c ≡ true
+  skipped : {u v w : Place} {c : ℕ} {blocks : List (Range ℕ)} {says : FileReading} → CharAt u c v → continues_line c ≡ true
       → InLine v blocks says w → InLine u blocks says w
   line_comment : {u v w : Place} {blocks : List (Range ℕ)} {says : FileReading} → LineComment u v → InLine v blocks says w
       → InLine u blocks says w
@@ -36,10 +36,10 @@ pub record IsLine (u : Place) (l : LineReading) (v : Place) : Type 0 where
   pub ends : l.end ≡ v.at
 
 -- the lines from a place up to the end of the text, separated by line feeds. There is an empty last one after a line feed at the end
-pub data AreLines : Place → List LineReading → Type 0 where
-  last : {u v : Place} {l : LineReading} → IsLine u l v → AtEnd v → AreLines u (l ∷ [])
-  more : {u end v : Place} {l : LineReading} {ls : List LineReading} → IsLine u l end → CharAt end char.line_feed v → AreLines v ls
-      → AreLines u (l ∷ ls)
+pub data AreLinesFrom : Place → List LineReading → Type 0 where
+  last : {u v : Place} {l : LineReading} → IsLine u l v → AtEnd v → AreLinesFrom u (l ∷ [])
+  more : {u end v : Place} {l : LineReading} {ls : List LineReading} → IsLine u l end → CharAt end char.line_feed v → AreLinesFrom v ls
+      → AreLinesFrom u (l ∷ ls)
 
 -- the content of lines, one after another
 abbrev pub lines_together : List LineReading → FileReading

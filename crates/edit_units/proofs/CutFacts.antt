@@ -12,7 +12,7 @@ use Rattle.bib_text.proofs.ListFacts.{passed_append, take_to_end}
 use Rattle.bib_text.proofs.PlaceFacts.{Ahead, ahead_char, ahead_run, char_left, char_within, stops_at_end, test_clash}
 use Rattle.bib_syntax.specs.Grammar.{File, LineComment, longest}
 use Rattle.bib_syntax.specs.Grammar.{File as file}
-use Rattle.bib_syntax.specs.Lines.{AreLines, InLine, IsLine, LineReading}
+use Rattle.bib_syntax.specs.Lines.{AreLinesFrom, InLine, IsLine, LineReading}
 use Rattle.bib_syntax.specs.Lines.{InLine as in_line}
 use Rattle.bib_syntax.specs.Reading.{FileReading, empty_reading, then}
 use Rattle.bib_syntax.proofs.FileFacts.{ahead_block, ahead_line_comment, is_skipped}
@@ -25,8 +25,8 @@ use Rattle.edit_entries.proofs.PlacelessFacts.{file_placeless}
 use Rattle.edit_entries.proofs.ZoneFacts.{Frame, Inside, Zone, char_there, inside_between, run_there, there}
 use Rattle.edit_units.proofs.JoinFacts.{feed_between}
 use Rattle.edit_units.proofs.UnitFacts.{line_apart}
-use Rattle.edit_units.specs.Parts.{AreItsParts, AreParts, IsEnd, IsLineEnd, IsNextPart, IsWhite, last_end, parts_from, parts_text}
-use Rattle.edit_units.specs.Units.{AreUnits, UnitReading, begin_filled, has_no_block, is_above, is_blank, line_bytes, units_of, with_line}
+use Rattle.edit_units.specs.Parts.{AreItsParts, AreParts, IsFileEnd, IsLineEnd, IsNextPart, IsWhite, end_of_units, parts_from, text_of_parts}
+use Rattle.edit_units.specs.Units.{AreUnits, UnitReading, begin_filled, has_no_block, is_above, is_blank_line, line_bytes, line_units, with_line}
 
 -- ---- a line by itself
 
@@ -87,7 +87,8 @@ part_alone text start end {u} order fits iu iv last in_line.none = file.end (at_
 part_alone text start end order fits iu iv last (in_line.skipped {c = c} char passes rest) =
     let z = zone_alone text start end order fits in
     let a = inside_between z iu iv (ahead_char char) (ahead_in_line rest) in
-    file.skipped (char_there z iu a char) (and_parts (is_skipped c) (not (c == 10)) passes).0 (part_alone text start end order fits a iv last rest)
+    file.skipped (char_there z iu a char) (and_parts (is_skipped c) (not (c == 10)) passes).0
+    (part_alone text start end order fits a iv last rest)
 part_alone text start end order fits iu iv last (in_line.line_comment m rest) =
     let z = zone_alone text start end order fits in
     let a = inside_between z iu iv (ahead_line_comment m) (ahead_in_line rest) in
@@ -106,7 +107,8 @@ line_alone text {u} {v} l same line fits =
     let order : l.start ≤ l.end = omega (arith, line.starts, line.ends, ahead.at) in
     let within : l.end ≤ length text = omega (arith, line.ends, fits) in
     let iu = inside_alone text l.start l.end {u = u} same (omega (arith, line.starts)) (omega (arith, line.ends, ahead.at)) in
-    let iv = inside_alone text l.start l.end {u = v} (ahead.text ∙ same) (omega (arith, line.starts, ahead.at)) (omega (arith, line.ends)) in
+    let iv = inside_alone text l.start l.end {u = v} (ahead.text
+    ∙ same) (omega (arith, line.starts, ahead.at)) (omega (arith, line.ends)) in
     let first : u.at - l.start ≡ 0 = omega (arith, line.starts) in
     record {
       tells = moved_file (λ n. n - l.start) l.says;
@@ -118,8 +120,10 @@ line_alone text {u} {v} l same line fits =
 -- ---- texts between two offsets
 
 -- the text up to a line feed, the line feed, and the text after it
-feed_split : (text : List ℕ) (from to : ℕ) {end v : Place} → end.text ≡ text → CharAt end 10 v → from ≤ end.at → v.at ≤ to → to ≤ length text
-    → between (place text from) (place text to) ≡ between (place text from) (place text end.at) ++ 10 ∷ between (place text v.at) (place text to)
+feed_split : (text : List ℕ) (from to : ℕ) {end v : Place} → end.text ≡ text → CharAt end 10 v → from ≤ end.at → v.at ≤ to
+    → to ≤ length text
+    → between (place text from) (place text to) ≡ between (place text from) (place text end.at)
+    ++ 10 ∷ between (place text v.at) (place text to)
 feed_split text from to {end} {v} same feed before following fits =
     let one : end.at + 1 ≡ v.at = omega (arith, feed.next, len_utf8_ascii 10 (omega arith)) in
     let first : Ahead (place text from) end = record { text = same; at = before } in
@@ -134,7 +138,8 @@ feed_split text from to {end} {v} same feed before following fits =
 -- the text after a line feed
 feed_rest : (text : List ℕ) {end v : Place} → end.text ≡ text → CharAt end 10 v → drop end.at text ≡ 10 ∷ drop v.at text
 feed_rest text {end} {v} same feed =
-    subst (λ t. drop end.at t ≡ 10 ∷ drop v.at t) same (feed.here ∙ ap (λ bytes. bytes ++ drop v.at end.text) (encode_ascii 10 (omega arith)))
+    subst (λ t. drop end.at t ≡ 10 ∷ drop v.at t) same (feed.here ∙ ap (λ bytes. bytes
+    ++ drop v.at end.text) (encode_ascii 10 (omega arith)))
 
 none_between : (text : List ℕ) (at : ℕ) → between (place text at) (place text at) ≡ []
 none_between text at = ap (λ n. take n (drop at text)) (let none : at - at ≡ 0 = omega arith in none)
@@ -151,18 +156,18 @@ cut_at text from to order =
 -- units after an offset: white space that begins with a line feed is before each, and the text ends after them or a line feed follows
 record AreNext (text : List ℕ) (at : ℕ) (units : List UnitReading) : Type 0 where
   parts : AllByRecursion IsNextPart (parts_from text at units)
-  ends : IsEnd (drop (last_end at units) text)
-  whole : drop at text ≡ parts_text (parts_from text at units) (drop (last_end at units) text)
+  ends : IsFileEnd (drop (end_of_units at units) text)
+  whole : drop at text ≡ text_of_parts (parts_from text at units) (drop (end_of_units at units) text)
 
 -- the text from an offset on: a unit, and the parts after it
 whole_from : (text : List ℕ) (at : ℕ) (u : UnitReading) (us : List UnitReading) → at ≤ u.start → u.start ≤ u.end
-    → drop u.end text ≡ parts_text (parts_from text u.end us) (drop (last_end u.end us) text)
-    → drop at text ≡ parts_text (parts_from text at (u ∷ us)) (drop (last_end at (u ∷ us)) text)
+    → drop u.end text ≡ text_of_parts (parts_from text u.end us) (drop (end_of_units u.end us) text)
+    → drop at text ≡ text_of_parts (parts_from text at (u ∷ us)) (drop (end_of_units at (u ∷ us)) text)
 whole_from text at u us after order rest =
     let space : List ℕ = between (place text at) (place text u.start) in
     let own : List ℕ = between (place text u.start) (place text u.end) in
     let others : List ℕ = flat_map (λ p. p.space ++ p.text) (parts_from text u.end us) in
-    let end : List ℕ = drop (last_end u.end us) text in
+    let end : List ℕ = drop (end_of_units u.end us) text in
     cut_at text at u.start after ∙ ap (λ t. space ++ t) (cut_at text u.start u.end order ∙ ap (λ t. own ++ t) rest)
     ∙ sym (append_assoc (space ++ own) others end ∙ append_assoc space own (others ++ end))
 
@@ -240,7 +245,8 @@ no_elements (x ∷ xs) is = absurd (omega (arith, eqb-true (length (x ∷ xs)) 0
 
 -- nothing is between the start of a line and itself
 white_start : (text : List ℕ) (at start : ℕ) → start ≡ at → IsWhite (between (place text at) (place text start))
-white_start text at start same = subst (λ n. IsWhite (between (place text at) (place text n))) (sym same) (subst IsWhite (sym (none_between text at)) refl)
+white_start text at start same = subst (λ n. IsWhite (between (place text at) (place text n))) (sym same) (subst IsWhite (sym
+    (none_between text at)) refl)
 
 -- the unit of one line
 abbrev unit_of_line : LineReading → UnitReading
@@ -262,7 +268,8 @@ joined_cut text {u} {end} {v} l first us same line feed empty starts (AreCut.som
     feed_split text l.start first.end ends feed up to fits
     ∙ ap (λ n. between (place text l.start) (place text n) ++ 10 ∷ between (place text v.at) (place text first.end)) (sym line.ends)
     ∙ ap (λ n. line_bytes text l ++ 10 ∷ between (place text n) (place text first.end)) (sym starts) in
-    let both : IsReadPlaceless (then l.says first.says) (line_bytes text l ++ 10 ∷ between (place text first.start) (place text first.end)) =
+    let both : IsReadPlaceless (then l.says first.says) (line_bytes text l
+    ++ 10 ∷ between (place text first.start) (place text first.end)) =
     feed_between (line_bytes text l) (between (place text first.start) (place text first.end)) l.says first.says
     (line_alone text l same line line_fits) read in
     AreCut.some (omega (arith, line.starts)) (omega (arith, line.starts, ahead.at, feed.next, to)) fits
@@ -276,7 +283,8 @@ apart_cut : (text : List ℕ) {u end : Place} (l : LineReading) (us : List UnitR
     → end.at ≤ length text → AreNext text l.end us → AreCut text u.at (unit_of_line l ∷ us)
 apart_cut text {u} {end} l us same line fits others =
     let ahead = ahead_in_line line.inside in
-    AreCut.some {u = unit_of_line l} (omega (arith, line.starts)) (omega (arith, line.starts, line.ends, ahead.at)) (omega (arith, line.ends, fits))
+    AreCut.some {u = unit_of_line l} (omega (arith, line.starts)) (omega (arith, line.starts, line.ends, ahead.at)) (omega
+    (arith, line.ends, fits))
     (white_start text u.at l.start line.starts) (line_alone text l same line fits) others
 
 -- the bytes of the last line are the rest of the text
@@ -286,7 +294,8 @@ rest_of_line text {u} {v} l same line at_end =
     ap (λ n. take (n - l.start) (drop l.start text)) last ∙ take_to_end text l.start ∙ ap (λ n. drop n text) line.starts
 
 -- the last line, blank or not
-last_cut : (text : List ℕ) {u v : Place} (l : LineReading) (blank : Bool) → u.text ≡ text → IsLine u l v → AtEnd v → is_blank text l ≡ blank
+last_cut : (text : List ℕ) {u v : Place} (l : LineReading) (blank : Bool) → u.text ≡ text → IsLine u l v → AtEnd v
+    → is_blank_line text l ≡ blank
     → AreLinesCut text u.at (not blank) (cond blank [] (unit_of_line l ∷ []))
 last_cut text l true same line at_end is = record {
   cut = AreCut.none
@@ -304,56 +313,59 @@ last_cut text {u} {v} l false same line at_end is =
 
 -- a line before others, blank or not
 more_cut : (text : List ℕ) {u end v : Place} (l : LineReading) (ls : List LineReading) (blank joins : Bool) → u.text ≡ text → IsLine u l end
-    → CharAt end 10 v → is_blank text l ≡ blank → is_above text l ls ≡ joins
-    → AreLinesCut text v.at (begin_filled text ls) (units_of text ls)
-    → AreLinesCut text u.at (not blank) (cond blank (units_of text ls) (with_line joins l (units_of text ls)))
+    → CharAt end 10 v → is_blank_line text l ≡ blank → is_above text l ls ≡ joins
+    → AreLinesCut text v.at (begin_filled text ls) (line_units text ls)
+    → AreLinesCut text u.at (not blank) (cond blank (line_units text ls) (with_line joins l (line_units text ls)))
 more_cut text {u} {end} {v} l ls true joins same line feed is above others =
     let ahead = ahead_in_line line.inside in
     record {
       cut = blank_before text u.at (ahead.text ∙ same) feed ahead.at
           (omega (arith, char_within feed, ap length feed.same, ap length ahead.text, ap length same))
-          (subst IsWhite (ap (λ n. between (place text n) (place text l.end)) line.starts ∙ ap (λ n. between (place text u.at) (place text n)) line.ends)
+          (subst IsWhite (ap (λ n. between (place text n) (place text l.end)) line.starts
+          ∙ ap (λ n. between (place text u.at) (place text n)) line.ends)
           (and_parts (has_no_block l) (list_all is_ascii_whitespace (line_bytes text l)) is).1)
           others.cut;
       first = λ is. absurd (test_clash false is refl);
     }
 more_cut text {u} {end} {v} l ls false false same line feed is above others =
     let ahead = ahead_in_line line.inside in
-    let next : AreNext text l.end (units_of text ls) =
-    subst (λ n. AreNext text n (units_of text ls)) (sym line.ends) (next_from text (ahead.text ∙ same) feed others.cut) in
-    let whole = line_apart l (units_of text ls) in
+    let next : AreNext text l.end (line_units text ls) =
+    subst (λ n. AreNext text n (line_units text ls)) (sym line.ends) (next_from text (ahead.text ∙ same) feed others.cut) in
+    let whole = line_apart l (line_units text ls) in
     record {
       cut = subst (AreCut text u.at) (sym whole)
-          (apart_cut text l (units_of text ls) same line (omega (arith, char_left feed, ap length ahead.text, ap length same)) next);
-      first = λ is. record { unit = unit_of_line l; others = units_of text ls; is = whole; starts = line.starts };
+          (apart_cut text l (line_units text ls) same line (omega (arith, char_left feed, ap length ahead.text, ap length same)) next);
+      first = λ is. record { unit = unit_of_line l; others = line_units text ls; is = whole; starts = line.starts };
     }
 more_cut text {u} {end} {v} l ls false true same line feed is above others =
     let joins = and_parts (begin_filled text ls) (has_no_block l) above in
     let first = others.first joins.0 in
-    let whole : with_line true l (units_of text ls) ≡ (record first.unit { start = l.start }) ∷ first.others = ap (with_line true l) first.is in
+    let whole : with_line true l (line_units text ls)
+    ≡ (record first.unit { start = l.start }) ∷ first.others = ap (with_line true l) first.is in
     record {
       cut = subst (AreCut text u.at) (sym whole)
           (joined_cut text l first.unit first.others same line feed joins.1 first.starts (subst (AreCut text v.at) first.is others.cut));
       first = λ is. record { unit = record first.unit { start = l.start }; others = first.others; is = whole; starts = line.starts };
     }
 
-lines_cut : (text : List ℕ) {u : Place} {ls : List LineReading} → u.text ≡ text → AreLines u ls
-    → AreLinesCut text u.at (begin_filled text ls) (units_of text ls)
-lines_cut text same (AreLines.last {l = l} line at_end) = last_cut text l (is_blank text l) same line at_end refl
-lines_cut text same (AreLines.more {l = l} {ls = ls} line feed rest) =
-    more_cut text l ls (is_blank text l) (is_above text l ls) same line feed refl refl
+lines_cut : (text : List ℕ) {u : Place} {ls : List LineReading} → u.text ≡ text → AreLinesFrom u ls
+    → AreLinesCut text u.at (begin_filled text ls) (line_units text ls)
+lines_cut text same (AreLinesFrom.last {l = l} line at_end) = last_cut text l (is_blank_line text l) same line at_end refl
+lines_cut text same (AreLinesFrom.more {l = l} {ls = ls} line feed rest) =
+    more_cut text l ls (is_blank_line text l) (is_above text l ls) same line feed refl refl
     (lines_cut text (feed.same ∙ (ahead_in_line line.inside).text ∙ same) rest)
 
 -- ---- the parts of a text
 
 -- units from an offset on, as parts
-cut_parts : (text : List ℕ) (at : ℕ) (us : List UnitReading) → AreCut text at us → AreParts (parts_from text at us) (drop (last_end at us) text)
+cut_parts : (text : List ℕ) (at : ℕ) (us : List UnitReading) → AreCut text at us
+    → AreParts (parts_from text at us) (drop (end_of_units at us) text)
 cut_parts text at [] (AreCut.none white) = AreParts.none white
 cut_parts text at (u ∷ us) (AreCut.some after order fits white read others) = AreParts.some white read others.parts others.ends
 
 -- the rest of a text is its parts from there on
 cut_whole : (text : List ℕ) (at : ℕ) (us : List UnitReading) → AreCut text at us
-    → drop at text ≡ parts_text (parts_from text at us) (drop (last_end at us) text)
+    → drop at text ≡ text_of_parts (parts_from text at us) (drop (end_of_units at us) text)
 cut_whole text at [] cut = refl
 cut_whole text at (u ∷ us) (AreCut.some after order fits white read others) = whole_from text at u us after order others.whole
 

@@ -19,7 +19,7 @@ use Rattle.edit_entries.proofs.MovedFacts.{file_there}
 use Rattle.edit_entries.proofs.PlacelessFacts.{file_placeless}
 use Rattle.edit_entries.proofs.WhiteBeforeFacts.{white_ascii}
 use Rattle.edit_entries.proofs.ZoneFacts.{Frame, Inside, Zone}
-use Rattle.edit_units.specs.Parts.{AreParts, FilePart, IsEnd, IsLineEnd, IsNextPart, IsWhite, parts_text, parts_together}
+use Rattle.edit_units.specs.Parts.{AreParts, FilePart, IsFileEnd, IsLineEnd, IsNextPart, IsWhite, text_of_parts, parts_together}
 
 -- ---- white space before a text
 
@@ -116,21 +116,22 @@ part_then : (says : FileReading) (space text : List ℕ) → IsLineEnd space →
 part_then says space text (IsLineEnd.feed {rest = rest} white) read = AreRead.more (white_before rest text says white read)
 
 -- the white space, the text and what follows, in another grouping
-grouped : (p : FilePart) (ps : List FilePart) (end : List ℕ) → parts_text (p ∷ ps) end ≡ p.space ++ (p.text ++ parts_text ps end)
+grouped : (p : FilePart) (ps : List FilePart) (end : List ℕ) → text_of_parts (p ∷ ps) end ≡ p.space ++ (p.text ++ text_of_parts ps end)
 grouped p ps end =
-    append_assoc (p.space ++ p.text) (flat_map (λ q. q.space ++ q.text) ps) end ∙ append_assoc p.space p.text (parts_text ps end)
+    append_assoc (p.space ++ p.text) (flat_map (λ q. q.space ++ q.text) ps) end ∙ append_assoc p.space p.text (text_of_parts ps end)
 
-next_parts : (ps : List FilePart) (end : List ℕ) → AllByRecursion IsNextPart ps → IsEnd end → AreRead (parts_together ps) (parts_text ps end)
+next_parts : (ps : List FilePart) (end : List ℕ) → AllByRecursion IsNextPart ps → IsFileEnd end
+    → AreRead (parts_together ps) (text_of_parts ps end)
 next_parts [] end all (inl none) = subst (AreRead empty_reading) (sym none) (AreRead.nothing refl)
 next_parts [] end all (inr (IsLineEnd.feed {rest = rest} white)) = AreRead.more (white_read rest white)
 next_parts (p ∷ ps) end all is_end =
     subst (AreRead (then p.says (parts_together ps))) (sym (grouped p ps end))
-    (part_then (then p.says (parts_together ps)) p.space (p.text ++ parts_text ps end) all.0.space
-    (text_then p.says (parts_together ps) p.text (parts_text ps end) all.0.read (next_parts ps end all.1 is_end)))
+    (part_then (then p.says (parts_together ps)) p.space (p.text ++ text_of_parts ps end) all.0.space
+    (text_then p.says (parts_together ps) p.text (text_of_parts ps end) all.0.read (next_parts ps end all.1 is_end)))
 
-pub parts_are_read : (ps : List FilePart) (end : List ℕ) → AreParts ps end → IsReadPlaceless (parts_together ps) (parts_text ps end)
+pub parts_are_read : (ps : List FilePart) (end : List ℕ) → AreParts ps end → IsReadPlaceless (parts_together ps) (text_of_parts ps end)
 parts_are_read [] end (AreParts.none white) = white_read end white
 parts_are_read (p ∷ ps) end (AreParts.some white read all is_end) =
     subst (IsReadPlaceless (then p.says (parts_together ps))) (sym (grouped p ps end))
-    (white_before p.space (p.text ++ parts_text ps end) (then p.says (parts_together ps)) white
-    (text_then p.says (parts_together ps) p.text (parts_text ps end) read (next_parts ps end all is_end)))
+    (white_before p.space (p.text ++ text_of_parts ps end) (then p.says (parts_together ps)) white
+    (text_then p.says (parts_together ps) p.text (text_of_parts ps end) read (next_parts ps end all is_end)))

@@ -25,8 +25,8 @@ pub data IsLineEnd : List ℕ → Type 0 where
   feed : {rest : List ℕ} → IsWhite rest → IsLineEnd (char.line_feed ∷ rest)
 
 -- a text is empty, or ASCII white space that begins with a line feed
-abbrev pub IsEnd : List ℕ → Type 0
-IsEnd text = (text ≡ []) ⊎ IsLineEnd text
+abbrev pub IsFileEnd : List ℕ → Type 0
+IsFileEnd text = (text ≡ []) ⊎ IsLineEnd text
 
 -- a part's text has its content, except for byte offsets, and the white space before it begins with a line feed
 pub record IsNextPart (p : FilePart) : Type 0 where
@@ -38,11 +38,11 @@ pub record IsNextPart (p : FilePart) : Type 0 where
 pub data AreParts : List FilePart → List ℕ → Type 0 where
   none : {end : List ℕ} → IsWhite end → AreParts [] end
   some : {p : FilePart} {ps : List FilePart} {end : List ℕ} → IsWhite p.space → IsReadPlaceless p.says p.text
-      → AllByRecursion IsNextPart ps → IsEnd end → AreParts (p ∷ ps) end
+      → AllByRecursion IsNextPart ps → IsFileEnd end → AreParts (p ∷ ps) end
 
 -- the text of parts, with another text after it
-abbrev pub parts_text : List FilePart → List ℕ → List ℕ
-parts_text ps end = flat_map (λ p. p.space ++ p.text) ps ++ end
+abbrev pub text_of_parts : List FilePart → List ℕ → List ℕ
+text_of_parts ps end = flat_map (λ p. p.space ++ p.text) ps ++ end
 
 -- the content of parts, one after another
 abbrev pub parts_together : List FilePart → FileReading
@@ -57,11 +57,11 @@ parts_from text at (u ∷ us) =
     ∷ parts_from text u.end us
 
 -- the byte offset at which the last of these units ends, or this one if there is none
-abbrev pub last_end : ℕ → List UnitReading → ℕ
-last_end at [] = at
-last_end at (u ∷ us) = last_end u.end us
+abbrev pub end_of_units : ℕ → List UnitReading → ℕ
+end_of_units at [] = at
+end_of_units at (u ∷ us) = end_of_units u.end us
 
 -- the units of a text are its parts: their texts have their contents, and nothing but white space is around them
 pub record AreItsParts (text : List ℕ) (units : List UnitReading) : Type 0 where
-  pub are : AreParts (parts_from text 0 units) (drop (last_end 0 units) text)
-  pub whole : text ≡ parts_text (parts_from text 0 units) (drop (last_end 0 units) text)
+  pub are : AreParts (parts_from text 0 units) (drop (end_of_units 0 units) text)
+  pub whole : text ≡ text_of_parts (parts_from text 0 units) (drop (end_of_units 0 units) text)

@@ -5,7 +5,7 @@ use Rattle.std.specs.declared.ops.Range.{Range}
 use Rattle.std.specs.Char.{is_ascii_whitespace}
 use Rattle.std.specs.List.{list_all}
 use Rattle.bib_text.specs.Places.{between, place}
-use Rattle.bib_syntax.specs.Lines.{AreLines, LineReading}
+use Rattle.bib_syntax.specs.Lines.{AreLinesFrom, LineReading}
 use Rattle.bib_syntax.specs.Reading.{FileReading}
 
 -- the bytes of a line, without its line feed
@@ -22,8 +22,8 @@ abbrev pub has_no_block : LineReading → Bool
 has_no_block l = length l.blocks == 0
 
 -- whether a line has no block, and no character except ASCII white space
-abbrev pub is_blank : List ℕ → LineReading → Bool
-is_blank text l = has_no_block l && list_all is_ascii_whitespace (line_bytes text l)
+abbrev pub is_blank_line : List ℕ → LineReading → Bool
+is_blank_line text l = has_no_block l && list_all is_ascii_whitespace (line_bytes text l)
 
 -- a unit: the byte offsets at which its first line begins and its last line ends, the spans of the blocks in its lines, and their content
 pub record UnitReading : Type 0 where
@@ -35,7 +35,7 @@ pub record UnitReading : Type 0 where
 -- whether lines begin with one that isn't blank
 abbrev pub begin_filled : List ℕ → List LineReading → Bool
 begin_filled text [] = false
-begin_filled text (l ∷ ls) = not (is_blank text l)
+begin_filled text (l ∷ ls) = not (is_blank_line text l)
 
 -- whether a line before these lines belongs to the unit of the first of them: it has no block, and the first of them isn't blank
 abbrev pub is_above : List ℕ → LineReading → List LineReading → Bool
@@ -49,12 +49,12 @@ with_line joins l (u ∷ us) =
 
 -- The units of lines: a blank line belongs to none. Each other line without a block belongs to the unit of the next line, unless that is
 -- blank. So a unit is a line with blocks and the lines directly above it, or else several lines between blank lines.
-abbrev pub units_of : List ℕ → List LineReading → List UnitReading
-units_of text [] = []
-units_of text (l ∷ ls) = cond (is_blank text l) (units_of text ls) (with_line (is_above text l ls) l (units_of text ls))
+abbrev pub line_units : List ℕ → List LineReading → List UnitReading
+line_units text [] = []
+line_units text (l ∷ ls) = cond (is_blank_line text l) (line_units text ls) (with_line (is_above text l ls) l (line_units text ls))
 
 -- the units of a text, given its lines
 pub record AreUnits (text : List ℕ) (units : List UnitReading) : Type 0 where
   pub lines : List LineReading
-  pub are : AreLines (place text 0) lines
-  pub units_are : units ≡ units_of text lines
+  pub are : AreLinesFrom (place text 0) lines
+  pub units_are : units ≡ line_units text lines

@@ -5,5 +5,5 @@ use Rattle.edit_units.specs.Units.{UnitReading}
 use Rattle.edit_units.specs.declared.units.Unit.{Unit}
 
 -- the reading of a unit
-abbrev pub unit_of : Unit → UnitReading
-unit_of u = record { start = u.span.start; end = u.span.end; blocks = u.blocks.items; says = file_of u.raw }
+abbrev pub unit_reading_of : Unit → UnitReading
+unit_reading_of u = record { start = u.span.start; end = u.span.end; blocks = u.blocks.items; says = file_of u.raw }

@@ -2,7 +2,7 @@
 
 ghost use Rattle.std.specs.Prelude.{ℕ, List};
 ghost use Rattle.edit_entries.specs.Changes.{IsReadPlaceless};
-ghost use Rattle.edit_units.specs.Parts.{AreItsParts, AreParts, FilePart, parts_text, parts_together};
+ghost use Rattle.edit_units.specs.Parts.{AreItsParts, AreParts, FilePart, text_of_parts, parts_together};
 ghost use Rattle.edit_units.specs.Units.{AreUnits, UnitReading};
 
 /// States that the text of each unit has the content of the unit, and that nothing but white space is around the units.
@@ -12,5 +12,5 @@ pub fn units_are_parts()
 
 /// States that texts of files, with line feeds between them, have the contents of all of them, in order.
 pub fn parts_are_read()
-    ensures { (parts : List FilePart) (end : List ℕ) → AreParts parts end → IsReadPlaceless (parts_together parts) (parts_text parts end) }
+    ensures { (parts : List FilePart) (end : List ℕ) → AreParts parts end → IsReadPlaceless (parts_together parts) (text_of_parts parts end) }
 {}

@@ -8,8 +8,8 @@ ghost use Rattle.bib_syntax.specs.Grammar.{IsFile};
 ghost use Rattle.bib_syntax.specs.LineViews.{line_of};
 ghost use Rattle.bib_syntax.specs.SyntaxErrors.{IsReported};
 ghost use Rattle.edit_units.specs.Units as spec;
-ghost use Rattle.edit_units.specs.Units.{AreUnits, IsWithin, units_of, with_line};
-ghost use Rattle.edit_units.specs.Views.{unit_of};
+ghost use Rattle.edit_units.specs.Units.{AreUnits, IsWithin, line_units, with_line};
+ghost use Rattle.edit_units.specs.Views.{unit_reading_of};
 
 use bib_syntax::raw::{ParseError, RawBibliography, RawLine};
 use bib_text::spanned::Span;
@@ -34,10 +34,10 @@ fn are_white(bytes: &[u8]) -> bool
 }
 
 // Returns whether a line has no block, and no character except ASCII white space.
-fn is_blank(text: &str, line: &RawLine<'_>) -> bool
+fn is_blank_line(text: &str, line: &RawLine<'_>) -> bool
     requires order { (line_of line.now).start ≤ (line_of line.now).end }
     requires within { (line_of line.now).end ≤ length text.now }
-    ensures { result ≡ spec.is_blank text.now (line_of line.now) }
+    ensures { result ≡ spec.is_blank_line text.now (line_of line.now) }
 {
     line.blocks.is_empty() && are_white(&text.as_bytes()[line.span.start..line.span.end])
 }
@@ -48,7 +48,7 @@ fn push_line<'s>(
     line: RawLine<'s>,
     joins: bool,
 ) -> Result<(), AllocError>
-    ensures { OnOk result (reverse (map unit_of units.new.items) ≡ with_line joins (line_of line.entry) (reverse (map unit_of units.old.items))) }
+    ensures { OnOk result (reverse (map unit_reading_of units.new.items) ≡ with_line joins (line_of line.entry) (reverse (map unit_reading_of units.old.items))) }
 {
     if joins {
         if let Some(mut unit) = units.pop() {
@@ -72,12 +72,12 @@ fn units_of_lines<'s>(
     mut lines: Vec<RawLine<'s>>,
 ) -> Result<Vec<Unit<'s>>, AllocError>
     requires { AllByRecursion (IsWithin text.now) (map line_of lines.items) }
-    ensures { IfOk result (λ units. map unit_of units.items ≡ units_of text.now (map line_of lines.entry.items)) }
+    ensures { IfOk result (λ units. map unit_reading_of units.items ≡ line_units text.now (map line_of lines.entry.items)) }
 {
     let mut units = Vec::new(alloc);
     let mut is_filled = false;
     'lines: while let Some(line) = lines.pop() {
-        if is_blank(text, &line) {
+        if is_blank_line(text, &line) {
             is_filled = false;
         } else {
             let joins = is_filled && line.blocks.is_empty();
@@ -92,7 +92,7 @@ fn units_of_lines<'s>(
 impl<'s> Unit<'s> {
     /// Returns the units of a text, in order. Fails like `RawBibliography::parse`.
     pub fn parse_all(alloc: Global, text: &'s str) -> Result<Vec<Self>, ParseError>
-        ensures found { IfOk result (λ units. AreUnits text.now (map unit_of units.items)) }
+        ensures found { IfOk result (λ units. AreUnits text.now (map unit_reading_of units.items)) }
         ensures accepted { OnOk result (IsFile text.now) }
         ensures refused { IfErr result (λ e. Refuses text.now e (IsFile text.now → ⊥)) }
         ensures reported { IfErr result (λ e. (e ≡ out_of_memory) ⊎ IsReported text.now e) }

@@ -6,7 +6,7 @@ ghost use Rattle.bib_text.specs.Places.{CharAt, EndsOr, Place, place};
 ghost use Rattle.bib_syntax.specs.Errors.{Refuses, out_of_memory};
 ghost use Rattle.bib_syntax.specs.Grammar.{IsFile, IsRawReading};
 ghost use Rattle.bib_syntax.specs.LineViews.{IsPartRead, line_of};
-ghost use Rattle.bib_syntax.specs.Lines.{AreLines, IsLine, lines_together};
+ghost use Rattle.bib_syntax.specs.Lines.{AreLinesFrom, IsLine, lines_together};
 ghost use Rattle.bib_syntax.specs.SyntaxErrors.{FileFails, IsReported, Reports};
 
 use crate::raw::fields::line_comment;
@@ -103,7 +103,7 @@ fn line<'s>(s: &mut Reader<'s, '_>, alloc: Global) -> Result<RawLine<'s>, ParseE
 
 // Parses lines up to the end of the text.
 fn lines_from<'s>(s: &mut Reader<'s, '_>, alloc: Global) -> Result<Vec<RawLine<'s>>, ParseError>
-    ensures found { IfOk result (λ lines. AreLines s.old (map line_of lines.items)) }
+    ensures found { IfOk result (λ lines. AreLinesFrom s.old (map line_of lines.items)) }
     ensures fails { IfErr result (λ e. Refuses s.old.text e (Reports (FileFails s.old) e)) }
 {
     let mut lines = Vec::new(alloc);
@@ -120,7 +120,7 @@ impl<'s> RawLine<'s> {
     /// Parses the lines of a file, which are separated by line feeds outside of blocks. So there is at least one, and the last one is empty if
     /// such a line feed ends the file. Fails like `RawBibliography::parse`.
     pub fn parse_all(alloc: Global, src: &'s str) -> Result<Vec<Self>, ParseError>
-        ensures found { IfOk result (λ lines. AreLines (place src.now 0) (map line_of lines.items)) }
+        ensures found { IfOk result (λ lines. AreLinesFrom (place src.now 0) (map line_of lines.items)) }
         ensures read { IfOk result (λ lines. IsRawReading src.now (lines_together (map line_of lines.items))) }
         ensures accepted { OnOk result (IsFile src.now) }
         ensures refused { IfErr result (λ e. Refuses src.now e (IsFile src.now → ⊥)) }

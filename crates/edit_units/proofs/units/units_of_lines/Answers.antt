@@ -2,7 +2,7 @@ use Rattle.std.proofs.Common.{arith, map, ap, sym, subst, ◌∙◌}
 use Rattle.std.proofs.lemmas.List.{nil_from_length}
 use Rattle.bib_text.proofs.ReverseFacts.{reverse_of_map}
 use Rattle.edit_units.proofs.UnitFacts.{AreMade, all_made, line_within}
-use Rattle.edit_units.specs.Views.{unit_of}
+use Rattle.edit_units.specs.Views.{unit_reading_of}
 use Rattle.edit_units.proofs.units.units_of_lines.Goals as goal
 
 pub is_blank-requires-clause-order : goal.is_blank-requires-clause-order
@@ -14,6 +14,6 @@ is_blank-requires-clause-within c = (line_within _ c.in-Some.line c.requires c.l
 pub returns : goal.returns
 returns c =
     let none = nil_from_length c.lines.lines.items (omega (arith, c.in_default.ensures.cases.0, c.lines.lines.ok.0)) in
-    ap (map unit_of) c.reverse.ensures.items ∙ sym (reverse_of_map unit_of c.lines.units.items)
+    ap (map unit_reading_of) c.reverse.ensures.items ∙ sym (reverse_of_map unit_reading_of c.lines.units.items)
     ∙ all_made
     (subst (λ left. AreMade c.args.text.now c.args.lines.items left c.lines.units.items c.lines.is_filled) none c.lines.invariant)

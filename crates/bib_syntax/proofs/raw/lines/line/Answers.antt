@@ -6,8 +6,11 @@ use Rattle.bib_syntax.proofs.LineReadFacts.{ahead_in_line, file_in_line, line_go
 use Rattle.bib_syntax.proofs.raw.lines.line.Goals as goal
 
 pub parts-init : goal.parts-init
-parts-init c =
-    (rw (c.new.ensures.items, c.new-2.ensures.bytes, c.new-3.ensures.items, c.new-4.ensures.items) InLine.none, c.cursor-start.ensures.place)
+parts-init c = (
+  rw
+      (c.new.ensures.items, c.new-2.ensures.bytes, c.new-3.ensures.items, c.new-4.ensures.items) InLine.none,
+  c.cursor-start.ensures.place,
+)
 
 pub parts-preserved : goal.parts-preserved
 parts-preserved c = line_goes_on c.parts.invariant.0 c.parts.invariant.1 c.in_ok-push_part.ensures.found

@@ -2,7 +2,7 @@ use Rattle.std.proofs.Common.{map, sym, subst}
 use Rattle.std.proofs.lemmas.Result.{err_from_is_err_and}
 use Rattle.bib_text.proofs.PlaceFacts.{left_smaller}
 use Rattle.bib_syntax.specs.LineViews.{line_of}
-use Rattle.bib_syntax.specs.Lines.{AreLines}
+use Rattle.bib_syntax.specs.Lines.{AreLinesFrom}
 use Rattle.bib_syntax.proofs.ErrorFacts.{reports_as}
 use Rattle.bib_syntax.proofs.FieldFacts.{refuses_from}
 use Rattle.bib_syntax.proofs.LineReadFacts.{LinesBefore, ahead_in_line, ahead_lines, at_last_end, lines_last, lines_push, lines_pushed, lines_read}
@@ -21,7 +21,7 @@ returns-in_err-line-clause-fails c =
 
 pub returns-then-not-eat_if-clause-found : goal.returns-then-not-eat_if-clause-found
 returns-then-not-eat_if-clause-found c =
-    subst (λ ls. AreLines c.args.s.now ls) (sym (lines_pushed _ _ c.in_ok-push.ensures.items))
+    subst (λ ls. AreLinesFrom c.args.s.now ls) (sym (lines_pushed _ _ c.in_ok-push.ensures.items))
     (lines_last c.lines.invariant c.in_ok-line.ensures.found (at_last_end c.in_ok-line.ensures.ends c.if-not-eat_if.ensures.1))
 
 pub lines-smaller : goal.lines-smaller

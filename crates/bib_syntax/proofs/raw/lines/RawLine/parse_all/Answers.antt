@@ -4,7 +4,7 @@ use Rattle.bib_text.specs.Places.{place}
 use Rattle.bib_text.proofs.PlaceFacts.{ahead_same}
 use Rattle.bib_syntax.specs.Grammar.{File, longest}
 use Rattle.bib_syntax.specs.LineViews.{line_of}
-use Rattle.bib_syntax.specs.Lines.{AreLines}
+use Rattle.bib_syntax.specs.Lines.{AreLinesFrom}
 use Rattle.bib_syntax.proofs.AnyFacts.{file_any}
 use Rattle.bib_syntax.proofs.FieldFacts.{refuses_from}
 use Rattle.bib_syntax.proofs.FileFailureFacts.{file_unread}
@@ -15,7 +15,7 @@ use Rattle.bib_syntax.proofs.raw.lines.RawLine.parse_all.Goals as goal
 pub returns-clause-read : goal.returns-clause-read
 returns-clause-read c =
     lines_are_file
-    (subst (λ p. AreLines p (map line_of c.in_ok-lines_from.field-0.items)) (c.new-2.ensures ∙ c.new.ensures)
+    (subst (λ p. AreLinesFrom p (map line_of c.in_ok-lines_from.field-0.items)) (c.new-2.ensures ∙ c.new.ensures)
     c.in_ok-lines_from.ensures.found)
 
 pub returns-clause-accepted : goal.returns-clause-accepted
@@ -23,7 +23,7 @@ returns-clause-accepted c = (
   _,
   file_any
       (lines_are_file
-      (subst (λ p. AreLines p (map line_of c.in_ok-lines_from.field-0.items)) (c.new-2.ensures ∙ c.new.ensures)
+      (subst (λ p. AreLinesFrom p (map line_of c.in_ok-lines_from.field-0.items)) (c.new-2.ensures ∙ c.new.ensures)
       c.in_ok-lines_from.ensures.found)),
 )
 
