@@ -8,7 +8,7 @@ use Rattle.std.proofs.lemmas.List.{drop_all}
 use Rattle.bib_text.proofs.ListFacts.{begins, begins_not}
 use Rattle.bib_tables.specs.Requirements.{texts}
 use Rattle.bib_findings.specs.Nearest.{is_extension}
-use Rattle.bib_findings.proofs.SeenFacts.{from_index}
+use Rattle.bib_queries.proofs.EqualValueFacts.{from_index}
 
 -- the first name from an index on that passes a test is the name at the index if it passes, or else the first one after it
 from_name : (p : List ℕ → Bool) (names : List (Bor (List ℕ))) (index : ℕ) (other : Bor (List ℕ)) (passes : Bool) → index < length names

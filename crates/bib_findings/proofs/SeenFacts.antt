@@ -8,7 +8,6 @@ use Rattle.std.specs.Map.{update}
 use Rattle.std.specs.List.{All, cons_option, filter, filter_map, list_any}
 use Rattle.std.specs.String.{string_bytes}
 use Rattle.std.specs.declared.vec.Vec.{Vec}
-use Rattle.std.proofs.Math.Seq.{drop-cons}
 use Rattle.std.proofs.lemmas.Bool.Decides.{nat_tests}
 use Rattle.std.proofs.lemmas.List.{length-append, length-take, take-append-le, take_all, take_more}
 use Rattle.std.proofs.lemmas.List.Elements.{All-get_or, All-head, All-push, All-tail, filter-append, filter_map-append}
@@ -17,6 +16,7 @@ use Rattle.std.proofs.lemmas.Slice.Eq.{bytes_eq-Decides}
 use Rattle.bib_tables.specs.Requirements.{Names}
 use Rattle.bib_text.specs.declared.spanned.Spanned.{Spanned}
 use Rattle.bib_text.proofs.BytesFacts.{bytes_turned}
+use Rattle.bib_queries.proofs.EqualValueFacts.{from_index}
 use Rattle.bib_syntax.specs.Reading.{EntryReading}
 use Rattle.bib_syntax.specs.Views.{entry_reading_of}
 use Rattle.bib_syntax.specs.declared.raw.RawEntry.{RawEntry}
@@ -59,13 +59,6 @@ as_many said other (index ∷ indices) there =
     ap (λ o. length (cons_option o (entries_at (map entry_reading_of said) indices)))
     (get_mapped entry_reading_of said index other (All-head (λ i. i < length said) index indices there))
     ∙ ap suc (as_many said other indices (All-tail (λ i. i < length said) index indices there))
-
--- the items from `index` on are the one at `index` and those after it
-pub from_index : {A : Type 0} (items : List A) (index : ℕ) (other : A) → index < length items
-    → drop index items ≡ get_or items index other ∷ drop (index + 1) items
-from_index items index other within =
-    drop-cons items index other within
-    ∙ ap (λ n. get_or items index other ∷ drop n items) (let same : suc index ≡ index + 1 = omega arith in same)
 
 -- the entries at the indices from `at` on are the entry at the index there, and those at the indices after it
 pub entries_from : (said : List (Spanned RawEntry)) (indices : List ℕ) (at : ℕ) (item : Spanned RawEntry)

@@ -3,6 +3,7 @@ pub mod CitationFacts
 pub mod CitedFacts
 pub mod DefinitionFacts
 pub mod ElementFacts
+pub mod EqualValueFacts
 pub mod ExcerptFacts
 pub mod MarkFacts
 pub mod PartFacts

@@ -5,6 +5,7 @@ pub mod Citations
 pub mod Cited
 pub mod Collecting
 pub mod Elements
+pub mod EqualValues
 pub mod Known
 pub mod LineEnds
 pub mod Lines

@@ -9,7 +9,7 @@
 //! looked up yet. Looking up a name removes it from the map, so that its indices are visited only once.
 //!
 //! `balance`, `bytes` and `quotes` test texts for edits and findings: whether braces are balanced, which bytes are at byte offsets, and
-//! whether the end of a text in quotes depends on the program.
+//! whether the end of a text in quotes depends on the program. `equal_values` compares the values of fields.
 #![tactic(auto)]
 
 pub mod balance;
@@ -17,6 +17,7 @@ pub mod bytes;
 pub mod citations;
 mod cited;
 mod elements;
+pub mod equal_values;
 pub mod excerpts;
 pub mod known;
 pub mod laws;

@@ -1,6 +1,6 @@
 use Rattle.std.proofs.Common.{sym, ◌∙◌, arith}
-use Rattle.bib_findings.proofs.DefinitionFacts.{different_counts, pieces_differ, pieces_end, pieces_same}
-use Rattle.bib_findings.proofs.definitions.are_equal_pieces.Goals as goal
+use Rattle.bib_queries.proofs.EqualValueFacts.{different_counts, pieces_differ, pieces_end, pieces_same}
+use Rattle.bib_queries.proofs.equal_values.are_equal_pieces.Goals as goal
 
 pub returns-then-one-other : goal.returns-then-one-other
 returns-then-one-other c = sym (different_counts c.args.one.now c.args.other.now (λ same. omega (arith, same, c.if-one-other.true)))
