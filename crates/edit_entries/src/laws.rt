@@ -14,7 +14,7 @@ pub fn set_is_there()
         HasValue after key name value }
 {}
 
-/// States that a text has balanced braces exactly if the text between two braces parses as one text in braces.
+/// States that a text has balanced braces exactly if, with a brace before and after it, it parses as one text in braces.
 pub fn balanced_is_braced()
     ensures { (text : List ℕ) → IsParts text ↔
         ((p : Part) × Braced (place (in_braces text) 0) p (place (in_braces text) (length (in_braces text)))) }
