@@ -26,8 +26,8 @@ fn with_single_spaces(alloc: Global, text: &[u8]) -> Result<Vec<u8>, AllocError>
     Ok(spaced)
 }
 
-// Returns whether two texts are the same if each run of ASCII white space is one space.
-fn are_equal_texts(alloc: Global, text: &str, other: &str) -> Result<bool, AllocError>
+/// Returns whether two texts are the same if each run of ASCII white space is one space. Returns an error only if out of memory.
+pub fn are_equal_texts(alloc: Global, text: &str, other: &str) -> Result<bool, AllocError>
     ensures { IfOk result (λ equal. equal ≡ spec.are_equal_texts text.now other.now) }
 {
     let first = with_single_spaces(alloc, text.as_bytes())?;
