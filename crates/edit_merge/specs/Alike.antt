@@ -1,0 +1,63 @@
+-- Meaning: words of public contracts.
+-- Units that are alike: they have the same content and the same comments, but may differ in their layout.
+use Rattle.std.specs.Prelude.{◌==◌, ◌&&◌, ◌||◌, ℕ, Bool, true, false, not, List, [], ◌∷◌, ◌++◌, Option, Some, None, bytes_eq, filter}
+use Rattle.std.specs.Char.{is_ascii_whitespace}
+use Rattle.bib_text.specs.Characters as char
+use Rattle.bib_text.specs.Places.{between, place}
+use Rattle.bib_syntax.specs.Grammar.{is_word}
+use Rattle.bib_syntax.specs.Reading.{EntryReading, FieldReading}
+use Rattle.bib_queries.specs.EqualValues.{are_equal_pieces, are_equal_texts}
+use Rattle.edit_units.specs.Units.{UnitReading}
+use Rattle.edit_merge.specs.Versions.{unit_text}
+
+-- whether a byte isn't ASCII white space or a comma, which are the layout of an entry outside of its values
+abbrev pub is_no_layout : ℕ → Bool
+is_no_layout b = not (is_ascii_whitespace b || b == char.comma)
+
+-- the bytes from an offset to another one, outside of these fields
+abbrev pub outside_fields : List ℕ → ℕ → List FieldReading → ℕ → List ℕ
+outside_fields text at [] end = between (place text at) (place text end)
+outside_fields text at (f ∷ fs) end = between (place text at) (place text f.name.start) ++ outside_fields text f.value.end fs end
+
+-- the bytes of a unit outside of the type and the fields of its entry, without layout: the key, comments and braces
+abbrev pub rest_of_entry : List ℕ → UnitReading → EntryReading → List ℕ
+rest_of_entry text u e =
+    filter is_no_layout (between (place text u.start) (place text e.kind.start) ++ outside_fields text e.kind.end e.fields u.end)
+
+-- whether two fields have the same name, in any ASCII case, and equal values
+abbrev pub is_alike_field : FieldReading → FieldReading → Bool
+is_alike_field f g = is_word f.name.text g.name.text && are_equal_pieces f.value.pieces g.value.pieces
+
+-- whether fields are alike, one by one
+abbrev pub are_alike_fields : List FieldReading → List FieldReading → Bool
+are_alike_fields [] [] = true
+are_alike_fields [] (g ∷ gs) = false
+are_alike_fields (f ∷ fs) [] = false
+are_alike_fields (f ∷ fs) (g ∷ gs) = is_alike_field f g && are_alike_fields fs gs
+
+-- the entry of a unit that has one entry and no definition
+abbrev pub only_of : List EntryReading → List FieldReading → Option EntryReading
+only_of (e ∷ []) [] = Some e
+only_of [] definitions = None
+only_of (e ∷ other ∷ es) definitions = None
+only_of (e ∷ []) (f ∷ fs) = None
+
+abbrev pub only_entry : UnitReading → Option EntryReading
+only_entry u = only_of u.says.entries u.says.abbreviations
+
+-- whether two units with these entries are alike: the types are equal, in any ASCII case, the fields are alike, and the rest is equal
+abbrev pub are_alike_entries : List ℕ → UnitReading → EntryReading → List ℕ → UnitReading → EntryReading → Bool
+are_alike_entries text u e other v g =
+    is_word e.kind.text g.kind.text && are_alike_fields e.fields g.fields
+    && bytes_eq (rest_of_entry text u e) (rest_of_entry other v g)
+
+-- whether two units are alike, given the entry of each, if it has only one
+abbrev pub are_alike_by : List ℕ → UnitReading → Option EntryReading → List ℕ → UnitReading → Option EntryReading → Bool
+are_alike_by text u None other v found = are_equal_texts (unit_text text u) (unit_text other v)
+are_alike_by text u (Some e) other v None = are_equal_texts (unit_text text u) (unit_text other v)
+are_alike_by text u (Some e) other v (Some g) = are_alike_entries text u e other v g
+
+-- whether two units of two texts are alike. Units without an entry, or with several ones, are alike if their texts are equal with each run of
+-- ASCII white space as one space
+abbrev pub are_alike : List ℕ → UnitReading → List ℕ → UnitReading → Bool
+are_alike text u other v = are_alike_by text u (only_entry u) other v (only_entry v)

@@ -1,0 +1,4 @@
+pub mod Alike
+pub mod Merged
+pub mod Picked
+pub mod Versions

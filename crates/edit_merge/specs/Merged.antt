@@ -1,0 +1,146 @@
+-- Meaning: words of public contracts.
+-- The text of a merge: the picked units with white space between them. A conflict has the units of both sides between lines of markers.
+use Rattle.std.specs.Prelude.{◌==◌, ◌&&◌, ℕ, ◌-◌, Bool, true, false, List, [], ◌∷◌, ◌++◌, Option, Some, None, bytes_eq, cond, count_by, drop, length, replicate, slice_get}
+use Rattle.std.specs.List.{flat_map}
+use Rattle.bib_text.specs.Characters as char
+use Rattle.edit_units.specs.Parts.{FilePart, end_of_units, parts_from}
+use Rattle.edit_units.specs.Units.{UnitReading}
+use Rattle.edit_merge.specs.Picked.{SlotReading, Versions, order_choice, slots}
+use Rattle.edit_merge.specs.Versions.{VersionReading}
+use Rattle.edit_merge.specs.declared.picking.Choice.{Choice}
+use Rattle.edit_merge.specs.declared.picking.Choice.TheVariants.{Ours, Theirs, Conflict}
+
+-- the units of a version, with the white space before each
+abbrev pub parts_of : VersionReading → List FilePart
+parts_of v = parts_from v.text 0 v.units
+
+-- the white space after the last unit of a version
+abbrev pub end_of : VersionReading → List ℕ
+end_of v = drop (end_of_units 0 v.units) v.text
+
+-- the part of a version at an index, if there is an index
+abbrev pub part_at : VersionReading → Option ℕ → Option FilePart
+part_at v None = None
+part_at v (Some i) = slice_get (parts_of v) i
+
+-- the lines that mark the two sides of a conflict, without line feeds
+pub record MarkersReading : Type 0 where
+  pub ours : List ℕ
+  pub between : List ℕ
+  pub theirs : List ℕ
+
+-- a part of the merged text: white space, and a text after it. `is_text` is whether the text has no block
+pub record MergedPart : Type 0 where
+  pub space : List ℕ
+  pub text : List ℕ
+  pub is_text : Bool
+
+-- white space that changed on one side only is that of this side, otherwise that of ours
+abbrev pub picked_space : Option FilePart → FilePart → FilePart → List ℕ
+picked_space None o t = o.space
+picked_space (Some b) o t = cond (bytes_eq o.space b.space) t.space o.space
+
+-- the white space before the units of a slot
+abbrev pub space_by : Option FilePart → Option FilePart → Option FilePart → List ℕ
+space_by b None None = []
+space_by b None (Some t) = t.space
+space_by b (Some o) None = o.space
+space_by b (Some o) (Some t) = picked_space b o t
+
+-- whether a unit, if it is there, has no block
+abbrev pub has_no_blocks : Option UnitReading → Bool
+has_no_blocks None = false
+has_no_blocks (Some u) = length u.blocks == 0
+
+-- whether the unit at an index, if there is one, has no block
+abbrev pub is_text_unit : VersionReading → Option ℕ → Bool
+is_text_unit v None = false
+is_text_unit v (Some i) = has_no_blocks (slice_get v.units i)
+
+-- the merged part of a unit, if it is there
+abbrev pub kept_part : List ℕ → Bool → Option FilePart → List MergedPart
+kept_part space is_text None = []
+kept_part space is_text (Some p) = record { space = space; text = p.text; is_text = is_text } ∷ []
+
+-- a text and a line feed, if it is there
+abbrev pub lines_of : Option FilePart → List ℕ
+lines_of None = []
+lines_of (Some p) = p.text ++ char.line_feed ∷ []
+
+-- the text of a conflict
+abbrev pub conflict_text : MarkersReading → Option FilePart → Option FilePart → List ℕ
+conflict_text markers o t =
+    markers.ours ++ (char.line_feed ∷ (lines_of o ++ (markers.between ++ (char.line_feed ∷ (lines_of t ++ markers.theirs)))))
+
+-- the merged parts of a slot: one, or none if what is picked is absent
+abbrev pub parts_by : MarkersReading → Versions → SlotReading → Choice → List MergedPart
+parts_by markers vs s Ours =
+    kept_part (space_by (part_at vs.base s.base) (part_at vs.ours s.ours) (part_at vs.theirs s.theirs)) (is_text_unit vs.ours s.ours)
+    (part_at vs.ours s.ours)
+parts_by markers vs s Theirs =
+    kept_part (space_by (part_at vs.base s.base) (part_at vs.ours s.ours) (part_at vs.theirs s.theirs)) (is_text_unit vs.theirs s.theirs)
+    (part_at vs.theirs s.theirs)
+parts_by markers vs s Conflict =
+    record {
+      space = space_by (part_at vs.base s.base) (part_at vs.ours s.ours) (part_at vs.theirs s.theirs);
+      text = conflict_text markers (part_at vs.ours s.ours) (part_at vs.theirs s.theirs);
+      is_text = false;
+    }
+    ∷ []
+
+-- all merged parts, in order
+abbrev pub merged_parts : MarkersReading → Versions → List MergedPart
+merged_parts markers vs = flat_map (λ s. parts_by markers vs s s.choice) (slots vs)
+
+-- whether a byte is a line feed
+abbrev pub is_feed : ℕ → Bool
+is_feed b = b == char.line_feed
+
+-- whether a text begins with a line feed
+abbrev pub begins_with_feed : List ℕ → Bool
+begins_with_feed [] = false
+begins_with_feed (b ∷ bs) = is_feed b
+
+-- white space with at least this number of line feeds, one of which is its first character
+abbrev pub with_feeds : ℕ → List ℕ → List ℕ
+with_feeds least space =
+    cond (least - count_by is_feed space == 0) (cond (begins_with_feed space) space (char.line_feed ∷ space))
+    (replicate (least - count_by is_feed space) char.line_feed ++ space)
+
+-- the white space between two parts: a blank line is after a text without blocks, so that the next part doesn't belong to its unit
+abbrev pub space_between : Bool → List ℕ → List ℕ
+space_between is_text space = with_feeds (cond is_text 2 1) space
+
+-- the white space at the end: it begins with a line feed, if there is some
+abbrev pub space_at_end : List ℕ → List ℕ
+space_at_end [] = []
+space_at_end (b ∷ bs) = with_feeds 1 (b ∷ bs)
+
+-- the text of parts after a part
+abbrev pub text_after : Bool → List MergedPart → List ℕ → List ℕ
+text_after is_text [] end = space_at_end end
+text_after is_text (p ∷ ps) end = space_between is_text p.space ++ (p.text ++ text_after p.is_text ps end)
+
+-- the white space before the first unit of a version, if it has one
+abbrev pub first_space : List FilePart → List ℕ → List ℕ
+first_space [] other = other
+first_space (p ∷ ps) other = p.space
+
+-- the text of all parts, if the main version has these ones
+abbrev pub text_by : List FilePart → List MergedPart → List ℕ → List ℕ
+text_by main [] end = end
+text_by main (p ∷ ps) end = first_space main p.space ++ (p.text ++ text_after p.is_text ps end)
+
+-- the version whose order the merge has
+abbrev pub main_by : Versions → Choice → VersionReading
+main_by vs Ours = vs.ours
+main_by vs Theirs = vs.theirs
+main_by vs Conflict = vs.ours
+
+-- the white space after the last unit: that of the side that changed it, or else that of ours
+abbrev pub merged_end : Versions → List ℕ
+merged_end vs = cond (bytes_eq (end_of vs.ours) (end_of vs.base)) (end_of vs.theirs) (end_of vs.ours)
+
+-- the merged text
+abbrev pub merged_text : MarkersReading → Versions → List ℕ
+merged_text markers vs = text_by (parts_of (main_by vs (order_choice vs))) (merged_parts markers vs) (merged_end vs)

@@ -1,0 +1,119 @@
+-- Meaning: words of public contracts.
+-- What a merge picks. Each part has a value in the common base and in each of the two sides, ours and theirs. Absence is a value, too.
+use Rattle.std.specs.Prelude.{◌==◌, ◌&&◌, ◌||◌, ℕ, ◌+◌, Bool, true, false, not, List, [], ◌∷◌, ◌++◌, Option, Some, None, bytes_eq, cond, drop, filter, is_some, map, slice_get}
+use Rattle.std.specs.List.{before_first}
+use Rattle.edit_units.specs.Units.{UnitReading}
+use Rattle.edit_merge.specs.Alike.{are_alike}
+use Rattle.edit_merge.specs.Versions.{VersionReading, index_of, names_of, unit_text}
+use Rattle.edit_merge.specs.declared.picking.Choice.{Choice}
+use Rattle.edit_merge.specs.declared.picking.Choice.TheVariants.{Ours, Theirs, Conflict}
+
+-- The choice between two sides: a side that is equal to the base has changed nothing, so the other side counts. If both changed, ours counts
+-- if theirs is alike the base or alike ours, and theirs counts if ours is alike the base. Otherwise they conflict.
+abbrev pub choose : Bool → Bool → Bool → Bool → Choice
+choose theirs_same ours_same theirs_alike ours_alike =
+    cond theirs_same Ours (cond ours_same Theirs (cond theirs_alike Ours (cond ours_alike Theirs Conflict)))
+
+-- the unit at an index, if there is an index
+abbrev pub unit_at : VersionReading → Option ℕ → Option UnitReading
+unit_at v None = None
+unit_at v (Some i) = slice_get v.units i
+
+-- whether two units have the same bytes, or both are absent
+abbrev pub is_same : VersionReading → Option UnitReading → VersionReading → Option UnitReading → Bool
+is_same v None w None = true
+is_same v None w (Some u) = false
+is_same v (Some u) w None = false
+is_same v (Some u) w (Some x) = bytes_eq (unit_text v.text u) (unit_text w.text x)
+
+-- whether two units are alike, or both are absent
+abbrev pub is_alike : VersionReading → Option UnitReading → VersionReading → Option UnitReading → Bool
+is_alike v None w None = true
+is_alike v None w (Some u) = false
+is_alike v (Some u) w None = false
+is_alike v (Some u) w (Some x) = are_alike v.text u w.text x
+
+-- the versions of a file that are merged
+pub record Versions : Type 0 where
+  pub base : VersionReading
+  pub ours : VersionReading
+  pub theirs : VersionReading
+
+-- the place of a unit in a merge: its index in each version that has it, and what is picked
+pub record SlotReading : Type 0 where
+  pub base : Option ℕ
+  pub ours : Option ℕ
+  pub theirs : Option ℕ
+  pub choice : Choice
+
+-- the choice for the units at these indices
+abbrev pub choice_at : Versions → Option ℕ → Option ℕ → Option ℕ → Choice
+choice_at vs base ours theirs =
+    let b = unit_at vs.base base in
+    let o = unit_at vs.ours ours in
+    let t = unit_at vs.theirs theirs in
+    choose (is_same vs.theirs t vs.base b) (is_same vs.ours o vs.base b)
+    (is_alike vs.theirs t vs.base b || is_alike vs.theirs t vs.ours o) (is_alike vs.ours o vs.base b)
+
+-- the place of the units with a name
+abbrev pub slot_of : Versions → List ℕ → SlotReading
+slot_of vs name = record {
+  base = index_of vs.base name;
+  ours = index_of vs.ours name;
+  theirs = index_of vs.theirs name;
+  choice = choice_at vs (index_of vs.base name) (index_of vs.ours name) (index_of vs.theirs name);
+}
+
+-- ---- the order
+
+-- whether a version has a unit with this name
+abbrev pub has_name : VersionReading → List ℕ → Bool
+has_name v name = is_some (index_of v name)
+
+-- whether two lists of names are equal
+abbrev pub are_equal_names : List (List ℕ) → List (List ℕ) → Bool
+are_equal_names [] [] = true
+are_equal_names [] (n ∷ ns) = false
+are_equal_names (n ∷ ns) [] = false
+are_equal_names (n ∷ ns) (m ∷ ms) = bytes_eq n m && are_equal_names ns ms
+
+-- whether the names that two versions share have the same order in both
+abbrev pub is_alike_order : VersionReading → VersionReading → Bool
+is_alike_order v w = are_equal_names (filter (has_name w) (names_of v)) (filter (has_name v) (names_of w))
+
+-- whose order the merge has: ours, unless theirs alone is another one than that of the base
+abbrev pub order_choice : Versions → Choice
+order_choice vs =
+    choose (are_equal_names (names_of vs.theirs) (names_of vs.base)) (are_equal_names (names_of vs.ours) (names_of vs.base))
+    (is_alike_order vs.theirs vs.base || is_alike_order vs.theirs vs.ours) (is_alike_order vs.ours vs.base)
+
+-- the names of a version from an index on, up to the first one that another version has too
+abbrev pub run_from : VersionReading → VersionReading → ℕ → List (List ℕ)
+run_from main other at = before_first (has_name main) (drop at (names_of other))
+
+-- the names of the other version that come before a name with this index in it: none if it has no index
+abbrev pub before_shared : VersionReading → VersionReading → ℕ → Option ℕ → List (List ℕ)
+before_shared main other at None = []
+before_shared main other at (Some i) = run_from main other at
+
+-- the index at which the next names of the other version begin
+abbrev pub next_at : ℕ → Option ℕ → ℕ
+next_at at None = at
+next_at at (Some i) = i + 1
+
+-- The names of two versions in one order: these names of the main one in its order, and before each name that both have, and at the end, the
+-- names that only the other one has there. `at` is the index in the other one at which those names begin.
+abbrev pub woven : VersionReading → VersionReading → ℕ → List (List ℕ) → List (List ℕ)
+woven main other at [] = run_from main other at
+woven main other at (name ∷ names) =
+    before_shared main other at (index_of other name) ++ name ∷ woven main other (next_at at (index_of other name)) names
+
+-- the order of the merged names
+abbrev pub order_by : Versions → Choice → List (List ℕ)
+order_by vs Ours = woven vs.ours vs.theirs 0 (names_of vs.ours)
+order_by vs Theirs = woven vs.theirs vs.ours 0 (names_of vs.theirs)
+order_by vs Conflict = woven vs.ours vs.theirs 0 (names_of vs.ours)
+
+-- the places of all units of both sides, in the order of the merge
+abbrev pub slots : Versions → List SlotReading
+slots vs = map (slot_of vs) (order_by vs (order_choice vs))
