@@ -3,25 +3,24 @@
 use Rattle.std.specs.Prelude.{◌==◌, ◌&&◌, ℕ, ◌-◌, Bool, true, false, List, [], ◌∷◌, ◌++◌, Option, Some, None, bytes_eq, cond, count_by, drop, length, replicate, slice_get}
 use Rattle.std.specs.List.{flat_map}
 use Rattle.bib_text.specs.Characters as char
-use Rattle.edit_units.specs.Parts.{FilePart, end_of_units, parts_from}
-use Rattle.edit_units.specs.Units.{UnitReading}
+use Rattle.edit_units.specs.Units.{UnitReading, UnitTexts, end_of_units, texts_from}
 use Rattle.edit_merge.specs.Picked.{SlotReading, Versions, order_choice, slots}
 use Rattle.edit_merge.specs.Versions.{VersionReading}
 use Rattle.edit_merge.specs.declared.picking.Choice.{Choice}
 use Rattle.edit_merge.specs.declared.picking.Choice.TheVariants.{Ours, Theirs, Conflict}
 
--- the units of a version, with the white space before each
-abbrev pub parts_of : VersionReading → List FilePart
-parts_of v = parts_from v.text 0 v.units
+-- the units of a version as texts, with the white space before each
+abbrev pub texts_of : VersionReading → List UnitTexts
+texts_of v = texts_from v.text 0 v.units
 
 -- the white space after the last unit of a version
 abbrev pub end_of : VersionReading → List ℕ
 end_of v = drop (end_of_units 0 v.units) v.text
 
--- the part of a version at an index, if there is an index
-abbrev pub part_at : VersionReading → Option ℕ → Option FilePart
-part_at v None = None
-part_at v (Some i) = slice_get (parts_of v) i
+-- the texts of the unit at an index, if there is an index
+abbrev pub texts_at : VersionReading → Option ℕ → Option UnitTexts
+texts_at v None = None
+texts_at v (Some i) = slice_get (texts_of v) i
 
 -- the lines that mark the two sides of a conflict, without line feeds
 pub record MarkersReading : Type 0 where
@@ -36,12 +35,12 @@ pub record MergedPart : Type 0 where
   pub is_text : Bool
 
 -- white space that changed on one side only is that of this side, otherwise that of ours
-abbrev pub picked_space : Option FilePart → FilePart → FilePart → List ℕ
+abbrev pub picked_space : Option UnitTexts → UnitTexts → UnitTexts → List ℕ
 picked_space None o t = o.space
 picked_space (Some b) o t = cond (bytes_eq o.space b.space) t.space o.space
 
 -- the white space before the units of a slot
-abbrev pub space_by : Option FilePart → Option FilePart → Option FilePart → List ℕ
+abbrev pub space_by : Option UnitTexts → Option UnitTexts → Option UnitTexts → List ℕ
 space_by b None None = []
 space_by b None (Some t) = t.space
 space_by b (Some o) None = o.space
@@ -58,32 +57,32 @@ is_text_unit v None = false
 is_text_unit v (Some i) = has_no_blocks (slice_get v.units i)
 
 -- the merged part of a unit, if it is there
-abbrev pub kept_part : List ℕ → Bool → Option FilePart → List MergedPart
+abbrev pub kept_part : List ℕ → Bool → Option UnitTexts → List MergedPart
 kept_part space is_text None = []
 kept_part space is_text (Some p) = record { space = space; text = p.text; is_text = is_text } ∷ []
 
 -- a text and a line feed, if it is there
-abbrev pub lines_of : Option FilePart → List ℕ
+abbrev pub lines_of : Option UnitTexts → List ℕ
 lines_of None = []
 lines_of (Some p) = p.text ++ char.line_feed ∷ []
 
 -- the text of a conflict
-abbrev pub conflict_text : MarkersReading → Option FilePart → Option FilePart → List ℕ
+abbrev pub conflict_text : MarkersReading → Option UnitTexts → Option UnitTexts → List ℕ
 conflict_text markers o t =
     markers.ours ++ (char.line_feed ∷ (lines_of o ++ (markers.between ++ (char.line_feed ∷ (lines_of t ++ markers.theirs)))))
 
 -- the merged parts of a slot: one, or none if what is picked is absent
 abbrev pub parts_by : MarkersReading → Versions → SlotReading → Choice → List MergedPart
 parts_by markers vs s Ours =
-    kept_part (space_by (part_at vs.base s.base) (part_at vs.ours s.ours) (part_at vs.theirs s.theirs)) (is_text_unit vs.ours s.ours)
-    (part_at vs.ours s.ours)
+    kept_part (space_by (texts_at vs.base s.base) (texts_at vs.ours s.ours) (texts_at vs.theirs s.theirs)) (is_text_unit vs.ours s.ours)
+    (texts_at vs.ours s.ours)
 parts_by markers vs s Theirs =
-    kept_part (space_by (part_at vs.base s.base) (part_at vs.ours s.ours) (part_at vs.theirs s.theirs)) (is_text_unit vs.theirs s.theirs)
-    (part_at vs.theirs s.theirs)
+    kept_part (space_by (texts_at vs.base s.base) (texts_at vs.ours s.ours) (texts_at vs.theirs s.theirs)) (is_text_unit vs.theirs s.theirs)
+    (texts_at vs.theirs s.theirs)
 parts_by markers vs s Conflict =
     record {
-      space = space_by (part_at vs.base s.base) (part_at vs.ours s.ours) (part_at vs.theirs s.theirs);
-      text = conflict_text markers (part_at vs.ours s.ours) (part_at vs.theirs s.theirs);
+      space = space_by (texts_at vs.base s.base) (texts_at vs.ours s.ours) (texts_at vs.theirs s.theirs);
+      text = conflict_text markers (texts_at vs.ours s.ours) (texts_at vs.theirs s.theirs);
       is_text = false;
     }
     ∷ []
@@ -122,12 +121,12 @@ text_after is_text [] end = space_at_end end
 text_after is_text (p ∷ ps) end = space_between is_text p.space ++ (p.text ++ text_after p.is_text ps end)
 
 -- the white space before the first unit of a version, if it has one
-abbrev pub first_space : List FilePart → List ℕ → List ℕ
+abbrev pub first_space : List UnitTexts → List ℕ → List ℕ
 first_space [] other = other
 first_space (p ∷ ps) other = p.space
 
 -- the text of all parts, if the main version has these ones
-abbrev pub text_by : List FilePart → List MergedPart → List ℕ → List ℕ
+abbrev pub text_by : List UnitTexts → List MergedPart → List ℕ → List ℕ
 text_by main [] end = end
 text_by main (p ∷ ps) end = first_space main p.space ++ (p.text ++ text_after p.is_text ps end)
 
@@ -143,4 +142,4 @@ merged_end vs = cond (bytes_eq (end_of vs.ours) (end_of vs.base)) (end_of vs.the
 
 -- the merged text
 abbrev pub merged_text : MarkersReading → Versions → List ℕ
-merged_text markers vs = text_by (parts_of (main_by vs (order_choice vs))) (merged_parts markers vs) (merged_end vs)
+merged_text markers vs = text_by (texts_of (main_by vs (order_choice vs))) (merged_parts markers vs) (merged_end vs)

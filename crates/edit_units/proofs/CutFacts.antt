@@ -4,10 +4,12 @@ use Rattle.std.specs.Prelude.{◌==◌, not}
 use Rattle.std.specs.Char.{is_ascii_whitespace}
 use Rattle.std.proofs.lemmas.Str.{encode_ascii, len_utf8_ascii}
 use Rattle.std.specs.List.{AllByRecursion, flat_map, list_all}
+use Rattle.std.specs.Str.{IsCharBoundary}
 use Rattle.std.specs.declared.ops.Range.{Range}
 use Rattle.std.proofs.lemmas.Bool.{and_parts, cases_lt, eqb-true}
 use Rattle.std.proofs.lemmas.List.{drop-drop, drop_all, length-drop, length-take-le, take-append-drop, take_all}
 use Rattle.bib_text.specs.Places.{AtEnd, CharAt, Place, between, place}
+use Rattle.bib_text.proofs.BoundaryFacts.{char_boundary}
 use Rattle.bib_text.proofs.ListFacts.{passed_append, take_to_end}
 use Rattle.bib_text.proofs.PlaceFacts.{Ahead, ahead_char, ahead_run, char_left, char_within, stops_at_end, test_clash}
 use Rattle.bib_syntax.specs.Grammar.{File, LineComment, longest}
@@ -16,17 +18,19 @@ use Rattle.bib_syntax.specs.Lines.{AreLinesFrom, InLine, IsLine, LineReading}
 use Rattle.bib_syntax.specs.Lines.{InLine as in_line}
 use Rattle.bib_syntax.specs.Reading.{FileReading, empty_reading, then}
 use Rattle.bib_syntax.proofs.FileFacts.{ahead_block, ahead_line_comment, is_skipped}
-use Rattle.bib_syntax.proofs.LineReadFacts.{ahead_in_line}
+use Rattle.bib_syntax.proofs.LineReadFacts.{ahead_in_line, lines_are_file}
 use Rattle.edit_entries.specs.Changes.{IsReadPlaceless}
 use Rattle.edit_entries.specs.Edits.{moved_file}
+use Rattle.edit_entries.proofs.CutFacts.{cut_file}
 use Rattle.edit_entries.proofs.ElementFacts.{one_byte, parted}
 use Rattle.edit_entries.proofs.GrammarFacts.{block_there, line_comment_there, moved-then}
 use Rattle.edit_entries.proofs.PlacelessFacts.{file_placeless}
 use Rattle.edit_entries.proofs.ZoneFacts.{Frame, Inside, Zone, char_there, inside_between, run_there, there}
 use Rattle.edit_units.proofs.JoinFacts.{feed_between}
 use Rattle.edit_units.proofs.UnitFacts.{line_apart}
-use Rattle.edit_units.specs.Parts.{AreItsParts, AreParts, IsFileEnd, IsLineEnd, IsNextPart, IsWhite, end_of_units, parts_from, text_of_parts}
-use Rattle.edit_units.specs.Units.{AreUnits, UnitReading, begin_filled, has_no_block, is_above, is_blank_line, line_bytes, line_units, with_line}
+use Rattle.edit_units.specs.Cuts.{AreUnitsCut}
+use Rattle.edit_units.specs.Parts.{AreItsParts, AreParts, IsFileEnd, IsLineEnd, IsNextPart, IsWhite, parts_from, text_of_parts}
+use Rattle.edit_units.specs.Units.{AreUnits, UnitReading, end_of_units, begin_filled, has_no_block, is_above, is_blank_line, line_bytes, line_units, with_line}
 
 -- ---- a line by itself
 
@@ -158,6 +162,7 @@ record AreNext (text : List ℕ) (at : ℕ) (units : List UnitReading) : Type 0 
   parts : AllByRecursion IsNextPart (parts_from text at units)
   ends : IsFileEnd (drop (end_of_units at units) text)
   whole : drop at text ≡ text_of_parts (parts_from text at units) (drop (end_of_units at units) text)
+  cuts : IsCharBoundary text at → AreUnitsCut text at units
 
 -- the text from an offset on: a unit, and the parts after it
 whole_from : (text : List ℕ) (at : ℕ) (u : UnitReading) (us : List UnitReading) → at ≤ u.start → u.start ≤ u.end
@@ -171,10 +176,21 @@ whole_from text at u us after order rest =
     cut_at text at u.start after ∙ ap (λ t. space ++ t) (cut_at text u.start u.end order ∙ ap (λ t. own ++ t) rest)
     ∙ sym (append_assoc (space ++ own) others end ∙ append_assoc space own (others ++ end))
 
+-- a unit and those after it may be cut out
+cuts_from : (text : List ℕ) (at : ℕ) (u : UnitReading) (us : List UnitReading) → at ≤ u.start → u.start ≤ u.end → IsCharBoundary text u.start
+    → IsCharBoundary text u.end → (IsCharBoundary text u.end → AreUnitsCut text u.end us) → IsCharBoundary text at
+    → AreUnitsCut text at (u ∷ us)
+cuts_from text at u us after order start_cut end_cut others cut = (
+  record { ordered = after; start_cut = cut; end_cut = start_cut },
+  record { ordered = order; start_cut = start_cut; end_cut = end_cut },
+  others end_cut,
+)
+
 -- units from the start of a line on
 data AreCut (text : List ℕ) (at : ℕ) : List UnitReading → Type 0 where
   none : IsWhite (drop at text) → AreCut text at []
   some : {u : UnitReading} {us : List UnitReading} → at ≤ u.start → u.start ≤ u.end → u.end ≤ length text
+      → IsCharBoundary text u.start → IsCharBoundary text u.end
       → IsWhite (between (place text at) (place text u.start))
       → IsReadPlaceless u.says (between (place text u.start) (place text u.end)) → AreNext text u.end us → AreCut text at (u ∷ us)
 
@@ -185,8 +201,9 @@ next_from text {end} {v} same feed (AreCut.none white) = record {
   parts = _;
   ends = inr (subst IsLineEnd (sym (feed_rest text same feed)) (IsLineEnd.feed white));
   whole = refl;
+  cuts = λ start. start;
 }
-next_from text {end} {v} same feed (AreCut.some {u = u} {us = us} after order fits white read others) = record {
+next_from text {end} {v} same feed (AreCut.some {u = u} {us = us} after order fits start_cut end_cut white read others) = record {
   parts = (
     record {
       space = subst IsLineEnd
@@ -200,6 +217,7 @@ next_from text {end} {v} same feed (AreCut.some {u = u} {us = us} after order fi
   );
   ends = others.ends;
   whole = whole_from text end.at u us (omega (arith, after, feed.next)) order others.whole;
+  cuts = cuts_from text end.at u us (omega (arith, after, feed.next)) order start_cut end_cut others.cuts;
 }
 
 -- a blank line before units
@@ -211,8 +229,9 @@ blank_before text at {end} {v} same feed from fits line (AreCut.none white) = Ar
     (cut_at text at end.at from
     ∙ ap (λ t. between (place text at) (place text end.at) ++ t) (feed_rest text same feed)))
     (passed_append is_ascii_whitespace (between (place text at) (place text end.at)) (10 ∷ drop v.at text) line white))
-blank_before text at {end} {v} same feed from fits line (AreCut.some {u = u} {us = us} after order within white read others) = AreCut.some
-    (omega (arith, from, after, feed.next)) order within
+blank_before text at {end} {v} same feed from fits line
+    (AreCut.some {u = u} {us = us} after order within start_cut end_cut white read others) = AreCut.some
+    (omega (arith, from, after, feed.next)) order within start_cut end_cut
     (subst IsWhite (sym (feed_split text at u.start same feed from after (omega (arith, order, within))))
     (passed_append is_ascii_whitespace (between (place text at) (place text end.at)) (10 ∷ between (place text v.at) (place text u.start))
     line white))
@@ -254,9 +273,10 @@ unit_of_line l = record { start = l.start; end = l.end; blocks = l.blocks; says 
 
 -- a line that belongs to the unit of the next line
 joined_cut : (text : List ℕ) {u end v : Place} (l : LineReading) (first : UnitReading) (us : List UnitReading) → u.text ≡ text
-    → IsLine u l end → CharAt end 10 v → has_no_block l ≡ true → first.start ≡ v.at → AreCut text v.at (first ∷ us)
+    → IsLine u l end → CharAt end 10 v → has_no_block l ≡ true → first.start ≡ v.at → IsCharBoundary text u.at
+    → AreCut text v.at (first ∷ us)
     → AreCut text u.at ((record first { start = l.start }) ∷ us)
-joined_cut text {u} {end} {v} l first us same line feed empty starts (AreCut.some after order fits white read others) =
+joined_cut text {u} {end} {v} l first us same line feed empty starts cut (AreCut.some after order fits start_cut end_cut white read others) =
     let ahead = ahead_in_line line.inside in
     let ends : end.text ≡ text = ahead.text ∙ same in
     let line_fits : end.at ≤ length text = omega (arith, char_left feed, ap length ends) in
@@ -273,6 +293,7 @@ joined_cut text {u} {end} {v} l first us same line feed empty starts (AreCut.som
     feed_between (line_bytes text l) (between (place text first.start) (place text first.end)) l.says first.says
     (line_alone text l same line line_fits) read in
     AreCut.some (omega (arith, line.starts)) (omega (arith, line.starts, ahead.at, feed.next, to)) fits
+    (subst (IsCharBoundary text) (sym line.starts) cut) end_cut
     (white_start text u.at l.start line.starts)
     (subst (λ r. IsReadPlaceless r (between (place text l.start) (place text first.end))) (ap (λ r. then r first.says) silent)
     (subst (IsReadPlaceless (then l.says first.says)) (sym split) both))
@@ -280,11 +301,12 @@ joined_cut text {u} {end} {v} l first us same line feed empty starts (AreCut.som
 
 -- a line that is a unit by itself
 apart_cut : (text : List ℕ) {u end : Place} (l : LineReading) (us : List UnitReading) → u.text ≡ text → IsLine u l end
-    → end.at ≤ length text → AreNext text l.end us → AreCut text u.at (unit_of_line l ∷ us)
-apart_cut text {u} {end} l us same line fits others =
+    → end.at ≤ length text → IsCharBoundary text u.at → IsCharBoundary text end.at → AreNext text l.end us
+    → AreCut text u.at (unit_of_line l ∷ us)
+apart_cut text {u} {end} l us same line fits cut cut' others =
     let ahead = ahead_in_line line.inside in
-    AreCut.some {u = unit_of_line l} (omega (arith, line.starts)) (omega (arith, line.starts, line.ends, ahead.at)) (omega
-    (arith, line.ends, fits))
+    AreCut.some {u = unit_of_line l} (omega (arith, line.starts)) (omega (arith, line.starts, line.ends, ahead.at))
+    (omega (arith, line.ends, fits)) (subst (IsCharBoundary text) (sym line.starts) cut) (subst (IsCharBoundary text) (sym line.ends) cut')
     (white_start text u.at l.start line.starts) (line_alone text l same line fits) others
 
 -- the bytes of the last line are the rest of the text
@@ -294,29 +316,29 @@ rest_of_line text {u} {v} l same line at_end =
     ap (λ n. take (n - l.start) (drop l.start text)) last ∙ take_to_end text l.start ∙ ap (λ n. drop n text) line.starts
 
 -- the last line, blank or not
-last_cut : (text : List ℕ) {u v : Place} (l : LineReading) (blank : Bool) → u.text ≡ text → IsLine u l v → AtEnd v
+last_cut : (text : List ℕ) {u v : Place} (l : LineReading) (blank : Bool) → u.text ≡ text → IsLine u l v → AtEnd v → IsCharBoundary text u.at
     → is_blank_line text l ≡ blank
     → AreLinesCut text u.at (not blank) (cond blank [] (unit_of_line l ∷ []))
-last_cut text l true same line at_end is = record {
+last_cut text l true same line at_end cut is = record {
   cut = AreCut.none
       (subst IsWhite (rest_of_line text l same line at_end)
       (and_parts (has_no_block l) (list_all is_ascii_whitespace (line_bytes text l)) is).1);
   first = λ is. absurd (test_clash false is refl);
 }
-last_cut text {u} {v} l false same line at_end is =
+last_cut text {u} {v} l false same line at_end cut is =
     let last : l.end ≡ length text = omega (arith, line.ends, at_end, ap length (ahead_in_line line.inside).text, ap length same) in
     record {
-      cut = apart_cut text l [] same line (omega (arith, line.ends, last))
-          (record { parts = _; ends = inl (ap (λ n. drop n text) last ∙ drop_all (length text) text (omega arith)); whole = refl });
+      cut = apart_cut text l [] same line (omega (arith, line.ends, last)) cut (cut_file text ((ahead_in_line line.inside).text ∙ same) (file.end at_end))
+          (record { parts = _; ends = inl (ap (λ n. drop n text) last ∙ drop_all (length text) text (omega arith)); whole = refl; cuts = λ start. start });
       first = λ is. record { unit = unit_of_line l; others = []; is = refl; starts = line.starts };
     }
 
 -- a line before others, blank or not
 more_cut : (text : List ℕ) {u end v : Place} (l : LineReading) (ls : List LineReading) (blank joins : Bool) → u.text ≡ text → IsLine u l end
     → CharAt end 10 v → is_blank_line text l ≡ blank → is_above text l ls ≡ joins
-    → AreLinesCut text v.at (begin_filled text ls) (line_units text ls)
+    → IsCharBoundary text u.at → AreLinesCut text v.at (begin_filled text ls) (line_units text ls)
     → AreLinesCut text u.at (not blank) (cond blank (line_units text ls) (with_line joins l (line_units text ls)))
-more_cut text {u} {end} {v} l ls true joins same line feed is above others =
+more_cut text {u} {end} {v} l ls true joins same line feed is above cut others =
     let ahead = ahead_in_line line.inside in
     record {
       cut = blank_before text u.at (ahead.text ∙ same) feed ahead.at
@@ -327,32 +349,35 @@ more_cut text {u} {end} {v} l ls true joins same line feed is above others =
           others.cut;
       first = λ is. absurd (test_clash false is refl);
     }
-more_cut text {u} {end} {v} l ls false false same line feed is above others =
+more_cut text {u} {end} {v} l ls false false same line feed is above cut others =
     let ahead = ahead_in_line line.inside in
     let next : AreNext text l.end (line_units text ls) =
     subst (λ n. AreNext text n (line_units text ls)) (sym line.ends) (next_from text (ahead.text ∙ same) feed others.cut) in
     let whole = line_apart l (line_units text ls) in
     record {
       cut = subst (AreCut text u.at) (sym whole)
-          (apart_cut text l (line_units text ls) same line (omega (arith, char_left feed, ap length ahead.text, ap length same)) next);
+          (apart_cut text l (line_units text ls) same line (omega (arith, char_left feed, ap length ahead.text, ap length same)) cut
+          (subst (λ t. IsCharBoundary t end.at) (ahead.text ∙ same) (char_boundary feed)) next);
       first = λ is. record { unit = unit_of_line l; others = line_units text ls; is = whole; starts = line.starts };
     }
-more_cut text {u} {end} {v} l ls false true same line feed is above others =
+more_cut text {u} {end} {v} l ls false true same line feed is above cut others =
     let joins = and_parts (begin_filled text ls) (has_no_block l) above in
     let first = others.first joins.0 in
     let whole : with_line true l (line_units text ls)
     ≡ (record first.unit { start = l.start }) ∷ first.others = ap (with_line true l) first.is in
     record {
       cut = subst (AreCut text u.at) (sym whole)
-          (joined_cut text l first.unit first.others same line feed joins.1 first.starts (subst (AreCut text v.at) first.is others.cut));
+          (joined_cut text l first.unit first.others same line feed joins.1 first.starts cut (subst (AreCut text v.at) first.is others.cut));
       first = λ is. record { unit = record first.unit { start = l.start }; others = first.others; is = whole; starts = line.starts };
     }
 
 lines_cut : (text : List ℕ) {u : Place} {ls : List LineReading} → u.text ≡ text → AreLinesFrom u ls
     → AreLinesCut text u.at (begin_filled text ls) (line_units text ls)
-lines_cut text same (AreLinesFrom.last {l = l} line at_end) = last_cut text l (is_blank_line text l) same line at_end refl
+lines_cut text same (AreLinesFrom.last {l = l} line at_end) =
+    last_cut text l (is_blank_line text l) same line at_end (cut_file text same (lines_are_file (AreLinesFrom.last line at_end))) refl
 lines_cut text same (AreLinesFrom.more {l = l} {ls = ls} line feed rest) =
     more_cut text l ls (is_blank_line text l) (is_above text l ls) same line feed refl refl
+    (cut_file text same (lines_are_file (AreLinesFrom.more line feed rest)))
     (lines_cut text (feed.same ∙ (ahead_in_line line.inside).text ∙ same) rest)
 
 -- ---- the parts of a text
@@ -361,15 +386,27 @@ lines_cut text same (AreLinesFrom.more {l = l} {ls = ls} line feed rest) =
 cut_parts : (text : List ℕ) (at : ℕ) (us : List UnitReading) → AreCut text at us
     → AreParts (parts_from text at us) (drop (end_of_units at us) text)
 cut_parts text at [] (AreCut.none white) = AreParts.none white
-cut_parts text at (u ∷ us) (AreCut.some after order fits white read others) = AreParts.some white read others.parts others.ends
+cut_parts text at (u ∷ us) (AreCut.some after order fits start_cut end_cut white read others) = AreParts.some white read others.parts others.ends
 
 -- the rest of a text is its parts from there on
 cut_whole : (text : List ℕ) (at : ℕ) (us : List UnitReading) → AreCut text at us
     → drop at text ≡ text_of_parts (parts_from text at us) (drop (end_of_units at us) text)
 cut_whole text at [] cut = refl
-cut_whole text at (u ∷ us) (AreCut.some after order fits white read others) = whole_from text at u us after order others.whole
+cut_whole text at (u ∷ us) (AreCut.some after order fits start_cut end_cut white read others) = whole_from text at u us after order others.whole
 
 pub units_are_parts : (text : List ℕ) (units : List UnitReading) → AreUnits text units → AreItsParts text units
 units_are_parts text units are =
     let cut : AreCut text 0 units = subst (AreCut text 0) (sym are.units_are) (lines_cut text refl are.are).cut in
     record { are = cut_parts text 0 units cut; whole = cut_whole text 0 units cut }
+
+-- the units of a text may be cut out of it
+pub units_cut : (text : List ℕ) (units : List UnitReading) → AreUnits text units → AreUnitsCut text 0 units
+units_cut text units are = by units (subst (AreCut text 0) (sym are.units_are) (lines_cut text refl are.are).cut)
+  where
+    start : IsCharBoundary text 0
+    start = cut_file text refl (lines_are_file are.are)
+
+    by : (us : List UnitReading) → AreCut text 0 us → AreUnitsCut text 0 us
+    by [] cut = start
+    by (u ∷ us) (AreCut.some after order fits start_cut end_cut white read others) =
+        cuts_from text 0 u us after order start_cut end_cut others.cuts start

@@ -1,3 +1,4 @@
+pub mod Cuts
 pub mod Parts
 pub mod Units
 pub mod Views

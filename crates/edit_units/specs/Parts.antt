@@ -8,7 +8,7 @@ use Rattle.bib_text.specs.Characters as char
 use Rattle.bib_text.specs.Places.{between, place}
 use Rattle.bib_syntax.specs.Reading.{FileReading, empty_reading, then}
 use Rattle.edit_entries.specs.Changes.{IsReadPlaceless}
-use Rattle.edit_units.specs.Units.{UnitReading}
+use Rattle.edit_units.specs.Units.{UnitReading, end_of_units}
 
 -- white space, and the text of a file after it with its content, except for byte offsets
 pub record FilePart : Type 0 where
@@ -55,11 +55,6 @@ parts_from text at [] = []
 parts_from text at (u ∷ us) =
     record { space = between (place text at) (place text u.start); text = between (place text u.start) (place text u.end); says = u.says }
     ∷ parts_from text u.end us
-
--- the byte offset at which the last of these units ends, or this one if there is none
-abbrev pub end_of_units : ℕ → List UnitReading → ℕ
-end_of_units at [] = at
-end_of_units at (u ∷ us) = end_of_units u.end us
 
 -- the units of a text are its parts: their texts have their contents, and nothing but white space is around them
 pub record AreItsParts (text : List ℕ) (units : List UnitReading) : Type 0 where

@@ -58,3 +58,20 @@ pub record AreUnits (text : List ℕ) (units : List UnitReading) : Type 0 where
   pub lines : List LineReading
   pub are : AreLinesFrom (place text 0) lines
   pub units_are : units ≡ line_units text lines
+
+-- a unit as texts: the white space before it, and its bytes
+pub record UnitTexts : Type 0 where
+  pub space : List ℕ
+  pub text : List ℕ
+
+-- the texts of units from a byte offset on
+abbrev pub texts_from : List ℕ → ℕ → List UnitReading → List UnitTexts
+texts_from text at [] = []
+texts_from text at (u ∷ us) =
+    record { space = between (place text at) (place text u.start); text = between (place text u.start) (place text u.end) }
+    ∷ texts_from text u.end us
+
+-- the byte offset at which the last of these units ends, or this one if there is none
+abbrev pub end_of_units : ℕ → List UnitReading → ℕ
+end_of_units at [] = at
+end_of_units at (u ∷ us) = end_of_units u.end us
