@@ -4,6 +4,9 @@
 //! entry has. `making` makes these calls one after another. Texts come from `texts` and `markup`, names from `people`, dates from `dates`.
 //! `objects` returns the text of an item as JSON: `members` puts its members in the order of their names, and `writing` writes it token
 //! by token. `sentence_items` changes the titles of an item to sentence case, by the rules in `sentence`.
+//!
+//! `variables` has the tables of types and variables, with one row each. `bib_from_csl` reads the same tables to convert items to entries.
+//! `named` searches tables of texts.
 #![tactic(auto)]
 
 mod adding;
@@ -17,6 +20,7 @@ pub mod laws;
 pub mod making;
 pub mod markup;
 mod members;
+pub mod named;
 pub mod notes;
 mod numbers;
 pub mod objects;
