@@ -8,7 +8,7 @@ use Rattle.bib_entry.specs.declared.entry.Entry.{Entry}
 use Rattle.bib_csl.specs.declared.item.Field.{Field}
 use Rattle.bib_csl.specs.declared.item.ItemDate.{ItemDate}
 use Rattle.bib_csl.specs.declared.item.Name.{Name}
-use Rattle.bib_csl.specs.declared.variables.ItemType.{ItemType}
+use Rattle.bib_csl.specs.declared.item_types.ItemType.{ItemType}
 use Rattle.bib_csl.specs.declared.variables.Variable.{Variable}
 use Rattle.bib_csl.specs.declared.variables.Variable.TheVariants.{Title, TitleShort, VolumeTitle, OriginalTitle, ContainerTitle, ContainerTitleShort, CollectionTitle, Event, EventTitle, EventPlace, Publisher, PublisherPlace, OriginalPublisher, OriginalPublisherPlace, Genre, Volume, NumberOfVolumes, PartNumber, Issue, Number, CollectionNumber, Edition, ChapterNumber, Page, NumberOfPages, Version, Doi, Url, Pmid, Isbn, Issn, Archive, ArchiveLocation, CallNumber, Abstract, Annote, Note, Status, Keyword, Language, Author, Editor, Compiler, Director, Organizer, Translator, ContainerAuthor, Issued, Accessed, EventDate, OriginalDate}
 use Rattle.bib_csl.specs.Adding.{given_listed, given_plain, given_rich, given_rich_or, given_title}

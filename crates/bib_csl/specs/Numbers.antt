@@ -9,7 +9,7 @@ use Rattle.bib_chunks.specs.Values.{Value, text}
 use Rattle.bib_entry.specs.declared.entry.Entry.{Entry}
 use Rattle.bib_values.specs.Ranges.{is_dash, ranges_read}
 use Rattle.bib_csl.specs.declared.item.Field.{Field}
-use Rattle.bib_csl.specs.declared.variables.ItemType.{ItemType}
+use Rattle.bib_csl.specs.declared.item_types.ItemType.{ItemType}
 use Rattle.bib_csl.specs.declared.variables.Variable.TheVariants.{Volume, NumberOfVolumes, PartNumber, Issue, Number, CollectionNumber, Edition, ChapterNumber, Page, NumberOfPages, Version}
 use Rattle.bib_csl.specs.Adding.{given_rich}
 use Rattle.bib_csl.specs.Fields.{given}

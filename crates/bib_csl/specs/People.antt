@@ -18,8 +18,8 @@ use Rattle.bib_csl.specs.declared.item.Field.{Field}
 use Rattle.bib_csl.specs.declared.item.Name.{Name}
 use Rattle.bib_csl.specs.declared.item.Name.TheVariants.{Literal, Parts}
 use Rattle.bib_csl.specs.declared.item.NameParts.{NameParts}
-use Rattle.bib_csl.specs.declared.variables.ItemType.{ItemType}
-use Rattle.bib_csl.specs.declared.variables.ItemType.TheVariants as item_type
+use Rattle.bib_csl.specs.declared.item_types.ItemType.{ItemType}
+use Rattle.bib_csl.specs.declared.item_types.ItemType.TheVariants as item_type
 use Rattle.bib_csl.specs.declared.variables.Variable.{Variable}
 use Rattle.bib_csl.specs.declared.variables.Variable.TheVariants.{Author, Editor, Compiler, Director, Organizer, Translator, ContainerAuthor}
 use Rattle.bib_csl.specs.Fields.{given_people}

@@ -7,8 +7,8 @@ use Prim.Native.String.{String}
 use Rattle.bib_text.specs.Enums.{words}
 use Rattle.bib_csl.specs.declared.variables.Form.{Form}
 use Rattle.bib_csl.specs.declared.variables.Form.TheVariants.{Tagged, Listed, Plain, Names, Date}
-use Rattle.bib_csl.specs.declared.variables.ItemType.{ItemType}
-use Rattle.bib_csl.specs.declared.variables.ItemType.TheVariants as item_type
+use Rattle.bib_csl.specs.declared.item_types.ItemType.{ItemType}
+use Rattle.bib_csl.specs.declared.item_types.ItemType.TheVariants as item_type
 use Rattle.bib_csl.specs.declared.variables.Variable.{Variable}
 use Rattle.bib_csl.specs.declared.variables.Variable.TheVariants as variable
 

@@ -4,7 +4,7 @@ use Rattle.std.specs.Prelude.{ℕ, true, ◌||◌, ◌==◌, if◌then◌else◌
 use Rattle.bib_entry.specs.declared.entry.Entry.{Entry}
 use Rattle.bib_entry.specs.Fields.{field_or}
 use Rattle.bib_csl.specs.declared.item.Field.{Field}
-use Rattle.bib_csl.specs.declared.variables.ItemType.{ItemType}
+use Rattle.bib_csl.specs.declared.item_types.ItemType.{ItemType}
 use Rattle.bib_csl.specs.declared.variables.Variable.TheVariants.{Title, TitleShort, VolumeTitle, ContainerTitle, ContainerTitleShort, CollectionTitle, OriginalTitle, Event, EventTitle, EventPlace}
 use Rattle.bib_csl.specs.Adding.{given_rich, given_title}
 use Rattle.bib_csl.specs.Fields.{given}

@@ -3,8 +3,8 @@
 use Rattle.std.specs.Prelude.{ℕ, Bool, true, false, List, if◌then◌else◌, codes, bytes_eq, unwrap_or}
 use Rattle.bib_tables.specs.declared.mechanics.EntryType.{EntryType}
 use Rattle.bib_tables.specs.declared.mechanics.EntryType.TheVariants.{Article, Book, Booklet, InBook, InCollection, InProceedings, Manual, MastersThesis, PhdThesis, Misc, Proceedings, TechReport, Unpublished, MvBook, BookInBook, SuppBook, Periodical, SuppPeriodical, Collection, MvCollection, SuppCollection, Reference, MvReference, InReference, MvProceedings, Report, Patent, Thesis, Online, Software, Dataset, Set, XData, Unknown}
-use Rattle.bib_csl.specs.declared.variables.ItemType.{ItemType}
-use Rattle.bib_csl.specs.declared.variables.ItemType.TheVariants as item_type
+use Rattle.bib_csl.specs.declared.item_types.ItemType.{ItemType}
+use Rattle.bib_csl.specs.declared.item_types.ItemType.TheVariants as item_type
 use Rattle.bib_csl.specs.Tables.{item_type_by_own_type}
 
 -- the type of an article, by the text of its field `entrysubtype`

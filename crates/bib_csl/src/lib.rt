@@ -5,8 +5,8 @@
 //! `objects` returns the text of an item as JSON: `members` puts its members in the order of their names, and `writing` writes it token
 //! by token. `sentence_items` changes the titles of an item to sentence case, by the rules in `sentence`.
 //!
-//! `variables` has the tables of types and variables, with one row each. `bib_from_csl` reads the same tables to convert items to entries.
-//! `named` searches tables of texts.
+//! `item_types` has the table of types, and `variables` has the table of variables, with one row each. `bib_from_csl` reads the same tables
+//! to convert items to entries. `named` searches tables of texts.
 #![tactic(auto)]
 
 mod adding;
@@ -16,6 +16,7 @@ pub mod dates;
 mod fields;
 pub mod identifiers;
 pub mod item;
+pub mod item_types;
 pub mod laws;
 pub mod making;
 pub mod markup;

@@ -12,9 +12,10 @@ ghost use Rattle.bib_csl.specs.declared.variables.Variable.{Variable as AnyVaria
 
 use crate::fields::add_names;
 use crate::item::{Field, Name, NameParts};
+use crate::item_types::ItemType;
 use crate::standing::{says_others, shown};
 use crate::tags::loosened;
-use crate::variables::{ItemType, Variable};
+use crate::variables::Variable;
 use bib_chunks::chunk::cuts::{and_list, comma_list};
 use bib_chunks::chunk::{Chunk, ChunksRef, format_verbatim};
 use bib_entry::entry::Entry;

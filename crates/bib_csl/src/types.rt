@@ -3,7 +3,7 @@
 ghost use Rattle.std.specs.Prelude.{◌≡◌};
 ghost use Rattle.bib_csl.specs.Types.{type_of_article, item_type_named, type_of_unpublished, item_type_of, is_article, is_in_book, is_volume, counts_issues, counts_series};
 
-use crate::variables::ItemType;
+use crate::item_types::ItemType;
 use bib_tables::mechanics::EntryType;
 
 // Returns the type of an article, by the text of the field `entrysubtype`.

@@ -3,8 +3,8 @@
 use Rattle.std.specs.Prelude.{ℕ, Bool, true, false, List, [], codes, bytes_eq, unwrap_or}
 use Rattle.std.specs.List.{list_any}
 use Rattle.bib_text.specs.Enums.{words}
-use Rattle.bib_csl.specs.declared.variables.ItemType.{ItemType}
-use Rattle.bib_csl.specs.declared.variables.ItemType.TheVariants as item_type
+use Rattle.bib_csl.specs.declared.item_types.ItemType.{ItemType}
+use Rattle.bib_csl.specs.declared.item_types.ItemType.TheVariants as item_type
 use Rattle.bib_csl.specs.Tables.{item_type_by_name, written_entry_type}
 
 -- whether a name is one of the words of a list that spaces separate

@@ -3,8 +3,8 @@
 use Rattle.std.specs.Prelude.{ℕ, Bool, ◌&&◌, ◌||◌, if◌then◌else◌, List, [], codes, Option}
 use Rattle.std.specs.Option.{option_map, option_map_or}
 use Rattle.bib_csl.specs.declared.variables.Form.{Form}
-use Rattle.bib_csl.specs.declared.variables.ItemType.{ItemType}
-use Rattle.bib_csl.specs.declared.variables.ItemType.TheVariants as item_type
+use Rattle.bib_csl.specs.declared.item_types.ItemType.{ItemType}
+use Rattle.bib_csl.specs.declared.item_types.ItemType.TheVariants as item_type
 use Rattle.bib_csl.specs.declared.variables.Variable.{Variable}
 use Rattle.bib_csl.specs.declared.variables.Variable.TheVariants as variable
 use Rattle.bib_csl.specs.Tables.{field_in_table, variable_form, variable_named}

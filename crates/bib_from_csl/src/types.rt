@@ -3,7 +3,7 @@
 ghost use Rattle.std.specs.Prelude.{◌≡◌};
 ghost use Rattle.bib_from_csl.specs.EntryTypes as spec;
 
-use bib_csl::variables::ItemType;
+use bib_csl::item_types::ItemType;
 
 // Returns the type of an item whose type has this name; `Document` for an unknown name.
 pub(crate) fn item_type_for(name: &str) -> ItemType

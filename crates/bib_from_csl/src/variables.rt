@@ -4,8 +4,9 @@ ghost use Rattle.std.specs.Prelude.{◌≡◌};
 ghost use Rattle.bib_from_csl.specs.Variables as spec;
 
 use crate::types::is_of_institution;
+use bib_csl::item_types::ItemType;
 use bib_csl::types::{counts_issues, counts_series, is_article, is_in_book, is_volume};
-use bib_csl::variables::{Form, ItemType, Variable};
+use bib_csl::variables::{Form, Variable};
 
 // Returns the form of the variable with a name, or `None` for an unknown name.
 #[tactic(auto, unfolding(crate::specs::Variables::form_of))]

@@ -1,5 +1,5 @@
 use Rattle.bib_csl.specs.Tables.{item_type_by_own_type}
-use Rattle.bib_csl.proofs.variables.ItemType.from_own_type.Goals as goal
+use Rattle.bib_csl.proofs.item_types.ItemType.from_own_type.Goals as goal
 
 -- the table of the code is equal to the table of the definition, row by row
 pub returns : goal.returns

@@ -1,6 +1,6 @@
 use Rattle.std.proofs.Common.{◌≡◌, drop}
 use Rattle.bib_csl.specs.TableRows.{first_type, is_of_type}
-use Rattle.bib_csl.proofs.variables.find_type.Given as goal
+use Rattle.bib_csl.proofs.item_types.find_type.Given as goal
 
 -- a search from this row on finds the same type as a search of all rows
 abbrev pub invariant-loop-row : goal.invariant-loop-row
