@@ -16,7 +16,7 @@ use Rattle.bib_csl.specs.Fields.{given}
 use Rattle.bib_csl.specs.Identifiers.{named_address}
 use Rattle.bib_csl.specs.Named.{pair, text_named}
 use Rattle.bib_csl.specs.Publishing.{named_publisher}
-use Rattle.bib_csl.specs.Texts.{field, shown_field, rich_text, rich_text_or, either, joined_by_mark}
+use Rattle.bib_csl.specs.Texts.{field, shown_field, rich_text, either, joined_by_mark}
 use Rattle.bib_csl.specs.Ways.{begins_with_address, way_as_address, way_of}
 
 -- the tag of a language (BCP 47)

@@ -1,7 +1,7 @@
 -- Meaning: words of public contracts.
 -- The tables of types of items and of their variables. Each type and each variable has one row, for both directions: entries as items, and
 -- items as entries.
-use Rattle.std.specs.Prelude.{ℕ, Bool, ◌||◌, List, [], ◌∷◌, Option, Some, None, bytes_eq, codes, find}
+use Rattle.std.specs.Prelude.{ℕ, Bool, ◌||◌, List, [], ◌∷◌, Option, bytes_eq, codes, find}
 use Rattle.std.specs.List.{list_any}
 use Prim.Native.String.{String}
 use Rattle.bib_text.specs.Enums.{words}

@@ -8,7 +8,7 @@ use Rattle.bib_csl.specs.declared.item_types.ItemType.{ItemType}
 use Rattle.bib_csl.specs.declared.variables.Variable.TheVariants.{Title, TitleShort, VolumeTitle, ContainerTitle, ContainerTitleShort, CollectionTitle, OriginalTitle, Event, EventTitle, EventPlace}
 use Rattle.bib_csl.specs.Adding.{given_rich, given_title}
 use Rattle.bib_csl.specs.Fields.{given}
-use Rattle.bib_csl.specs.Texts.{marked_field, title_text, rich_text, either, joined_by_mark, series_named}
+use Rattle.bib_csl.specs.Texts.{marked_field, title_text, either, joined_by_mark, series_named}
 use Rattle.bib_csl.specs.Types.{is_article, is_in_book, is_volume}
 
 -- a title with its subtitle and its addition, which are in the fields `subtitle` and `addon`

@@ -204,6 +204,7 @@ impl ItemType {
         }
     }
 
+    // Returns the row of the type.
     fn row(self) -> &'static TypeRow
         ensures { type_row_meaning result.now ≡ spec.item_type_row self }
     {

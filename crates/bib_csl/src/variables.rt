@@ -374,6 +374,7 @@ impl Variable {
         field
     }
 
+    // Returns the row of the variable.
     fn row(self) -> &'static VariableRow
         ensures { variable_row_meaning result.now ≡ spec.variable_row self }
     {
