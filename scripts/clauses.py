@@ -13,7 +13,9 @@ SIGNATURE = re.compile(r"(?:(?:abbrev|unfoldable|pub) )+([\w']+) :")
 TOKEN = re.compile(r'"((?:[^"\\]|\\.)*)"|([()])|([^\s()"]+)')
 INFIX = ("++", "∷", "&&", "||", "==", "+", "-", ",")
 # calls that have their first argument, or their second one if the first is empty
-FIRST_OF = ("first_name", "either", "unwrap_or", "option_or")
+FIRST_OF = ("first_name", "either", "unwrap_or", "option_or", "first_or")
+# variables with the content of their field in the table of variables
+BY_ROW = ("given_plain", "given_title", "given_rich", "given_rich_or", "given_listed", "given_people_in")
 # the key for all other texts and constructors
 ANY = "any other"
 # a field of records and not of BibLaTeX
@@ -51,11 +53,23 @@ def replaced(words, values):
     return words if isinstance(words, Text) else values.get(words, words)
 
 
+def with_fields(words):
+    """The words of an expression with one list for each access to a field, such as `.name` and the expression before it."""
+    found = []
+    for it in words:
+        if type(it) is str and re.match(r"\.[a-z]", it) and found and isinstance(found[-1], list):
+            found.append([it, found.pop()])
+        else:
+            found.append(it)
+    return found
+
+
 def tree(words):
     """The expression of these words: a name, a literal text, a choice, or a list of a function or an operator and its arguments. A list
     with several operators has `++` for all of them."""
     if not isinstance(words, list):
         return words
+    words = with_fields(words)
     if words[:1] == ["let"]:
         at = words.index("in")
         return tree(replaced(words[at + 1 :], {words[1]: words[3:at]}))
@@ -147,8 +161,64 @@ class Definitions:
         """The texts for which the last clause of a definition is true."""
         return self.tested(self.clauses(word)[-1][1])
 
+    def column(self, access):
+        """The texts of a field in a table of rows, by constructor, for an access to this field. A row is a call of a definition, whose
+        arguments are called as the fields."""
+        field, (table, *_) = access
+        found = {}
+        for patterns, row in self.clauses(table):
+            arguments = [it.removeprefix("_") for it in self.clauses(row[0])[0][0]]
+            found[constructor(patterns[0])] = row[1 + arguments.index(field[1:])]
+        return found
+
+    def is_access(self, it):
+        return isinstance(it, list) and type(it[0]) is str and it[0].startswith(".") and isinstance(it[1], list) and it[1][0] in self.found
+
+    def accesses(self, it):
+        """The accesses to fields of rows in an expression, and in the definitions that it cites."""
+        if self.is_access(it):
+            yield it
+        elif isinstance(it, list):
+            for part in it:
+                yield from self.accesses(part)
+        elif type(it) is str and it in self.found and len(self.clauses(it)) == 1:
+            yield from self.accesses(self.clauses(it)[0][1])
+
+    def pairs(self, word):
+        """The name and the value of each row in a list of rows."""
+        for row in self.clauses(word)[0][1][1:-1]:
+            yield str(row[1]), row[2:]
+
+    def searched(self, it):
+        """What a search in a table has for each text, or None for another expression."""
+        head = it[0] if isinstance(it, list) and type(it[0]) is str else None
+        if head == "find":
+            found = {}
+            for access in self.accesses(it[1]):
+                for case, text in self.column(access).items():
+                    for name in text.split():
+                        found.setdefault(name, ["Some", case])
+            return {**found, ANY: "None"}
+        if head == "value_named" and it[1] in self.found:
+            return {**{name: ["Some", *values] for name, values in self.pairs(it[1])}, ANY: "None"}
+        if head == "text_named" and it[1] in self.found:
+            return {**{name: values[0] for name, values in self.pairs(it[1])}, ANY: "[]"}
+        if head == "option_map" and it[1][:2] == ["λ", "pair."]:
+            at = int(it[1][2].removeprefix("pair."))
+            rows = self.cases(it[2])
+            return {name: value if value == "None" else ["Some", value[1 + at]] for name, value in rows.items()}
+        if head == "option_map_or":
+            function = it[1] if isinstance(it[1], list) else [it[1]]
+            return {name: it[3] if value == "None" else [*function, value[1]] for name, value in self.cases(it[2]).items()}
+        return None
+
     def cases(self, it):
-        """What an expression has for each text, and under ANY what it has for other texts."""
+        """What an expression has for each text or constructor, and under ANY what it has for others."""
+        found = self.searched(it)
+        if found is not None:
+            return found
+        if self.is_access(it):
+            return {case: Text(text.split()[0]) if text else "[]" for case, text in self.column(it).items()}
         if isinstance(it, Choice) and it.test == ["==", ["length", it.other], "0"]:
             return self.first_of(it.other, it.then)
         if isinstance(it, Choice):
@@ -163,8 +233,8 @@ class Definitions:
         return {ANY: it}
 
     def first_of(self, first, other):
-        rows = self.cases(first)
-        if rows.pop(ANY) not in ("[]", "None"):
+        rows = {name: value for name, value in self.cases(first).items() if name == ANY or value != "[]"}
+        if rows.pop(ANY, "[]") not in ("[]", "None"):
             raise self.unknown(first)
         return {**self.cases(other), **rows}
 
@@ -189,6 +259,12 @@ class Definitions:
             return self.values(it[1])
         if constructor(it):
             return {constructor(it)}
+        if self.is_access(it):
+            rows = self.cases(it)
+            case = constructor(it[1][1])
+            return set().union(*map(self.values, [rows[case]] if case else rows.values()))
+        if isinstance(it, list) and it[0] == "first_or":
+            return self.values(it[1]) or self.values(it[2])
         if isinstance(it, list) and it[0] in FIRST_OF:
             return self.values(it[1]) | self.values(it[2])
         if isinstance(it, list) and type(it[0]) is str and it[0] in self.found:
@@ -198,11 +274,16 @@ class Definitions:
     def results(self, call):
         """The expressions that a call can become: that of the clause for its argument, if that is a constructor, otherwise all."""
         arguments = [it[1] if constructor(it) == "Some" else it for it in call[1:]]
-        case = next(filter(None, map(constructor, arguments)), None)
-        if case:
-            rows = self.rows(call[0])
-            return [rows.get(case, rows.get(ANY, "[]"))]
-        return [value for _, value in self.clauses(call[0])]
+        at = next((at for at, it in enumerate(arguments) if constructor(it)), None)
+        if at is None:
+            return [value for _, value in self.clauses(call[0])]
+        for patterns, value in self.clauses(call[0]):
+            case = next(filter(None, map(constructor, patterns)), None)
+            if case == constructor(arguments[at]):
+                return [value]
+            if case is None:
+                return [replaced(value, {f"_{patterns[at]}": arguments[at]})]
+        return ["[]"]
 
     def table(self, word):
         """The values that a definition can have for each text or constructor, and under ANY those for others."""
@@ -213,10 +294,13 @@ class Definitions:
         return {name: min(values) for name, values in self.table(word).items() if values}
 
     def reached(self, it, seen):
-        """An expression, its parts, and the expressions of the definitions that it cites, without the tests of choices."""
+        """An expression, its parts, and the expressions of the definitions that it cites, without the tests of choices and the names in
+        tables."""
         parts = []
         if isinstance(it, Choice):
             parts = [it.then, it.other]
+        elif isinstance(it, list) and it[0] == "∷" and it[-1] == "[]":
+            parts = [part for row in it[1:-1] for part in row[2:]]
         elif isinstance(it, list):
             yield it
             parts = it
@@ -249,10 +333,14 @@ class Definitions:
 
     def variables(self):
         """Each field with a variable that contains it, in items."""
-        variable_names = self.names("variable_name")
+        variable_names, plain_fields = self.names("variable_name"), self.names("field_in_table")
         for call in self.reached("item_fields", set()):
-            if isinstance(call, list) and call[0] in ("given", "given_people", "given_date"):
-                yield from ((field, variable_names[constructor(call[1])]) for field in self.fields(call[2]))
+            variable = constructor(call[1]) if isinstance(call, list) and len(call) > 2 else None
+            if variable and call[0] in ("given", "given_people", "given_date"):
+                yield from ((field, variable_names[variable]) for field in self.fields(call[2]))
+            elif variable and call[0] in BY_ROW:
+                for field in (plain_fields[variable], *(it for it in call[3:] if isinstance(it, Text))):
+                    yield str(field), variable_names[variable]
 
     def tags(self):
         """Each field with a tag that contains it, in records."""

@@ -274,13 +274,14 @@ def entry_types(definitions, page):
         subtyped |= in_order(names(left), quoted(texts)) if texts else set()
     yield from same("types of items", "written_type_name", found, wanted)
     yield from same("entrysubtype", "subtype_of", subtyped, texts_of(definitions, "subtype_of"))
-    for name in sorted({name for name, _ in wanted} & set(examples)):
+    for name in sorted({name for name, value in wanted if (ANY, value) not in wanted} & set(examples)):
         yield f"types of items: `{name}` is an example of others, but `written_type_name` has it"
-    type_names, used = definitions.names("entry_type_name"), texts_of(definitions, "type_for_item")
-    others = {kind for kind, value in used if value != "Misc"}
-    as_misc = [text for kind, text in texts_of(definitions, "own_type_name") if kind not in others]
+    groups = ("is_article", "is_in_book", "is_volume", "counts_issues", "counts_series", "is_of_institution")
+    others = {kind for word in groups for kind, value in definitions.rows(word).items() if value == "true"}
+    own = definitions.column([".own", ["item_type_row"]])
+    as_misc = [text.split()[0] for kind, text in own.items() if text and kind not in others]
     listed = page.part("Items as entries", r"The types ([^.]*) have the fields of misc")[0]
-    yield from same_names("types with the fields of misc", "own_type_name", names(listed), as_misc)
+    yield from same_names("types with the fields of misc", "item_type_row", names(listed), as_misc)
 
 
 def variables(definitions, page):

@@ -8,18 +8,19 @@ use Rattle.bib_entry.specs.declared.entry.Entry.{Entry}
 use Rattle.bib_csl.specs.declared.item.Field.{Field}
 use Rattle.bib_csl.specs.declared.item.ItemDate.{ItemDate}
 use Rattle.bib_csl.specs.declared.item.Name.{Name}
-use Rattle.bib_csl.specs.declared.variables.ItemType.{ItemType}
+use Rattle.bib_csl.specs.declared.item_types.ItemType.{ItemType}
 use Rattle.bib_csl.specs.declared.variables.Variable.{Variable}
 use Rattle.bib_csl.specs.declared.variables.Variable.TheVariants.{Title, TitleShort, VolumeTitle, OriginalTitle, ContainerTitle, ContainerTitleShort, CollectionTitle, Event, EventTitle, EventPlace, Publisher, PublisherPlace, OriginalPublisher, OriginalPublisherPlace, Genre, Volume, NumberOfVolumes, PartNumber, Issue, Number, CollectionNumber, Edition, ChapterNumber, Page, NumberOfPages, Version, Doi, Url, Pmid, Isbn, Issn, Archive, ArchiveLocation, CallNumber, Abstract, Annote, Note, Status, Keyword, Language, Author, Editor, Compiler, Director, Organizer, Translator, ContainerAuthor, Issued, Accessed, EventDate, OriginalDate}
+use Rattle.bib_csl.specs.Adding.{given_listed, given_plain, given_rich, given_rich_or, given_title}
 use Rattle.bib_csl.specs.Dates.{date_fields}
 use Rattle.bib_csl.specs.Fields.{given, given_people, given_date}
 use Rattle.bib_csl.specs.Identifiers.{identifier_fields, archive_fields}
 use Rattle.bib_csl.specs.Items.{work_fields, detail_fields, item_fields, item_of_entry, type_of_entry}
 use Rattle.bib_csl.specs.Json.{content_json, with_variable, with_variables, head_members}
-use Rattle.bib_csl.specs.Names.{variable_name, item_type_name}
+use Rattle.bib_csl.specs.Tables.{variable_name, item_type_name}
 use Rattle.bib_csl.specs.Notes.{note_fields}
 use Rattle.bib_csl.specs.Numbers.{volume_fields, page_fields}
-use Rattle.bib_csl.specs.People.{editor_fields, people_fields}
+use Rattle.bib_csl.specs.People.{editor_fields, given_people_in, people_fields}
 use Rattle.bib_csl.specs.Publishing.{publisher_fields, original_fields, publishing_fields}
 use Rattle.bib_csl.specs.Titles.{title_fields, container_fields, event_fields}
 
@@ -72,9 +73,34 @@ text : (v : Variable) (t : List ℕ) → IsBetween (index v) (index v + 1) (give
 unfolding given
 text v t = perhaps (length t == 0) _
 
+-- the same of a variable with the content of its field
+plain : (v : Variable) (entry : Entry) → IsBetween (index v) (index v + 1) (given_plain v entry)
+unfolding given_plain
+plain v entry = text v _
+
+title : (v : Variable) (entry : Entry) → IsBetween (index v) (index v + 1) (given_title v entry)
+unfolding given_title
+title v entry = text v _
+
+rich : (v : Variable) (entry : Entry) → IsBetween (index v) (index v + 1) (given_rich v entry)
+unfolding given_rich
+rich v entry = text v _
+
+rich_or : (v : Variable) (entry : Entry) (other : List ℕ) → IsBetween (index v) (index v + 1) (given_rich_or v entry other)
+unfolding given_rich_or
+rich_or v entry other = text v _
+
+listed : (v : Variable) (entry : Entry) → IsBetween (index v) (index v + 1) (given_listed v entry)
+unfolding given_listed
+listed v entry = text v _
+
 people : (v : Variable) (ns : List Name) → IsBetween (index v) (index v + 1) (given_people v ns)
 unfolding given_people
 people v ns = perhaps (length ns == 0) _
+
+people_in : (v : Variable) (entry : Entry) → IsBetween (index v) (index v + 1) (given_people_in v entry)
+unfolding given_people_in
+people_in v entry = people v _
 
 date : (v : Variable) (d : Option ItemDate) → IsBetween (index v) (index v + 1) (given_date v d)
 unfolding given_date
@@ -84,17 +110,17 @@ date v (Some d) = one _
 title_fields_in_order : (kind : ItemType) (entry : Entry) → IsBetween 0 4 (title_fields kind entry)
 unfolding title_fields
 title_fields_in_order kind entry =
-    joins (text Title _) (joins (text TitleShort _) (joins (text VolumeTitle _) (text OriginalTitle _)))
+    joins (text Title _) (joins (title TitleShort entry) (joins (text VolumeTitle _) (title OriginalTitle entry)))
 
 container_fields_in_order : (kind : ItemType) (entry : Entry) → IsBetween 4 7 (container_fields kind entry)
 unfolding container_fields
 container_fields_in_order kind entry =
-    joins (text ContainerTitle _) (joins (text ContainerTitleShort _) (text CollectionTitle _))
+    joins (text ContainerTitle _) (joins (title ContainerTitleShort entry) (text CollectionTitle _))
 
 event_fields_in_order : (entry : Entry) → IsBetween 7 10 (event_fields entry)
 unfolding event_fields
 event_fields_in_order entry =
-    joins (text Event _) (joins (text EventTitle _) (text EventPlace _))
+    joins (text Event _) (joins (text EventTitle _) (rich EventPlace entry))
 
 publisher_fields_in_order : (entry : Entry) → IsBetween 10 12 (publisher_fields entry)
 unfolding publisher_fields
@@ -104,34 +130,37 @@ publisher_fields_in_order entry =
 original_fields_in_order : (entry : Entry) → IsBetween 12 14 (original_fields entry)
 unfolding original_fields
 original_fields_in_order entry =
-    joins (text OriginalPublisher _) (text OriginalPublisherPlace _)
+    joins (listed OriginalPublisher entry) (listed OriginalPublisherPlace entry)
 
 volume_fields_in_order : (kind : ItemType) (entry : Entry) → IsBetween 15 21 (volume_fields kind entry)
 unfolding volume_fields
 volume_fields_in_order kind entry =
-    joins (text Volume _)
-    (joins (text NumberOfVolumes _)
-    (joins (text PartNumber _) (joins (text Issue _) (joins (text Number _) (text CollectionNumber _)))))
+    joins (rich Volume entry)
+    (joins (rich NumberOfVolumes entry)
+    (joins (rich PartNumber entry) (joins (text Issue _) (joins (text Number _) (text CollectionNumber _)))))
 
 page_fields_in_order : (entry : Entry) → IsBetween 21 26 (page_fields entry)
 unfolding page_fields
 page_fields_in_order entry =
-    joins (text Edition _) (joins (text ChapterNumber _) (joins (text Page _) (joins (text NumberOfPages _) (text Version _))))
+    joins (rich Edition entry)
+    (joins (rich ChapterNumber entry) (joins (text Page _) (joins (rich NumberOfPages entry) (rich Version entry))))
 
 identifier_fields_in_order : (entry : Entry) → IsBetween 26 31 (identifier_fields entry)
 unfolding identifier_fields
 identifier_fields_in_order entry =
-    joins (text Doi _) (joins (text Url _) (joins (text Pmid _) (joins (text Isbn _) (text Issn _))))
+    joins (text Doi _) (joins (text Url _) (joins (text Pmid _) (joins (plain Isbn entry) (plain Issn entry))))
 
 archive_fields_in_order : (entry : Entry) → IsBetween 31 34 (archive_fields entry)
 unfolding archive_fields
 archive_fields_in_order entry =
-    joins (text Archive _) (joins (text ArchiveLocation _) (text CallNumber _))
+    joins (text Archive _) (joins (text ArchiveLocation _) (plain CallNumber entry))
 
 note_fields_in_order : (entry : Entry) → IsBetween 34 40 (note_fields entry)
 unfolding note_fields
 note_fields_in_order entry =
-    joins (text Abstract _) (joins (text Annote _) (joins (text Note _) (joins (text Status _) (joins (text Keyword _) (text Language _)))))
+    joins (rich Abstract entry)
+    (joins (rich_or Annote entry (codes "annote"))
+    (joins (text Note _) (joins (text Status _) (joins (plain Keyword entry) (text Language _)))))
 
 editor_fields_in_order : (entry : Entry) → IsBetween 41 45 (editor_fields entry)
 unfolding editor_fields
@@ -140,7 +169,7 @@ editor_fields_in_order entry = joins (people Editor _) (joins (people Compiler _
 people_fields_in_order : (kind : ItemType) (entry : Entry) → IsBetween 40 47 (people_fields kind entry)
 unfolding people_fields
 people_fields_in_order kind entry =
-    joins (people Author _) (joins (editor_fields_in_order entry) (joins (people Translator _) (people ContainerAuthor _)))
+    joins (people Author _) (joins (editor_fields_in_order entry) (joins (people_in Translator entry) (people_in ContainerAuthor entry)))
 
 date_fields_in_order : (entry : Entry) → IsBetween 47 51 (date_fields entry)
 unfolding date_fields

@@ -8,6 +8,7 @@ use Rattle.bib_entry.specs.declared.entry.Entry.{Entry}
 use Rattle.bib_entry.specs.Fields.{field_or}
 use Rattle.bib_csl.specs.declared.item.Field.{Field}
 use Rattle.bib_csl.specs.declared.variables.Variable.TheVariants.{Doi, Url, Pmid, Isbn, Issn, Archive, ArchiveLocation, CallNumber}
+use Rattle.bib_csl.specs.Adding.{given_plain}
 use Rattle.bib_csl.specs.Fields.{given}
 use Rattle.bib_csl.specs.Texts.{field, shown_field, either}
 use Rattle.bib_csl.specs.Ways.{way_as_address}
@@ -85,12 +86,12 @@ identifier_fields entry =
     given Doi (bare_doi (shown_field (field entry (codes "doi")))) ++
     (given Url (url_of entry) ++
     (given Pmid (pubmed_number entry) ++
-    (given Isbn (shown_field (field entry (codes "isbn"))) ++
-    given Issn (shown_field (field entry (codes "issn"))))))
+    (given_plain Isbn entry ++
+    given_plain Issn entry)))
 
 -- the archive, the location in it, and the call number of a library
 unfoldable pub archive_fields : Entry → List Field
 archive_fields entry =
     given Archive (archive_text entry) ++
     (given ArchiveLocation (archive_location entry) ++
-    given CallNumber (shown_field (field entry (codes "library"))))
+    given_plain CallNumber entry)

@@ -4,7 +4,7 @@ use Rattle.std.specs.Prelude.{Bool, List, ◌++◌, ◌||◌, codes, is_some}
 use Rattle.bib_entry.specs.declared.entry.Entry.{Entry}
 use Rattle.bib_csl.specs.declared.item.Field.{Field}
 use Rattle.bib_csl.specs.declared.item.Item.{Item}
-use Rattle.bib_csl.specs.declared.variables.ItemType.{ItemType}
+use Rattle.bib_csl.specs.declared.item_types.ItemType.{ItemType}
 use Rattle.bib_csl.specs.Dates.{date_fields}
 use Rattle.bib_csl.specs.Identifiers.{identifier_fields, archive_fields}
 use Rattle.bib_csl.specs.Notes.{note_fields}

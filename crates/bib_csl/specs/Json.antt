@@ -15,7 +15,7 @@ use Rattle.bib_csl.specs.declared.item.Name.TheVariants.{Literal, Parts}
 use Rattle.bib_csl.specs.declared.item.NameParts.{NameParts}
 use Rattle.bib_csl.specs.declared.item.Season.{Season}
 use Rattle.bib_csl.specs.declared.item.Season.TheVariants.{Spring, Summer, Autumn, Winter}
-use Rattle.bib_csl.specs.Names.{item_type_name, variable_name}
+use Rattle.bib_csl.specs.Tables.{item_type_name, variable_name}
 
 -- members, with one more for a text, unless the text is empty
 unfoldable pub with_string : List ℕ → List ℕ → Members → Members

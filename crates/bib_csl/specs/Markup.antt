@@ -4,9 +4,11 @@
 use Rattle.std.specs.Prelude.{ℕ, Bool, false, not, nat_lt, ◌==◌, ◌&&◌, ◌||◌, if◌then◌else◌, List, [], ◌∷◌, ◌++◌, length, codes, encode_utf8, encode_utf8_all, Option, Some, None, bytes_eq}
 use Rattle.std.specs.Char.{is_ascii_alphabetic}
 use Rattle.std.specs.List.{list_any}
-use Rattle.std.specs.Option.{option_or, unwrap_or}
-use Rattle.bib_text.specs.Enums.{words}
+use Prim.Native.String.{String}
+use Rattle.std.specs.Option.{option_map, option_or, unwrap_or}
+use Rattle.bib_text.specs.Enums.{value_named, words}
 use Rattle.bib_text.specs.Characters as char
+use Rattle.bib_csl.specs.Named.{pair}
 
 -- the no-break space
 abbrev pub no_break_space : ℕ
@@ -16,22 +18,26 @@ no_break_space = 160
 unfoldable pub untie : ℕ → List ℕ
 untie c = if c == char.tilde then encode_utf8 no_break_space else encode_utf8 c
 
+-- signs: the name of the command and the text
+abbrev pub sign_commands : List (List ℕ × List ℕ)
+sign_commands =
+    pair "hyphen" "-" ∷
+    pair "slash" "/" ∷
+    pair "adddot" "." ∷
+    (codes "ldots", encode_utf8_all (codes "…")) ∷
+    (codes "dots", encode_utf8_all (codes "…")) ∷
+    (codes "textellipsis", encode_utf8_all (codes "…")) ∷
+    pair "quad" " " ∷
+    pair "TeX" "TeX" ∷
+    pair "LaTeX" "LaTeX" ∷
+    (codes "LaTeXe", encode_utf8_all (codes "LaTeX2ε")) ∷
+    pair "BibTeX" "BibTeX" ∷
+    pair "MF" "METAFONT" ∷
+    []
+
 -- the output for a command that is a sign, whether it has an argument or not; `None` for other commands
 unfoldable pub sign_named : List ℕ → Option (List ℕ)
-sign_named name =
-    if bytes_eq name (codes "hyphen") then Some (codes "-")
-    else if bytes_eq name (codes "slash") then Some (codes "/")
-    else if bytes_eq name (codes "adddot") then Some (codes ".")
-    else if bytes_eq name (codes "ldots") then Some (encode_utf8_all (codes "…"))
-    else if bytes_eq name (codes "dots") then Some (encode_utf8_all (codes "…"))
-    else if bytes_eq name (codes "textellipsis") then Some (encode_utf8_all (codes "…"))
-    else if bytes_eq name (codes "quad") then Some (codes " ")
-    else if bytes_eq name (codes "TeX") then Some (codes "TeX")
-    else if bytes_eq name (codes "LaTeX") then Some (codes "LaTeX")
-    else if bytes_eq name (codes "LaTeXe") then Some (encode_utf8_all (codes "LaTeX2ε"))
-    else if bytes_eq name (codes "BibTeX") then Some (codes "BibTeX")
-    else if bytes_eq name (codes "MF") then Some (codes "METAFONT")
-    else None
+sign_named = value_named sign_commands
 
 -- whether a command is left out: `\relax`, or one of these that change the font up to the end of the group
 unfoldable pub is_silent : List ℕ → Bool
@@ -42,29 +48,29 @@ is_silent name =
 unfoldable pub said_alone : List ℕ → Option (List ℕ)
 said_alone name = option_or (sign_named name) (if is_silent name then Some [] else None)
 
+-- a row with this name of a command, and its opening and closing tags, all in ASCII
+abbrev pub tag_pair : String → String → String → List ℕ × (List ℕ × List ℕ)
+tag_pair name before after = (codes name, (codes before, codes after))
+
+-- commands with tags: the name, the opening tag and the closing tag
+abbrev pub tags : List (List ℕ × (List ℕ × List ℕ))
+tags =
+    tag_pair "emph" "<i>" "</i>" ∷
+    tag_pair "textit" "<i>" "</i>" ∷
+    tag_pair "mkbibemph" "<i>" "</i>" ∷
+    tag_pair "textbf" "<b>" "</b>" ∷
+    tag_pair "textsuperscript" "<sup>" "</sup>" ∷
+    tag_pair "textsubscript" "<sub>" "</sub>" ∷
+    tag_pair "textsc" "<span style=\"font-variant:small-caps;\">" "</span>" ∷
+    []
+
 -- the opening tag for a command with this name; `None` for other commands
 unfoldable pub tag_before : List ℕ → Option (List ℕ)
-tag_before name =
-    if bytes_eq name (codes "emph") then Some (codes "<i>")
-    else if bytes_eq name (codes "textit") then Some (codes "<i>")
-    else if bytes_eq name (codes "mkbibemph") then Some (codes "<i>")
-    else if bytes_eq name (codes "textbf") then Some (codes "<b>")
-    else if bytes_eq name (codes "textsuperscript") then Some (codes "<sup>")
-    else if bytes_eq name (codes "textsubscript") then Some (codes "<sub>")
-    else if bytes_eq name (codes "textsc") then Some (codes "<span style=\"font-variant:small-caps;\">")
-    else None
+tag_before name = option_map (λ pair. pair.0) (value_named tags name)
 
 -- the closing tag for a command with this name; `None` for other commands
 unfoldable pub tag_after : List ℕ → Option (List ℕ)
-tag_after name =
-    if bytes_eq name (codes "emph") then Some (codes "</i>")
-    else if bytes_eq name (codes "textit") then Some (codes "</i>")
-    else if bytes_eq name (codes "mkbibemph") then Some (codes "</i>")
-    else if bytes_eq name (codes "textbf") then Some (codes "</b>")
-    else if bytes_eq name (codes "textsuperscript") then Some (codes "</sup>")
-    else if bytes_eq name (codes "textsubscript") then Some (codes "</sub>")
-    else if bytes_eq name (codes "textsc") then Some (codes "</span>")
-    else None
+tag_after name = option_map (λ pair. pair.1) (value_named tags name)
 
 -- whether a command puts its argument in quotation marks
 unfoldable pub quotes_argument : List ℕ → Bool

@@ -1,6 +1,6 @@
 -- Meaning: words of public contracts.
 -- The abstract, the notes, the keywords and the language of an item.
-use Rattle.std.specs.Prelude.{ℕ, Bool, ◌==◌, ◌&&◌, ◌||◌, not, if◌then◌else◌, List, [], ◌++◌, length, drop, codes, bytes_eq, eqb, Option, Some, None}
+use Rattle.std.specs.Prelude.{ℕ, Bool, ◌==◌, ◌&&◌, ◌||◌, not, if◌then◌else◌, List, [], ◌∷◌, ◌++◌, length, drop, codes, bytes_eq, eqb, Option, Some, None}
 use Rattle.std.specs.List.{starts_with}
 use Rattle.std.specs.Option.{option_or}
 use Rattle.bib_chunks.specs.Values.{Value, text}
@@ -11,10 +11,12 @@ use Rattle.bib_tables.specs.declared.types.lang.Language.{Language}
 use Rattle.bib_tables.specs.declared.types.lang.Language.TheVariants.{EnglishUK}
 use Rattle.bib_csl.specs.declared.item.Field.{Field}
 use Rattle.bib_csl.specs.declared.variables.Variable.TheVariants as variable
+use Rattle.bib_csl.specs.Adding.{given_plain, given_rich, given_rich_or}
 use Rattle.bib_csl.specs.Fields.{given}
 use Rattle.bib_csl.specs.Identifiers.{named_address}
+use Rattle.bib_csl.specs.Named.{pair, text_named}
 use Rattle.bib_csl.specs.Publishing.{named_publisher}
-use Rattle.bib_csl.specs.Texts.{field, shown_field, rich_text, rich_text_or, either, joined_by_mark}
+use Rattle.bib_csl.specs.Texts.{field, shown_field, rich_text, either, joined_by_mark}
 use Rattle.bib_csl.specs.Ways.{begins_with_address, way_as_address, way_of}
 
 -- the tag of a language (BCP 47)
@@ -22,21 +24,25 @@ unfoldable pub tag_of : Language → List ℕ
 tag_of EnglishUK = codes "en-GB"
 tag_of language = (language_row language).tag
 
+-- languages that the table of languages lacks: BibLaTeX's name and the tag
+abbrev pub other_languages : List (List ℕ × List ℕ)
+other_languages =
+    pair "acadian" "fr-CA" ∷
+    pair "canadien" "fr-CA" ∷
+    pair "francais" "fr" ∷
+    pair "frenchb" "fr" ∷
+    pair "brazilian" "pt-BR" ∷
+    pair "mexican" "es-MX" ∷
+    pair "galician" "gl" ∷
+    pair "latin" "la" ∷
+    pair "norwegian" "no" ∷
+    pair "ukenglish" "en-GB" ∷
+    pair "usenglish" "en-US" ∷
+    []
+
 -- the tag of a language for a name of BibLaTeX that the table of languages lacks; nothing for other names
 unfoldable pub tag_named : List ℕ → List ℕ
-tag_named name =
-    if bytes_eq name (codes "acadian") then codes "fr-CA"
-    else if bytes_eq name (codes "canadien") then codes "fr-CA"
-    else if bytes_eq name (codes "francais") then codes "fr"
-    else if bytes_eq name (codes "frenchb") then codes "fr"
-    else if bytes_eq name (codes "brazilian") then codes "pt-BR"
-    else if bytes_eq name (codes "mexican") then codes "es-MX"
-    else if bytes_eq name (codes "galician") then codes "gl"
-    else if bytes_eq name (codes "latin") then codes "la"
-    else if bytes_eq name (codes "norwegian") then codes "no"
-    else if bytes_eq name (codes "ukenglish") then codes "en-GB"
-    else if bytes_eq name (codes "usenglish") then codes "en-US"
-    else []
+tag_named = text_named other_languages
 
 -- the tag of a language that is found under its name, or of one that the table lacks; nothing if there is none
 abbrev pub tag_found : Option Language → List ℕ → List ℕ
@@ -92,9 +98,9 @@ note_of entry =
 -- the abstract, the annotation, the note, the publication status, the keywords and the language
 unfoldable pub note_fields : Entry → List Field
 note_fields entry =
-    given variable.Abstract (rich_text entry (codes "abstract")) ++
-    (given variable.Annote (rich_text_or entry (codes "annotation") (codes "annote")) ++
+    given_rich variable.Abstract entry ++
+    (given_rich_or variable.Annote entry (codes "annote") ++
     (given variable.Note (note_of entry) ++
     (given variable.Status (status_named (shown_field (field entry (codes "pubstate")))) ++
-    (given variable.Keyword (shown_field (field entry (codes "keywords"))) ++
+    (given_plain variable.Keyword entry ++
     given variable.Language (language_of (language_value entry))))))

@@ -9,8 +9,9 @@ use Rattle.bib_chunks.specs.Values.{Value, text}
 use Rattle.bib_entry.specs.declared.entry.Entry.{Entry}
 use Rattle.bib_values.specs.Ranges.{is_dash, ranges_read}
 use Rattle.bib_csl.specs.declared.item.Field.{Field}
-use Rattle.bib_csl.specs.declared.variables.ItemType.{ItemType}
+use Rattle.bib_csl.specs.declared.item_types.ItemType.{ItemType}
 use Rattle.bib_csl.specs.declared.variables.Variable.TheVariants.{Volume, NumberOfVolumes, PartNumber, Issue, Number, CollectionNumber, Edition, ChapterNumber, Page, NumberOfPages, Version}
+use Rattle.bib_csl.specs.Adding.{given_rich}
 use Rattle.bib_csl.specs.Fields.{given}
 use Rattle.bib_csl.specs.Texts.{either, field, joined, marked_chunks, rich_text}
 use Rattle.bib_csl.specs.Types.{counts_issues, counts_series}
@@ -60,9 +61,9 @@ pages (Some chunks) = pages_text (ranges_read chunks) chunks
 unfoldable pub volume_fields : ItemType → Entry → List Field
 volume_fields kind entry =
     let number = rich_text entry (codes "number") in
-    given Volume (rich_text entry (codes "volume")) ++
-    (given NumberOfVolumes (rich_text entry (codes "volumes")) ++
-    (given PartNumber (rich_text entry (codes "part")) ++
+    given_rich Volume entry ++
+    (given_rich NumberOfVolumes entry ++
+    (given_rich PartNumber entry ++
     (given Issue (issue_of kind number (rich_text entry (codes "issue"))) ++
     (given Number (own_number kind number (rich_text entry (codes "eid"))) ++
     given CollectionNumber (collection_number kind number)))))
@@ -70,8 +71,8 @@ volume_fields kind entry =
 -- the edition, the chapter, the pages, the number of pages, and the version
 unfoldable pub page_fields : Entry → List Field
 page_fields entry =
-    given Edition (rich_text entry (codes "edition")) ++
-    (given ChapterNumber (rich_text entry (codes "chapter")) ++
+    given_rich Edition entry ++
+    (given_rich ChapterNumber entry ++
     (given Page (pages (field entry (codes "pages"))) ++
-    (given NumberOfPages (rich_text entry (codes "pagetotal")) ++
-    given Version (rich_text entry (codes "version")))))
+    (given_rich NumberOfPages entry ++
+    given_rich Version entry)))

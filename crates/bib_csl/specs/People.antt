@@ -18,13 +18,13 @@ use Rattle.bib_csl.specs.declared.item.Field.{Field}
 use Rattle.bib_csl.specs.declared.item.Name.{Name}
 use Rattle.bib_csl.specs.declared.item.Name.TheVariants.{Literal, Parts}
 use Rattle.bib_csl.specs.declared.item.NameParts.{NameParts}
-use Rattle.bib_csl.specs.declared.variables.ItemType.{ItemType}
-use Rattle.bib_csl.specs.declared.variables.ItemType.TheVariants as item_type
+use Rattle.bib_csl.specs.declared.item_types.ItemType.{ItemType}
+use Rattle.bib_csl.specs.declared.item_types.ItemType.TheVariants as item_type
 use Rattle.bib_csl.specs.declared.variables.Variable.{Variable}
 use Rattle.bib_csl.specs.declared.variables.Variable.TheVariants.{Author, Editor, Compiler, Director, Organizer, Translator, ContainerAuthor}
 use Rattle.bib_csl.specs.Fields.{given_people}
 use Rattle.bib_csl.specs.Markup.{loosened}
-use Rattle.bib_csl.specs.Names.{variable_name}
+use Rattle.bib_csl.specs.Tables.{field_in_table, variable_name}
 use Rattle.bib_csl.specs.Texts.{field}
 
 -- whether a chunk is verbatim (in braces), or normal and empty
@@ -134,6 +134,10 @@ editor_fields entry =
 unfoldable pub people : Entry → List ℕ → List Name
 people entry name = names_said (uses_prefix entry) (field entry name)
 
+-- a variable with the people in its field in the table of variables, unless there are none
+unfoldable pub given_people_in : Variable → Entry → List Field
+given_people_in variable entry = given_people variable (people entry (field_in_table variable))
+
 -- whether the item is a patent
 abbrev pub is_patent : ItemType → Bool
 is_patent item_type.Patent = true
@@ -150,5 +154,4 @@ unfoldable pub people_fields : ItemType → Entry → List Field
 people_fields kind entry =
     given_people Author (authors_of kind entry) ++
     (editor_fields entry ++
-    (given_people Translator (people entry (codes "translator")) ++
-    given_people ContainerAuthor (people entry (codes "bookauthor"))))
+    (given_people_in Translator entry ++ given_people_in ContainerAuthor entry))

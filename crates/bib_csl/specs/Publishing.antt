@@ -1,13 +1,16 @@
 -- Meaning: words of public contracts.
 -- The publishers of an item and of its original, and its genre.
-use Rattle.std.specs.Prelude.{ℕ, if◌then◌else◌, List, [], ◌++◌, codes, bytes_eq}
+use Rattle.std.specs.Prelude.{ℕ, List, [], ◌∷◌, ◌++◌, codes, unwrap_or}
+use Rattle.bib_text.specs.Enums.{value_named}
 use Rattle.bib_entry.specs.Fields.{field_or}
 use Rattle.bib_entry.specs.declared.entry.Entry.{Entry}
 use Rattle.bib_tables.specs.declared.mechanics.EntryType.{EntryType}
 use Rattle.bib_tables.specs.declared.mechanics.EntryType.TheVariants.{MastersThesis, PhdThesis, TechReport}
 use Rattle.bib_csl.specs.declared.item.Field.{Field}
 use Rattle.bib_csl.specs.declared.variables.Variable.TheVariants.{Publisher, PublisherPlace, OriginalPublisher, OriginalPublisherPlace, Genre}
+use Rattle.bib_csl.specs.Adding.{given_listed}
 use Rattle.bib_csl.specs.Fields.{given}
+use Rattle.bib_csl.specs.Named.{pair}
 use Rattle.bib_csl.specs.Texts.{either, field, listed_field, rich_text}
 use Rattle.bib_csl.specs.Ways.{way_as_publisher}
 
@@ -21,45 +24,35 @@ named_publisher entry =
 unfoldable pub publisher_of : Entry → List ℕ
 publisher_of entry = either (named_publisher entry) (way_as_publisher entry)
 
--- the genre of a thesis, a report or another work by BibLaTeX's key for it, or nothing for any other text
-unfoldable pub work_named : List ℕ → List ℕ
-work_named text =
-    if bytes_eq text (codes "bathesis") then codes "Bachelor's thesis"
-    else if bytes_eq text (codes "mathesis") then codes "Master's thesis"
-    else if bytes_eq text (codes "phdthesis") then codes "PhD thesis"
-    else if bytes_eq text (codes "candthesis") then codes "Candidate thesis"
-    else if bytes_eq text (codes "techreport") then codes "technical report"
-    else if bytes_eq text (codes "resreport") then codes "research report"
-    else if bytes_eq text (codes "software") then codes "computer software"
-    else if bytes_eq text (codes "datacd") then codes "CD-ROM"
-    else if bytes_eq text (codes "audiocd") then codes "audio CD"
-    else []
-
--- the genre of a patent by BibLaTeX's key for it, or nothing for any other text
-unfoldable pub patent_named : List ℕ → List ℕ
-patent_named text =
-    if bytes_eq text (codes "patent") then codes "patent"
-    else if bytes_eq text (codes "patentde") then codes "German patent"
-    else if bytes_eq text (codes "patenteu") then codes "European patent"
-    else if bytes_eq text (codes "patentfr") then codes "French patent"
-    else if bytes_eq text (codes "patentuk") then codes "British patent"
-    else if bytes_eq text (codes "patentus") then codes "U.S. patent"
-    else []
-
--- the genre of a patent request by BibLaTeX's key for it, or nothing for any other text
-unfoldable pub request_named : List ℕ → List ℕ
-request_named text =
-    if bytes_eq text (codes "patreq") then codes "patent request"
-    else if bytes_eq text (codes "patreqde") then codes "German patent request"
-    else if bytes_eq text (codes "patreqeu") then codes "European patent request"
-    else if bytes_eq text (codes "patreqfr") then codes "French patent request"
-    else if bytes_eq text (codes "patrequk") then codes "British patent request"
-    else if bytes_eq text (codes "patrequs") then codes "U.S. patent request"
-    else []
+-- genres: BibLaTeX's key and the text
+abbrev pub genres : List (List ℕ × List ℕ)
+genres =
+    pair "bathesis" "Bachelor's thesis" ∷
+    pair "mathesis" "Master's thesis" ∷
+    pair "phdthesis" "PhD thesis" ∷
+    pair "candthesis" "Candidate thesis" ∷
+    pair "techreport" "technical report" ∷
+    pair "resreport" "research report" ∷
+    pair "software" "computer software" ∷
+    pair "datacd" "CD-ROM" ∷
+    pair "audiocd" "audio CD" ∷
+    pair "patent" "patent" ∷
+    pair "patentde" "German patent" ∷
+    pair "patenteu" "European patent" ∷
+    pair "patentfr" "French patent" ∷
+    pair "patentuk" "British patent" ∷
+    pair "patentus" "U.S. patent" ∷
+    pair "patreq" "patent request" ∷
+    pair "patreqde" "German patent request" ∷
+    pair "patreqeu" "European patent request" ∷
+    pair "patreqfr" "French patent request" ∷
+    pair "patrequk" "British patent request" ∷
+    pair "patrequs" "U.S. patent request" ∷
+    []
 
 -- the genre by BibLaTeX's key for it in the field `type`, or the text itself if it is no such key
 unfoldable pub genre_named : List ℕ → List ℕ
-genre_named text = either (work_named text) (either (patent_named text) (either (request_named text) text))
+genre_named text = unwrap_or (value_named genres text) text
 
 -- the genre that the entry type implies
 unfoldable pub genre_of_type : EntryType → List ℕ
@@ -81,8 +74,8 @@ publisher_fields entry =
 -- the publisher of the original and its place
 unfoldable pub original_fields : Entry → List Field
 original_fields entry =
-    given OriginalPublisher (listed_field (field entry (codes "origpublisher"))) ++
-    given OriginalPublisherPlace (listed_field (field entry (codes "origlocation")))
+    given_listed OriginalPublisher entry ++
+    given_listed OriginalPublisherPlace entry
 
 -- the publishers of an item and of its original, and its genre
 unfoldable pub publishing_fields : Entry → List Field

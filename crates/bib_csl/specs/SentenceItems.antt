@@ -1,7 +1,7 @@
 -- Meaning: words of public contracts.
 -- Items whose English titles are in sentence case.
-use Rattle.std.specs.Prelude.{Bool, true, false, not, ◌==◌, ◌||◌, if◌then◌else◌, map, length, codes, eqb, is_some}
-use Rattle.std.specs.List.{starts_with}
+use Rattle.std.specs.Prelude.{Bool, true, false, not, ◌==◌, ◌||◌, if◌then◌else◌, List, ℕ, map, length, codes, is_some, take}
+use Rattle.std.specs.Str.{str_eq_ignore_ascii_case}
 use Rattle.bib_entry.specs.declared.entry.Entry.{Entry}
 use Rattle.bib_entry.specs.Fields.{field_or}
 use Rattle.bib_csl.specs.declared.item.Content.{Content}
@@ -20,10 +20,14 @@ use Rattle.bib_csl.specs.Sentence.{title_in_sentence_case}
 unfoldable pub has_journal : Entry → Bool
 has_journal entry = is_some (field_or entry (codes "journaltitle") (codes "journal"))
 
--- whether an entry has no language, or its tag, or else its text, begins with `en`
+-- whether the tag or the name of a language is English: it begins with `en`. The case of a tag doesn't count (RFC 5646, 2.1.1)
+abbrev pub is_english_tag : List ℕ → Bool
+is_english_tag tag = str_eq_ignore_ascii_case (take 2 tag) (codes "en")
+
+-- whether an entry has no language, or its tag, or else its text, is English
 unfoldable pub has_english_titles : Entry → Bool
 has_english_titles entry =
-    length (language_of (language_value entry)) == 0 || starts_with eqb (language_of (language_value entry)) (codes "en")
+    length (language_of (language_value entry)) == 0 || is_english_tag (language_of (language_value entry))
 
 -- whether a variable is a title, but not that of a journal, which is a name
 abbrev pub is_title_variable : Bool → Variable → Bool

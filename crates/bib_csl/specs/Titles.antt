@@ -4,10 +4,11 @@ use Rattle.std.specs.Prelude.{ℕ, true, ◌||◌, ◌==◌, if◌then◌else◌
 use Rattle.bib_entry.specs.declared.entry.Entry.{Entry}
 use Rattle.bib_entry.specs.Fields.{field_or}
 use Rattle.bib_csl.specs.declared.item.Field.{Field}
-use Rattle.bib_csl.specs.declared.variables.ItemType.{ItemType}
+use Rattle.bib_csl.specs.declared.item_types.ItemType.{ItemType}
 use Rattle.bib_csl.specs.declared.variables.Variable.TheVariants.{Title, TitleShort, VolumeTitle, ContainerTitle, ContainerTitleShort, CollectionTitle, OriginalTitle, Event, EventTitle, EventPlace}
+use Rattle.bib_csl.specs.Adding.{given_rich, given_title}
 use Rattle.bib_csl.specs.Fields.{given}
-use Rattle.bib_csl.specs.Texts.{marked_field, title_text, rich_text, either, joined_by_mark, series_named}
+use Rattle.bib_csl.specs.Texts.{marked_field, title_text, either, joined_by_mark, series_named}
 use Rattle.bib_csl.specs.Types.{is_article, is_in_book, is_volume}
 
 -- a title with its subtitle and its addition, which are in the fields `subtitle` and `addon`
@@ -66,9 +67,9 @@ event_title entry = joined_by_mark (codes ".") (title_text entry (codes "eventti
 unfoldable pub title_fields : ItemType → Entry → List Field
 title_fields kind entry =
     given Title (item_title kind entry) ++
-    (given TitleShort (title_text entry (codes "shorttitle")) ++
+    (given_title TitleShort entry ++
     (given VolumeTitle (volume_title kind entry) ++
-    given OriginalTitle (title_text entry (codes "origtitle"))))
+    given_title OriginalTitle entry))
 
 -- the title of the series
 unfoldable pub series_title : Entry → List ℕ
@@ -78,10 +79,10 @@ series_title entry = series_named (title_text entry (codes "series"))
 unfoldable pub container_fields : ItemType → Entry → List Field
 container_fields kind entry =
     given ContainerTitle (container_title kind entry) ++
-    (given ContainerTitleShort (title_text entry (codes "shortjournal")) ++
+    (given_title ContainerTitleShort entry ++
     given CollectionTitle (series_title entry))
 
 -- the title of the event, such as a conference, under both of its names, and its place
 unfoldable pub event_fields : Entry → List Field
 event_fields entry =
-    given Event (event_title entry) ++ (given EventTitle (event_title entry) ++ given EventPlace (rich_text entry (codes "venue")))
+    given Event (event_title entry) ++ (given EventTitle (event_title entry) ++ given_rich EventPlace entry)

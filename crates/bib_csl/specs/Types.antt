@@ -1,10 +1,11 @@
 -- Meaning: words of public contracts.
 -- The type of the item of an entry, and groups of these types.
-use Rattle.std.specs.Prelude.{ℕ, Bool, true, false, List, if◌then◌else◌, codes, bytes_eq}
+use Rattle.std.specs.Prelude.{ℕ, Bool, true, false, List, if◌then◌else◌, codes, bytes_eq, unwrap_or}
 use Rattle.bib_tables.specs.declared.mechanics.EntryType.{EntryType}
 use Rattle.bib_tables.specs.declared.mechanics.EntryType.TheVariants.{Article, Book, Booklet, InBook, InCollection, InProceedings, Manual, MastersThesis, PhdThesis, Misc, Proceedings, TechReport, Unpublished, MvBook, BookInBook, SuppBook, Periodical, SuppPeriodical, Collection, MvCollection, SuppCollection, Reference, MvReference, InReference, MvProceedings, Report, Patent, Thesis, Online, Software, Dataset, Set, XData, Unknown}
-use Rattle.bib_csl.specs.declared.variables.ItemType.{ItemType}
-use Rattle.bib_csl.specs.declared.variables.ItemType.TheVariants as item_type
+use Rattle.bib_csl.specs.declared.item_types.ItemType.{ItemType}
+use Rattle.bib_csl.specs.declared.item_types.ItemType.TheVariants as item_type
+use Rattle.bib_csl.specs.Tables.{item_type_by_own_type}
 
 -- the type of an article, by the text of its field `entrysubtype`
 abbrev pub type_of_article : List ℕ → ItemType
@@ -15,22 +16,8 @@ type_of_article subtype =
 
 -- the type of the item of an entry whose type is unknown and has this name: a type for some other types of BibLaTeX, such as `movie`,
 -- and `Document` for any other name
-unfoldable pub item_type_named : List ℕ → ItemType
-item_type_named name =
-    if bytes_eq name (codes "artwork") then item_type.Graphic
-    else if bytes_eq name (codes "image") then item_type.Graphic
-    else if bytes_eq name (codes "audio") then item_type.Song
-    else if bytes_eq name (codes "music") then item_type.Song
-    else if bytes_eq name (codes "movie") then item_type.MotionPicture
-    else if bytes_eq name (codes "video") then item_type.MotionPicture
-    else if bytes_eq name (codes "jurisdiction") then item_type.LegalCase
-    else if bytes_eq name (codes "legal") then item_type.Treaty
-    else if bytes_eq name (codes "legislation") then item_type.Legislation
-    else if bytes_eq name (codes "letter") then item_type.PersonalCommunication
-    else if bytes_eq name (codes "performance") then item_type.Performance
-    else if bytes_eq name (codes "review") then item_type.Review
-    else if bytes_eq name (codes "standard") then item_type.Standard
-    else item_type.Document
+abbrev pub item_type_named : List ℕ → ItemType
+item_type_named name = unwrap_or (item_type_by_own_type name) item_type.Document
 
 -- the type of an unpublished work: a talk if the entry has an event
 abbrev pub type_of_unpublished : Bool → ItemType
@@ -91,6 +78,7 @@ is_in_book other = false
 -- whether the item can be a volume of a work of several volumes
 abbrev pub is_volume : ItemType → Bool
 is_volume item_type.Book = true
+is_volume item_type.Collection = true
 is_volume item_type.Periodical = true
 is_volume other = false
 
@@ -107,6 +95,7 @@ counts_issues other = false
 abbrev pub counts_series : ItemType → Bool
 counts_series item_type.Book = true
 counts_series item_type.Chapter = true
+counts_series item_type.Collection = true
 counts_series item_type.PaperConference = true
 counts_series item_type.EntryEncyclopedia = true
 counts_series item_type.Pamphlet = true

@@ -1,54 +1,47 @@
 //! LaTeX commands: the text, the tag or the quotation mark for each.
 
-ghost use Rattle.std.specs.Prelude.{◌≡◌};
+ghost use Rattle.std.specs.Prelude.{◌≡◌, map};
 ghost use Rattle.std.specs.Option.{option_map};
+ghost use Rattle.bib_text.specs.Enums.{value_named};
 ghost use Rattle.bib_csl.specs.Markup as spec;
+ghost use Rattle.bib_csl.specs.Named.{named_pair_of, pair_of};
+
+use crate::named::{find_text, is_among};
+
+// Signs: the name of the command and the text.
+static SIGNS: [(&str, &str); 12] = [
+    ("hyphen", "-"),
+    ("slash", "/"),
+    ("adddot", "."),
+    ("ldots", "…"),
+    ("dots", "…"),
+    ("textellipsis", "…"),
+    ("quad", " "),
+    ("TeX", "TeX"),
+    ("LaTeX", "LaTeX"),
+    ("LaTeXe", "LaTeX2ε"),
+    ("BibTeX", "BibTeX"),
+    ("MF", "METAFONT"),
+];
 
 // Returns the text for a command that is a sign, whether it has an argument or not, or `None` for other commands.
-#[tactic(auto, unfolding(crate::specs::Markup::sign_named))]
 fn sign_named(name: &str) -> Option<&'static str>
     ensures { option_map (λ sign. sign.now) result ≡ spec.sign_named name.now }
 {
-    match name {
-        "hyphen" => Some("-"),
-        "slash" => Some("/"),
-        "adddot" => Some("."),
-        "ldots" => Some("…"),
-        "dots" => Some("…"),
-        "textellipsis" => Some("…"),
-        "quad" => Some(" "),
-        "TeX" => Some("TeX"),
-        "LaTeX" => Some("LaTeX"),
-        "LaTeXe" => Some("LaTeX2ε"),
-        "BibTeX" => Some("BibTeX"),
-        "MF" => Some("METAFONT"),
-        _ => None,
-    }
+    find_text(&SIGNS, name)
 }
 
+// Commands that are left out: `\relax`, and those that change the font up to the end of the group.
+static SILENT: [&str; 16] = [
+    "bf", "bfseries", "em", "it", "itshape", "relax", "rm", "rmfamily", "sc", "scshape", "sf",
+    "sffamily", "sl", "slshape", "tt", "ttfamily",
+];
+
 // Returns whether a command is left out: `\relax`, or one of these that change the font up to the end of the group.
-#[tactic(auto, unfolding(crate::specs::Markup::is_silent))]
 fn is_silent(name: &str) -> bool
     ensures { result ≡ spec.is_silent name.now }
 {
-    matches!(
-        name,
-        "bf" | "bfseries"
-            | "em"
-            | "it"
-            | "itshape"
-            | "relax"
-            | "rm"
-            | "rmfamily"
-            | "sc"
-            | "scshape"
-            | "sf"
-            | "sffamily"
-            | "sl"
-            | "slshape"
-            | "tt"
-            | "ttfamily"
-    )
+    is_among(&SILENT, name)
 }
 
 // Returns the text for a command without its argument: a sign, or an empty text for a silent command. Returns `None` for other commands.
@@ -62,20 +55,51 @@ pub(crate) fn said_alone(name: &str) -> Option<&'static str>
     }
 }
 
+// Commands with tags: the name, the opening tag and the closing tag.
+static TAGS: [(&str, &str, &str); 7] = [
+    ("emph", "<i>", "</i>"),
+    ("textit", "<i>", "</i>"),
+    ("mkbibemph", "<i>", "</i>"),
+    ("textbf", "<b>", "</b>"),
+    ("textsuperscript", "<sup>", "</sup>"),
+    ("textsubscript", "<sub>", "</sub>"),
+    (
+        "textsc",
+        "<span style=\"font-variant:small-caps;\">",
+        "</span>",
+    ),
+];
+
+// Returns the tags in the first row with exactly this name, or `None`.
+fn find_tags(
+    rows: &[(&str, &'static str, &'static str)],
+    name: &str,
+) -> Option<(&'static str, &'static str)>
+    ensures { option_map pair_of result ≡ value_named (map named_pair_of rows.entry.now) name.now }
+{
+    'rows: for (row_name, before, after) in rows {
+        if *row_name == name {
+            return Some((*before, *after));
+        }
+    }
+    None
+}
+
+// Returns the opening and the closing tag for a command with this name, or `None` for other commands.
+fn tags_named(name: &str) -> Option<(&'static str, &'static str)>
+    ensures { option_map pair_of result ≡ value_named spec.tags name.now }
+{
+    find_tags(&TAGS, name)
+}
+
 // Returns the opening tag for a command with this name, or `None` for other commands.
 #[tactic(auto, unfolding(crate::specs::Markup::tag_before))]
 fn tag_before(name: &str) -> Option<&'static str>
     ensures { option_map (λ tag. tag.now) result ≡ spec.tag_before name.now }
 {
-    match name {
-        "emph" => Some("<i>"),
-        "textit" => Some("<i>"),
-        "mkbibemph" => Some("<i>"),
-        "textbf" => Some("<b>"),
-        "textsuperscript" => Some("<sup>"),
-        "textsubscript" => Some("<sub>"),
-        "textsc" => Some("<span style=\"font-variant:small-caps;\">"),
-        _ => None,
+    match tags_named(name) {
+        Some((before, _)) => Some(before),
+        None => None,
     }
 }
 
@@ -84,15 +108,9 @@ fn tag_before(name: &str) -> Option<&'static str>
 fn tag_after(name: &str) -> Option<&'static str>
     ensures { option_map (λ tag. tag.now) result ≡ spec.tag_after name.now }
 {
-    match name {
-        "emph" => Some("</i>"),
-        "textit" => Some("</i>"),
-        "mkbibemph" => Some("</i>"),
-        "textbf" => Some("</b>"),
-        "textsuperscript" => Some("</sup>"),
-        "textsubscript" => Some("</sub>"),
-        "textsc" => Some("</span>"),
-        _ => None,
+    match tags_named(name) {
+        Some((_, after)) => Some(after),
+        None => None,
     }
 }
 

@@ -168,8 +168,8 @@ pub(crate) fn add_identifiers(
     add_text(fields, Variable::Doi, bare_doi(alloc, doi.as_str())?)?;
     add_text(fields, Variable::Url, url_of(alloc, entry)?)?;
     add_text(fields, Variable::Pmid, pubmed_number(alloc, entry)?)?;
-    add_plain(alloc, Variable::Isbn, entry, "isbn", fields)?;
-    add_plain(alloc, Variable::Issn, entry, "issn", fields)
+    add_plain(alloc, Variable::Isbn, entry, fields)?;
+    add_plain(alloc, Variable::Issn, entry, fields)
 }
 
 // Appends the archive, the location in it, and the call number of a library.
@@ -187,5 +187,5 @@ pub(crate) fn add_archive(
         Variable::ArchiveLocation,
         archive_location(alloc, entry)?,
     )?;
-    add_plain(alloc, Variable::CallNumber, entry, "library", fields)
+    add_plain(alloc, Variable::CallNumber, entry, fields)
 }

@@ -1,6 +1,7 @@
 //! Items of CSL-JSON, the input of a citation processor.
 
-use crate::variables::{ItemType, Variable};
+use crate::item_types::ItemType;
+use crate::variables::Variable;
 use bib_text::items::Items;
 use bib_text::text::Text;
 

@@ -7,7 +7,7 @@ ghost use Rattle.serde_json.specs.Find.{get};
 ghost use Rattle.bib_entry.specs.declared.entry.Entry.{Entry as AnEntry};
 ghost use Rattle.bib_csl.specs.Items.{item_of_entry, type_of_entry};
 ghost use Rattle.bib_csl.specs.Json.{content_json, json_of};
-ghost use Rattle.bib_csl.specs.Names.{item_type_name, variable_name};
+ghost use Rattle.bib_csl.specs.Tables.{item_type_name, variable_name};
 
 /// States that the JSON of the item of an entry has each variable of the item under its name, with its content.
 pub fn variables_are_found()

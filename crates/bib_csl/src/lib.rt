@@ -4,6 +4,9 @@
 //! entry has. `making` makes these calls one after another. Texts come from `texts` and `markup`, names from `people`, dates from `dates`.
 //! `objects` returns the text of an item as JSON: `members` puts its members in the order of their names, and `writing` writes it token
 //! by token. `sentence_items` changes the titles of an item to sentence case, by the rules in `sentence`.
+//!
+//! `item_types` has the table of types, and `variables` has the table of variables, with one row each. `bib_from_csl` reads the same tables
+//! to convert items to entries. `named` searches tables of texts.
 #![tactic(auto)]
 
 mod adding;
@@ -13,10 +16,12 @@ pub mod dates;
 mod fields;
 pub mod identifiers;
 pub mod item;
+pub mod item_types;
 pub mod laws;
 pub mod making;
 pub mod markup;
 mod members;
+pub mod named;
 pub mod notes;
 mod numbers;
 pub mod objects;

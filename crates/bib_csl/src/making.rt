@@ -6,6 +6,7 @@ ghost use Rattle.bib_csl.specs.Items.{has_event, type_of_entry, work_fields, det
 use crate::dates::add_dates;
 use crate::identifiers::{add_archive, add_identifiers};
 use crate::item::{Field, Item};
+use crate::item_types::ItemType;
 use crate::notes::add_notes;
 use crate::numbers::{add_pages, add_volume};
 use crate::people::add_people;
@@ -13,7 +14,6 @@ use crate::publishing::add_publishing;
 use crate::texts::plain_text;
 use crate::titles::{add_container, add_event, add_titles};
 use crate::types::item_type_of;
-use crate::variables::ItemType;
 use bib_entry::entry::Entry;
 use bib_text::items::Items;
 use std::alloc::{AllocError, Global};

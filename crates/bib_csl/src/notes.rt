@@ -7,6 +7,7 @@ ghost use Rattle.bib_csl.specs.Notes as spec;
 use crate::adding::{add_plain, add_rich, add_rich_or};
 use crate::fields::add_text;
 use crate::item::Field;
+use crate::named::text_named;
 use crate::standing::shown;
 use crate::texts::{either, field_or, joined_by_mark, plain_text, rich_text};
 use crate::variables::Variable;
@@ -29,25 +30,26 @@ fn tag_of(language: Language) -> &'static str
     }
 }
 
+// Languages that the table of languages lacks: BibLaTeX's name and the tag.
+static OTHER_LANGUAGES: [(&str, &str); 11] = [
+    ("acadian", "fr-CA"),
+    ("canadien", "fr-CA"),
+    ("francais", "fr"),
+    ("frenchb", "fr"),
+    ("brazilian", "pt-BR"),
+    ("mexican", "es-MX"),
+    ("galician", "gl"),
+    ("latin", "la"),
+    ("norwegian", "no"),
+    ("ukenglish", "en-GB"),
+    ("usenglish", "en-US"),
+];
+
 // Returns the tag of a language for a name of BibLaTeX that the table of languages lacks, or an empty text for other names.
-#[tactic(auto, unfolding(crate::specs::Notes::tag_named))]
 fn tag_named(name: &str) -> &'static str
     ensures { result.now ≡ spec.tag_named name.now }
 {
-    match name {
-        "acadian" => "fr-CA",
-        "canadien" => "fr-CA",
-        "francais" => "fr",
-        "frenchb" => "fr",
-        "brazilian" => "pt-BR",
-        "mexican" => "es-MX",
-        "galician" => "gl",
-        "latin" => "la",
-        "norwegian" => "no",
-        "ukenglish" => "en-GB",
-        "usenglish" => "en-US",
-        _ => "",
-    }
+    text_named(&OTHER_LANGUAGES, name)
 }
 
 // Returns the name of a language in a text: without `lang`, with which BibLaTeX's keys begin.
@@ -124,19 +126,12 @@ pub(crate) fn add_notes(
 ) -> Result<(), AllocError>
     ensures { OnOk result (fields.new ≡ fields.old ++ spec.note_fields entry.now) }
 {
-    add_rich(alloc, Variable::Abstract, entry, "abstract", fields)?;
-    add_rich_or(
-        alloc,
-        Variable::Annote,
-        entry,
-        "annotation",
-        "annote",
-        fields,
-    )?;
+    add_rich(alloc, Variable::Abstract, entry, fields)?;
+    add_rich_or(alloc, Variable::Annote, entry, "annote", fields)?;
     add_text(fields, Variable::Note, note_of(alloc, entry)?)?;
     let status = plain_text(alloc, entry, "pubstate")?;
     add_text(fields, Variable::Status, status_named(alloc, status)?)?;
-    add_plain(alloc, Variable::Keyword, entry, "keywords", fields)?;
+    add_plain(alloc, Variable::Keyword, entry, fields)?;
     let language = language_of(alloc, language_value(entry))?;
     add_text(fields, Variable::Language, language)
 }

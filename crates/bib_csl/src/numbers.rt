@@ -9,11 +9,12 @@ ghost use Rattle.bib_csl.specs.Numbers as spec;
 use crate::adding::add_rich;
 use crate::fields::add_text;
 use crate::item::Field;
+use crate::item_types::ItemType;
 use crate::markup::marked_chunks;
 use crate::standing::shown;
 use crate::texts::{either, joined, rich_text};
 use crate::types::{counts_issues, counts_series};
-use crate::variables::{ItemType, Variable};
+use crate::variables::Variable;
 use bib_chunks::chunk::ChunksRef;
 use bib_entry::entry::Entry;
 use bib_text::items::Items;
@@ -133,9 +134,9 @@ pub(crate) fn add_volume(
 ) -> Result<(), AllocError>
     ensures { OnOk result (fields.new ≡ fields.old ++ spec.volume_fields kind entry.now) }
 {
-    add_rich(alloc, Variable::Volume, entry, "volume", fields)?;
-    add_rich(alloc, Variable::NumberOfVolumes, entry, "volumes", fields)?;
-    add_rich(alloc, Variable::PartNumber, entry, "part", fields)?;
+    add_rich(alloc, Variable::Volume, entry, fields)?;
+    add_rich(alloc, Variable::NumberOfVolumes, entry, fields)?;
+    add_rich(alloc, Variable::PartNumber, entry, fields)?;
     let number = rich_text(alloc, entry, "number")?;
     let issue = rich_text(alloc, entry, "issue")?;
     add_text(fields, Variable::Issue, issue_of(kind, &number, issue)?)?;
@@ -154,9 +155,9 @@ pub(crate) fn add_pages(
 ) -> Result<(), AllocError>
     ensures { OnOk result (fields.new ≡ fields.old ++ spec.page_fields entry.now) }
 {
-    add_rich(alloc, Variable::Edition, entry, "edition", fields)?;
-    add_rich(alloc, Variable::ChapterNumber, entry, "chapter", fields)?;
+    add_rich(alloc, Variable::Edition, entry, fields)?;
+    add_rich(alloc, Variable::ChapterNumber, entry, fields)?;
     add_text(fields, Variable::Page, pages(alloc, entry.get("pages"))?)?;
-    add_rich(alloc, Variable::NumberOfPages, entry, "pagetotal", fields)?;
-    add_rich(alloc, Variable::Version, entry, "version", fields)
+    add_rich(alloc, Variable::NumberOfPages, entry, fields)?;
+    add_rich(alloc, Variable::Version, entry, fields)
 }

@@ -12,9 +12,10 @@ ghost use Rattle.bib_csl.specs.declared.variables.Variable.{Variable as AnyVaria
 
 use crate::fields::add_names;
 use crate::item::{Field, Name, NameParts};
+use crate::item_types::ItemType;
 use crate::standing::{says_others, shown};
 use crate::tags::loosened;
-use crate::variables::{ItemType, Variable};
+use crate::variables::Variable;
 use bib_chunks::chunk::cuts::{and_list, comma_list};
 use bib_chunks::chunk::{Chunk, ChunksRef, format_verbatim};
 use bib_entry::entry::Entry;
@@ -337,17 +338,17 @@ fn people(alloc: Global, entry: &Entry, name: &str) -> Result<Items<Name>, Alloc
     Ok(names)
 }
 
-// Appends a variable with the people in the field `name`.
-fn add_people_of(
+// Appends a variable with the people in its field.
+#[tactic(auto, unfolding(crate::specs::People::given_people_in))]
+fn add_people_in(
     alloc: Global,
     variable: Variable,
     entry: &Entry,
-    name: &str,
     fields: &mut Items<Field>,
 ) -> Result<(), AllocError>
-    ensures { OnOk result (fields.new ≡ fields.old ++ given_people variable (spec.people entry.now name.now)) }
+    ensures { OnOk result (fields.new ≡ fields.old ++ spec.given_people_in variable entry.now) }
 {
-    add_names(fields, variable, people(alloc, entry, name)?)
+    add_names(fields, variable, people(alloc, entry, variable.field())?)
 }
 
 // Returns whether the item is a patent.
@@ -381,12 +382,6 @@ pub(crate) fn add_people(
 {
     add_names(fields, Variable::Author, authors_of(alloc, kind, entry)?)?;
     add_all_editors(alloc, entry, fields)?;
-    add_people_of(alloc, Variable::Translator, entry, "translator", fields)?;
-    add_people_of(
-        alloc,
-        Variable::ContainerAuthor,
-        entry,
-        "bookauthor",
-        fields,
-    )
+    add_people_in(alloc, Variable::Translator, entry, fields)?;
+    add_people_in(alloc, Variable::ContainerAuthor, entry, fields)
 }

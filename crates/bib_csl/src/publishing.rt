@@ -1,11 +1,15 @@
 //! The publishers of an item and of its original, and its genre.
 
 ghost use Rattle.std.specs.Prelude.{◌≡◌, ◌++◌, OnOk, IfOk};
+ghost use Rattle.std.specs.Option.{option_map};
+ghost use Rattle.bib_text.specs.Enums.{value_named};
 ghost use Rattle.bib_csl.specs.Publishing as spec;
 ghost use Rattle.bib_csl.specs.Texts.{either as either_of};
 
+use crate::adding::add_listed;
 use crate::fields::add_text;
 use crate::item::Field;
+use crate::named::find_text;
 use crate::texts::{either, list_text, list_text_or, rich_text};
 use crate::variables::Variable;
 use crate::ways::way_as_publisher;
@@ -37,56 +41,30 @@ pub fn publisher_of(alloc: Global, entry: &Entry) -> Result<Text, AllocError>
     ))
 }
 
-// Returns the genre of a thesis, a report or another work by BibLaTeX's key for it, or an empty text for any other text.
-#[tactic(auto, unfolding(crate::specs::Publishing::work_named))]
-fn work_named(text: &str) -> &'static str
-    ensures { result.now ≡ spec.work_named text.now }
-{
-    match text {
-        "bathesis" => "Bachelor's thesis",
-        "mathesis" => "Master's thesis",
-        "phdthesis" => "PhD thesis",
-        "candthesis" => "Candidate thesis",
-        "techreport" => "technical report",
-        "resreport" => "research report",
-        "software" => "computer software",
-        "datacd" => "CD-ROM",
-        "audiocd" => "audio CD",
-        _ => "",
-    }
-}
-
-// Returns the genre of a patent by BibLaTeX's key for it, or an empty text for any other text.
-#[tactic(auto, unfolding(crate::specs::Publishing::patent_named))]
-fn patent_named(text: &str) -> &'static str
-    ensures { result.now ≡ spec.patent_named text.now }
-{
-    match text {
-        "patent" => "patent",
-        "patentde" => "German patent",
-        "patenteu" => "European patent",
-        "patentfr" => "French patent",
-        "patentuk" => "British patent",
-        "patentus" => "U.S. patent",
-        _ => "",
-    }
-}
-
-// Returns the genre of a patent request by BibLaTeX's key for it, or an empty text for any other text.
-#[tactic(auto, unfolding(crate::specs::Publishing::request_named))]
-fn request_named(text: &str) -> &'static str
-    ensures { result.now ≡ spec.request_named text.now }
-{
-    match text {
-        "patreq" => "patent request",
-        "patreqde" => "German patent request",
-        "patreqeu" => "European patent request",
-        "patreqfr" => "French patent request",
-        "patrequk" => "British patent request",
-        "patrequs" => "U.S. patent request",
-        _ => "",
-    }
-}
+// Genres: BibLaTeX's key and the text.
+static GENRES: [(&str, &str); 21] = [
+    ("bathesis", "Bachelor's thesis"),
+    ("mathesis", "Master's thesis"),
+    ("phdthesis", "PhD thesis"),
+    ("candthesis", "Candidate thesis"),
+    ("techreport", "technical report"),
+    ("resreport", "research report"),
+    ("software", "computer software"),
+    ("datacd", "CD-ROM"),
+    ("audiocd", "audio CD"),
+    ("patent", "patent"),
+    ("patentde", "German patent"),
+    ("patenteu", "European patent"),
+    ("patentfr", "French patent"),
+    ("patentuk", "British patent"),
+    ("patentus", "U.S. patent"),
+    ("patreq", "patent request"),
+    ("patreqde", "German patent request"),
+    ("patreqeu", "European patent request"),
+    ("patreqfr", "French patent request"),
+    ("patrequk", "British patent request"),
+    ("patrequs", "U.S. patent request"),
+];
 
 // Returns the first text, or the other one if the first is empty.
 #[tactic(auto, unfolding(crate::specs::Texts::either))]
@@ -96,13 +74,22 @@ fn first_of<'t>(first: &'t str, other: &'t str) -> &'t str
     if first.is_empty() { other } else { first }
 }
 
+// Returns the genre with this key of BibLaTeX, or `None`.
+fn genre_of_key(key: &str) -> Option<&'static str>
+    ensures { option_map (λ genre. genre.now) result ≡ value_named spec.genres key.now }
+{
+    find_text(&GENRES, key)
+}
+
 // Returns the genre by BibLaTeX's key for it in the field `type`, or the text itself if it is no such key.
 #[tactic(auto, unfolding(crate::specs::Publishing::genre_named))]
 fn genre_named(text: &str) -> &str
     ensures { result.now ≡ spec.genre_named text.now }
 {
-    let patent = first_of(patent_named(text), first_of(request_named(text), text));
-    first_of(work_named(text), patent)
+    match genre_of_key(text) {
+        Some(genre) => genre,
+        None => text,
+    }
 }
 
 // Returns the genre that the entry type implies, or an empty text.
@@ -143,13 +130,8 @@ fn add_publisher(alloc: Global, entry: &Entry, fields: &mut Items<Field>) -> Res
 fn add_original(alloc: Global, entry: &Entry, fields: &mut Items<Field>) -> Result<(), AllocError>
     ensures { OnOk result (fields.new ≡ fields.old ++ spec.original_fields entry.now) }
 {
-    add_text(
-        fields,
-        Variable::OriginalPublisher,
-        list_text(alloc, entry, "origpublisher")?,
-    )?;
-    let place = list_text(alloc, entry, "origlocation")?;
-    add_text(fields, Variable::OriginalPublisherPlace, place)
+    add_listed(alloc, Variable::OriginalPublisher, entry, fields)?;
+    add_listed(alloc, Variable::OriginalPublisherPlace, entry, fields)
 }
 
 // Appends the publishers of an item and of its original, and its genre.

@@ -31,13 +31,23 @@ fn has_journal(entry: &Entry) -> bool
     field_or(entry, "journaltitle", "journal").is_some()
 }
 
-// Returns whether an entry has no language, or its tag, or else its text, begins with `en`.
+/// Returns whether the tag or the name of a language is English: it begins with `en`, in any ASCII case.
+pub fn is_english_tag(tag: &str) -> bool
+    ensures { result ≡ spec.is_english_tag tag.now }
+{
+    match tag.as_bytes().get(..2) {
+        Some(start) => start.eq_ignore_ascii_case(b"en"),
+        None => false,
+    }
+}
+
+// Returns whether an entry has no language, or its tag, or else its text, is English.
 #[tactic(auto, unfolding(crate::specs::SentenceItems::has_english_titles))]
 fn has_english_titles(alloc: Global, entry: &Entry) -> Result<bool, AllocError>
     ensures { IfOk result (λ is. is ≡ spec.has_english_titles entry.now) }
 {
     let tag = language_of(alloc, language_value(entry))?;
-    Ok(tag.is_empty() || tag.as_str().starts_with("en"))
+    Ok(tag.is_empty() || is_english_tag(tag.as_str()))
 }
 
 // Returns whether a variable is a title, but not that of a journal.

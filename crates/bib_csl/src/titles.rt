@@ -6,10 +6,11 @@ ghost use Rattle.bib_csl.specs.Titles as spec;
 use crate::adding::{add_rich, add_title};
 use crate::fields::add_text;
 use crate::item::Field;
+use crate::item_types::ItemType;
 use crate::markup::marked_field;
 use crate::texts::{either, field_or, joined_by_mark, series_named, title_text};
 use crate::types::{is_article, is_in_book, is_volume};
-use crate::variables::{ItemType, Variable};
+use crate::variables::Variable;
 use bib_entry::entry::Entry;
 use bib_text::items::Items;
 use bib_text::text::Text;
@@ -154,13 +155,13 @@ pub(crate) fn add_titles(
     ensures { OnOk result (fields.new ≡ fields.old ++ spec.title_fields kind entry.now) }
 {
     add_text(fields, Variable::Title, item_title(alloc, kind, entry)?)?;
-    add_title(alloc, Variable::TitleShort, entry, "shorttitle", fields)?;
+    add_title(alloc, Variable::TitleShort, entry, fields)?;
     add_text(
         fields,
         Variable::VolumeTitle,
         volume_title(alloc, kind, entry)?,
     )?;
-    add_title(alloc, Variable::OriginalTitle, entry, "origtitle", fields)
+    add_title(alloc, Variable::OriginalTitle, entry, fields)
 }
 
 // Appends the title of the container, its short form and the title of the series.
@@ -178,13 +179,7 @@ pub(crate) fn add_container(
         Variable::ContainerTitle,
         container_title(alloc, kind, entry)?,
     )?;
-    add_title(
-        alloc,
-        Variable::ContainerTitleShort,
-        entry,
-        "shortjournal",
-        fields,
-    )?;
+    add_title(alloc, Variable::ContainerTitleShort, entry, fields)?;
     add_text(
         fields,
         Variable::CollectionTitle,
@@ -204,5 +199,5 @@ pub(crate) fn add_event(
     let title = event_title(alloc, entry)?;
     add_text(fields, Variable::Event, title.clone()?)?;
     add_text(fields, Variable::EventTitle, title)?;
-    add_rich(alloc, Variable::EventPlace, entry, "venue", fields)
+    add_rich(alloc, Variable::EventPlace, entry, fields)
 }

@@ -3,7 +3,7 @@
 ghost use Rattle.std.specs.Prelude.{◌≡◌};
 ghost use Rattle.bib_csl.specs.Types.{type_of_article, item_type_named, type_of_unpublished, item_type_of, is_article, is_in_book, is_volume, counts_issues, counts_series};
 
-use crate::variables::ItemType;
+use crate::item_types::ItemType;
 use bib_tables::mechanics::EntryType;
 
 // Returns the type of an article, by the text of the field `entrysubtype`.
@@ -19,25 +19,12 @@ fn type_of_article(subtype: &str) -> ItemType
 
 /// Returns the type of the item of an entry with an unknown type of this name. Some other types of BibLaTeX, such as `movie`, have an
 /// item type. Any other name has `Document`.
-#[tactic(auto, unfolding(crate::specs::Types::item_type_named))]
 pub fn item_type_named(name: &str) -> ItemType
     ensures { result ≡ item_type_named name.now }
 {
-    match name {
-        "artwork" => ItemType::Graphic,
-        "image" => ItemType::Graphic,
-        "audio" => ItemType::Song,
-        "music" => ItemType::Song,
-        "movie" => ItemType::MotionPicture,
-        "video" => ItemType::MotionPicture,
-        "jurisdiction" => ItemType::LegalCase,
-        "legal" => ItemType::Treaty,
-        "legislation" => ItemType::Legislation,
-        "letter" => ItemType::PersonalCommunication,
-        "performance" => ItemType::Performance,
-        "review" => ItemType::Review,
-        "standard" => ItemType::Standard,
-        _ => ItemType::Document,
+    match ItemType::from_own_type(name) {
+        Some(kind) => kind,
+        None => ItemType::Document,
     }
 }
 
@@ -88,8 +75,8 @@ pub(crate) fn item_type_of(entry_type: &EntryType, subtype: &str, has_event: boo
     }
 }
 
-// Returns whether the item is an article of a journal, a magazine or a newspaper, or a review.
-pub(crate) fn is_article(kind: ItemType) -> bool
+/// Returns whether the item is an article of a journal, a magazine or a newspaper, or a review.
+pub fn is_article(kind: ItemType) -> bool
     ensures { result ≡ is_article kind }
 {
     matches!(
@@ -101,8 +88,8 @@ pub(crate) fn is_article(kind: ItemType) -> bool
     )
 }
 
-// Returns whether the item is a part of a book.
-pub(crate) fn is_in_book(kind: ItemType) -> bool
+/// Returns whether the item is a part of a book.
+pub fn is_in_book(kind: ItemType) -> bool
     ensures { result ≡ is_in_book kind }
 {
     matches!(
@@ -111,15 +98,18 @@ pub(crate) fn is_in_book(kind: ItemType) -> bool
     )
 }
 
-// Returns whether the item can be a volume of a work of several volumes.
-pub(crate) fn is_volume(kind: ItemType) -> bool
+/// Returns whether the item can be a volume of a work of several volumes.
+pub fn is_volume(kind: ItemType) -> bool
     ensures { result ≡ is_volume kind }
 {
-    matches!(kind, ItemType::Book | ItemType::Periodical)
+    matches!(
+        kind,
+        ItemType::Book | ItemType::Collection | ItemType::Periodical
+    )
 }
 
-// Returns whether the field `number` counts the issues of a periodical.
-pub(crate) fn counts_issues(kind: ItemType) -> bool
+/// Returns whether the field `number` counts the issues of a periodical.
+pub fn counts_issues(kind: ItemType) -> bool
     ensures { result ≡ counts_issues kind }
 {
     matches!(
@@ -132,14 +122,15 @@ pub(crate) fn counts_issues(kind: ItemType) -> bool
     )
 }
 
-// Returns whether the field `number` counts the works of a series.
-pub(crate) fn counts_series(kind: ItemType) -> bool
+/// Returns whether the field `number` counts the works of a series.
+pub fn counts_series(kind: ItemType) -> bool
     ensures { result ≡ counts_series kind }
 {
     matches!(
         kind,
         ItemType::Book
             | ItemType::Chapter
+            | ItemType::Collection
             | ItemType::PaperConference
             | ItemType::EntryEncyclopedia
             | ItemType::Pamphlet

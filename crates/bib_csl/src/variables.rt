@@ -1,108 +1,27 @@
-//! The types of items and their variables, with CSL's names.
+//! The table of variables of items.
+//!
+//! It has one row for each variable. `bib_csl` reads it to write items, and `bib_from_csl` reads it to write entries.
 
 ghost use Rattle.std.specs.Prelude.{◌≡◌};
-ghost use Rattle.bib_csl.specs.Names.{item_type_name, variable_name};
+ghost use Rattle.bib_csl.specs.TableRows.{first_variable, variable_row_meaning};
+ghost use Rattle.bib_csl.specs.Tables as spec;
 
-/// The types of the items of entries (CSL 1.0.2, appendix III).
+/// The form of the value of a variable.
 #[derive(Debug, Clone, Copy, PartialEq, Eq)]
-pub enum ItemType {
-    /// An article of a journal.
-    ArticleJournal,
-    /// An article of a magazine.
-    ArticleMagazine,
-    /// An article of a newspaper.
-    ArticleNewspaper,
-    /// A book.
-    Book,
-    /// A part of a book.
-    Chapter,
-    /// A data set.
-    Dataset,
-    /// A work of no other type.
-    Document,
-    /// An article of a work of reference.
-    EntryEncyclopedia,
-    /// A picture or another work of art.
-    Graphic,
-    /// The decision of a court.
-    LegalCase,
-    /// A law.
-    Legislation,
-    /// An unpublished work.
-    Manuscript,
-    /// A film or another moving picture.
-    MotionPicture,
-    /// A printed work without a publisher.
-    Pamphlet,
-    /// A paper in the proceedings of a conference.
-    PaperConference,
-    /// A patent.
-    Patent,
-    /// A performance of a work.
-    Performance,
-    /// An issue of a periodical.
-    Periodical,
-    /// A letter or another message.
-    PersonalCommunication,
-    /// A report.
-    Report,
-    /// A review of another work.
-    Review,
-    /// Software.
-    Software,
-    /// Music or another recording of sound.
-    Song,
-    /// A talk at an event.
-    Speech,
-    /// A standard.
-    Standard,
-    /// A thesis.
-    Thesis,
-    /// A treaty or another legal document.
-    Treaty,
-    /// A web page or a web site.
-    Webpage,
+pub enum Form {
+    /// A text with HTML tags.
+    Tagged,
+    /// A text with HTML tags. Its field is a list with `and` between the elements.
+    Listed,
+    /// A number, an identifier or another text. Import parses no HTML tags in it.
+    Plain,
+    /// Names of people.
+    Names,
+    /// A date.
+    Date,
 }
 
-impl ItemType {
-    /// Returns CSL's name of the type.
-    pub fn name(self) -> &'static str
-        ensures { result.now ≡ item_type_name self }
-    {
-        match self {
-            Self::ArticleJournal => "article-journal",
-            Self::ArticleMagazine => "article-magazine",
-            Self::ArticleNewspaper => "article-newspaper",
-            Self::Book => "book",
-            Self::Chapter => "chapter",
-            Self::Dataset => "dataset",
-            Self::Document => "document",
-            Self::EntryEncyclopedia => "entry-encyclopedia",
-            Self::Graphic => "graphic",
-            Self::LegalCase => "legal_case",
-            Self::Legislation => "legislation",
-            Self::Manuscript => "manuscript",
-            Self::MotionPicture => "motion_picture",
-            Self::Pamphlet => "pamphlet",
-            Self::PaperConference => "paper-conference",
-            Self::Patent => "patent",
-            Self::Performance => "performance",
-            Self::Periodical => "periodical",
-            Self::PersonalCommunication => "personal_communication",
-            Self::Report => "report",
-            Self::Review => "review",
-            Self::Software => "software",
-            Self::Song => "song",
-            Self::Speech => "speech",
-            Self::Standard => "standard",
-            Self::Thesis => "thesis",
-            Self::Treaty => "treaty",
-            Self::Webpage => "webpage",
-        }
-    }
-}
-
-/// The variables of the items of entries (CSL 1.0.2, appendix IV).
+/// The variables of items (CSL 1.0.2, appendix IV).
 #[derive(Debug, Clone, Copy, PartialEq, Eq)]
 pub enum Variable {
     /// The title.
@@ -199,6 +118,44 @@ pub enum Variable {
     Translator,
     /// The authors of the container.
     ContainerAuthor,
+    /// The chairs of an event or a session.
+    Chair,
+    /// The editors of the series.
+    CollectionEditor,
+    /// The composers.
+    Composer,
+    /// Other contributors.
+    Contributor,
+    /// The curators of an exhibition.
+    Curator,
+    /// The managing editors.
+    EditorialDirector,
+    /// The executive producers.
+    ExecutiveProducer,
+    /// The guests of a broadcast.
+    Guest,
+    /// The hosts of a broadcast.
+    Host,
+    /// The illustrators.
+    Illustrator,
+    /// The interviewers.
+    Interviewer,
+    /// The narrators.
+    Narrator,
+    /// The authors of the original.
+    OriginalAuthor,
+    /// The performers.
+    Performer,
+    /// The producers.
+    Producer,
+    /// The recipients of a letter or another message.
+    Recipient,
+    /// The authors of the reviewed work.
+    ReviewedAuthor,
+    /// The writers of the script.
+    ScriptWriter,
+    /// The creators of a series of broadcasts.
+    SeriesCreator,
     /// The date of publication.
     Issued,
     /// The date on which the address was visited.
@@ -207,65 +164,239 @@ pub enum Variable {
     EventDate,
     /// The date of publication of the original.
     OriginalDate,
+    /// The date on which the work became available online before its publication.
+    AvailableDate,
+    /// The date on which the work was submitted.
+    Submitted,
 }
+
+/// A variable: CSL's name, the form of its value, and its field. The field is empty if it depends on the item, or if the variable has none.
+type VariableRow = (Variable, &'static str, Form, &'static str);
+
+/// The variables, in the order of the variants.
+static VARIABLES: [VariableRow; 72] = [
+    (Variable::Title, "title", Form::Tagged, ""),
+    (
+        Variable::TitleShort,
+        "title-short",
+        Form::Tagged,
+        "shorttitle",
+    ),
+    (Variable::VolumeTitle, "volume-title", Form::Tagged, ""),
+    (
+        Variable::ContainerTitle,
+        "container-title",
+        Form::Tagged,
+        "",
+    ),
+    (
+        Variable::ContainerTitleShort,
+        "container-title-short",
+        Form::Tagged,
+        "shortjournal",
+    ),
+    (
+        Variable::CollectionTitle,
+        "collection-title",
+        Form::Tagged,
+        "series",
+    ),
+    (
+        Variable::OriginalTitle,
+        "original-title",
+        Form::Tagged,
+        "origtitle",
+    ),
+    (Variable::Event, "event", Form::Tagged, "eventtitle"),
+    (
+        Variable::EventTitle,
+        "event-title",
+        Form::Tagged,
+        "eventtitle",
+    ),
+    (Variable::Publisher, "publisher", Form::Listed, ""),
+    (
+        Variable::PublisherPlace,
+        "publisher-place",
+        Form::Listed,
+        "location",
+    ),
+    (
+        Variable::OriginalPublisher,
+        "original-publisher",
+        Form::Listed,
+        "origpublisher",
+    ),
+    (
+        Variable::OriginalPublisherPlace,
+        "original-publisher-place",
+        Form::Listed,
+        "origlocation",
+    ),
+    (Variable::EventPlace, "event-place", Form::Tagged, "venue"),
+    (Variable::Genre, "genre", Form::Tagged, "type"),
+    (Variable::Volume, "volume", Form::Plain, "volume"),
+    (
+        Variable::NumberOfVolumes,
+        "number-of-volumes",
+        Form::Plain,
+        "volumes",
+    ),
+    (Variable::PartNumber, "part-number", Form::Plain, "part"),
+    (Variable::Issue, "issue", Form::Plain, ""),
+    (Variable::Number, "number", Form::Plain, ""),
+    (
+        Variable::CollectionNumber,
+        "collection-number",
+        Form::Plain,
+        "",
+    ),
+    (Variable::Edition, "edition", Form::Plain, "edition"),
+    (
+        Variable::ChapterNumber,
+        "chapter-number",
+        Form::Plain,
+        "chapter",
+    ),
+    (Variable::Page, "page", Form::Plain, "pages"),
+    (
+        Variable::NumberOfPages,
+        "number-of-pages",
+        Form::Plain,
+        "pagetotal",
+    ),
+    (Variable::Version, "version", Form::Plain, "version"),
+    (Variable::Doi, "DOI", Form::Plain, "doi"),
+    (Variable::Url, "URL", Form::Plain, "url"),
+    (Variable::Pmid, "PMID", Form::Plain, "eprint"),
+    (Variable::Isbn, "ISBN", Form::Plain, "isbn"),
+    (Variable::Issn, "ISSN", Form::Plain, "issn"),
+    (Variable::Archive, "archive", Form::Plain, "eprinttype"),
+    (
+        Variable::ArchiveLocation,
+        "archive_location",
+        Form::Plain,
+        "eprint",
+    ),
+    (Variable::CallNumber, "call-number", Form::Plain, "library"),
+    (Variable::Abstract, "abstract", Form::Tagged, "abstract"),
+    (Variable::Annote, "annote", Form::Tagged, "annotation"),
+    (Variable::Note, "note", Form::Tagged, "note"),
+    (Variable::Status, "status", Form::Plain, "pubstate"),
+    (Variable::Keyword, "keyword", Form::Plain, "keywords"),
+    (Variable::Language, "language", Form::Plain, ""),
+    (Variable::Author, "author", Form::Names, "author"),
+    (Variable::Editor, "editor", Form::Names, "editor"),
+    (Variable::Compiler, "compiler", Form::Names, "editora"),
+    (Variable::Director, "director", Form::Names, "editorb"),
+    (Variable::Organizer, "organizer", Form::Names, "editorc"),
+    (
+        Variable::Translator,
+        "translator",
+        Form::Names,
+        "translator",
+    ),
+    (
+        Variable::ContainerAuthor,
+        "container-author",
+        Form::Names,
+        "bookauthor",
+    ),
+    (Variable::Chair, "chair", Form::Names, ""),
+    (
+        Variable::CollectionEditor,
+        "collection-editor",
+        Form::Names,
+        "",
+    ),
+    (Variable::Composer, "composer", Form::Names, ""),
+    (Variable::Contributor, "contributor", Form::Names, ""),
+    (Variable::Curator, "curator", Form::Names, ""),
+    (
+        Variable::EditorialDirector,
+        "editorial-director",
+        Form::Names,
+        "",
+    ),
+    (
+        Variable::ExecutiveProducer,
+        "executive-producer",
+        Form::Names,
+        "",
+    ),
+    (Variable::Guest, "guest", Form::Names, ""),
+    (Variable::Host, "host", Form::Names, ""),
+    (Variable::Illustrator, "illustrator", Form::Names, ""),
+    (Variable::Interviewer, "interviewer", Form::Names, ""),
+    (Variable::Narrator, "narrator", Form::Names, ""),
+    (Variable::OriginalAuthor, "original-author", Form::Names, ""),
+    (Variable::Performer, "performer", Form::Names, ""),
+    (Variable::Producer, "producer", Form::Names, ""),
+    (Variable::Recipient, "recipient", Form::Names, ""),
+    (Variable::ReviewedAuthor, "reviewed-author", Form::Names, ""),
+    (Variable::ScriptWriter, "script-writer", Form::Names, ""),
+    (Variable::SeriesCreator, "series-creator", Form::Names, ""),
+    (Variable::Issued, "issued", Form::Date, "date"),
+    (Variable::Accessed, "accessed", Form::Date, "urldate"),
+    (Variable::EventDate, "event-date", Form::Date, "eventdate"),
+    (
+        Variable::OriginalDate,
+        "original-date",
+        Form::Date,
+        "origdate",
+    ),
+    (Variable::AvailableDate, "available-date", Form::Date, ""),
+    (Variable::Submitted, "submitted", Form::Date, ""),
+];
 
 impl Variable {
     /// Returns CSL's name of the variable.
     pub fn name(self) -> &'static str
-        ensures { result.now ≡ variable_name self }
+        ensures { result.now ≡ spec.variable_name self }
     {
-        match self {
-            Self::Title => "title",
-            Self::TitleShort => "title-short",
-            Self::VolumeTitle => "volume-title",
-            Self::ContainerTitle => "container-title",
-            Self::ContainerTitleShort => "container-title-short",
-            Self::CollectionTitle => "collection-title",
-            Self::OriginalTitle => "original-title",
-            Self::Event => "event",
-            Self::EventTitle => "event-title",
-            Self::Publisher => "publisher",
-            Self::PublisherPlace => "publisher-place",
-            Self::OriginalPublisher => "original-publisher",
-            Self::OriginalPublisherPlace => "original-publisher-place",
-            Self::EventPlace => "event-place",
-            Self::Genre => "genre",
-            Self::Volume => "volume",
-            Self::NumberOfVolumes => "number-of-volumes",
-            Self::PartNumber => "part-number",
-            Self::Issue => "issue",
-            Self::Number => "number",
-            Self::CollectionNumber => "collection-number",
-            Self::Edition => "edition",
-            Self::ChapterNumber => "chapter-number",
-            Self::Page => "page",
-            Self::NumberOfPages => "number-of-pages",
-            Self::Version => "version",
-            Self::Doi => "DOI",
-            Self::Url => "URL",
-            Self::Pmid => "PMID",
-            Self::Isbn => "ISBN",
-            Self::Issn => "ISSN",
-            Self::Archive => "archive",
-            Self::ArchiveLocation => "archive_location",
-            Self::CallNumber => "call-number",
-            Self::Abstract => "abstract",
-            Self::Annote => "annote",
-            Self::Note => "note",
-            Self::Status => "status",
-            Self::Keyword => "keyword",
-            Self::Language => "language",
-            Self::Author => "author",
-            Self::Editor => "editor",
-            Self::Compiler => "compiler",
-            Self::Director => "director",
-            Self::Organizer => "organizer",
-            Self::Translator => "translator",
-            Self::ContainerAuthor => "container-author",
-            Self::Issued => "issued",
-            Self::Accessed => "accessed",
-            Self::EventDate => "event-date",
-            Self::OriginalDate => "original-date",
+        let (_, name, _, _) = self.row();
+        name
+    }
+
+    /// Returns the form of the value.
+    pub fn form(self) -> Form
+        ensures { result ≡ spec.variable_form self }
+    {
+        let (_, _, form, _) = self.row();
+        *form
+    }
+
+    /// Returns the name of the field, or an empty text if the field depends on the item or the variable has none.
+    pub fn field(self) -> &'static str
+        ensures { result.now ≡ spec.field_in_table self }
+    {
+        let (_, _, _, field) = self.row();
+        field
+    }
+
+    // Returns the row of the variable.
+    fn row(self) -> &'static VariableRow
+        ensures { variable_row_meaning result.now ≡ spec.variable_row self }
+    {
+        &VARIABLES[self as usize]
+    }
+
+    /// Returns the variable with exactly this name, or `None`.
+    pub fn from_name(name: &str) -> Option<Self>
+        ensures { result ≡ spec.variable_named name.now }
+    {
+        find_variable(&VARIABLES, name)
+    }
+}
+
+// Returns the variable of the first row with this name, or `None`.
+fn find_variable(rows: &[VariableRow], name: &str) -> Option<Variable>
+    ensures { result ≡ first_variable name.now rows.entry.now }
+{
+    for row in rows {
+        if row.1 == name {
+            return Some(row.0);
         }
     }
+    None
 }

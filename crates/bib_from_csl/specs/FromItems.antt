@@ -7,13 +7,15 @@ use Rattle.bib_text.specs.Characters as char
 use Rattle.bib_syntax.specs.Characters.{is_key}
 use Rattle.bib_csl.specs.declared.item.Content.{Content}
 use Rattle.bib_csl.specs.declared.item.Content.TheVariants as content
+use Rattle.bib_csl.specs.declared.variables.Form.{Form}
+use Rattle.bib_csl.specs.declared.variables.Form.TheVariants as form
 use Rattle.bib_from_csl.specs.declared.given.Given.{Given}
 use Rattle.bib_from_csl.specs.declared.given.GivenItem.{GivenItem}
 use Rattle.bib_from_csl.specs.declared.writing.Work.{Work}
-use Rattle.bib_from_csl.specs.EntryTypes.{type_for_item, subtype_of, written_type_name}
+use Rattle.bib_from_csl.specs.EntryTypes.{item_type_for, subtype_of, written_type_name}
 use Rattle.bib_from_csl.specs.LanguageNames.{language_name}
 use Rattle.bib_from_csl.specs.Values.{braced, listed_value, pages_value, plain_value, tagged_value}
-use Rattle.bib_from_csl.specs.Variables.{beside_field, beside_text, variable_field, is_list_variable, is_tagged}
+use Rattle.bib_from_csl.specs.Variables.{beside_field, beside_text, form_of, variable_field}
 use Rattle.bib_from_csl.specs.WrittenDates.{date_source}
 use Rattle.bib_from_csl.specs.WrittenPeople.{have_fixed_prefix, names_value}
 
@@ -37,7 +39,7 @@ has_prefix given = content_has_prefix given.content
 -- the properties of an item that its fields depend on
 unfoldable pub work_for_item : GivenItem → Work
 work_for_item item = record {
-  kind = type_for_item item.kind;
+  kind = item_type_for item.kind;
   in_work = list_any is_volume_title item.fields;
   uses_prefix = list_any has_prefix item.fields;
   has_event_title = list_any is_event_title item.fields;
@@ -51,13 +53,19 @@ entry_field_line name value = codes "  " ++ (name ++ (codes " = " ++ (value ++ c
 unfoldable pub known_line : List ℕ → List ℕ → List ℕ
 known_line name text = if length text == 0 then [] else entry_field_line name (braced text)
 
+-- the value of the field `field` for the text of the variable `name`, which is neither a list nor tagged
+abbrev pub untagged_source : List ℕ → List ℕ → List ℕ → List ℕ
+untagged_source field name text = if bytes_eq name (codes "page") then pages_value text else plain_value field text
+
+-- the value of the field `field` for the text of the variable `name`, which has this form or is unknown
+abbrev pub source_in : Option Form → List ℕ → List ℕ → List ℕ → List ℕ
+source_in (Some form.Listed) field name text = listed_value text
+source_in (Some form.Tagged) field name text = tagged_value text
+source_in other field name text = untagged_source field name text
+
 -- the value of the field `field` for the text of the variable `name`
 unfoldable pub variable_source : List ℕ → List ℕ → List ℕ → List ℕ
-variable_source field name text =
-    if is_list_variable name then listed_value text
-    else if is_tagged name then tagged_value text
-    else if bytes_eq name (codes "page") then pages_value text
-    else plain_value field text
+variable_source field name text = source_in (form_of name) field name text
 
 -- the value of the field `field` for the content of the variable `name`; `None` for a date that can't be written
 abbrev pub content_source : Bool → List ℕ → List ℕ → Content → Option (List ℕ)

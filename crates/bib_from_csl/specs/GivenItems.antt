@@ -11,6 +11,9 @@ use Rattle.bib_dates.specs.Dates.{holds as has_byte}
 use Rattle.bib_csl.specs.declared.item.Content.{Content}
 use Rattle.bib_csl.specs.declared.item.Content.TheVariants as content
 use Rattle.bib_csl.specs.declared.item.ItemDate.{ItemDate}
+use Rattle.bib_csl.specs.declared.variables.Form.{Form}
+use Rattle.bib_csl.specs.declared.variables.Form.TheVariants as form
+use Rattle.bib_csl.specs.SentenceItems.{is_english_tag}
 use Rattle.bib_from_csl.specs.declared.given.Given.{Given}
 use Rattle.bib_from_csl.specs.declared.reading.Fault.TheVariants as fault
 use Rattle.bib_from_csl.specs.declared.reading.ItemReading.{ItemReading}
@@ -20,9 +23,9 @@ use Rattle.bib_from_csl.specs.declared.reading.ItemsReading.TheVariants.{Are, Re
 use Rattle.bib_from_csl.specs.GivenDates.{date_given, is_whole_date}
 use Rattle.bib_from_csl.specs.GivenNames.{are_objects, are_whole_names, given_names}
 use Rattle.bib_from_csl.specs.Objects.{array_elements, object_members, string_under, text_in, text_under}
-use Rattle.bib_from_csl.specs.OwnTitles.{is_english_tag, is_own_title, protected_title}
+use Rattle.bib_from_csl.specs.OwnTitles.{is_own_title, protected_title}
 use Rattle.bib_from_csl.specs.Values.{replaced}
-use Rattle.bib_from_csl.specs.Variables.{is_date, is_names, is_text}
+use Rattle.bib_from_csl.specs.Variables.{form_of}
 
 -- whether a character occurs in page numbers
 abbrev pub is_of_pages : ℕ → Bool
@@ -101,13 +104,16 @@ text_or_texts j = option_map_or (joined_from true) (array_elements j) (text_in j
 unfoldable pub text_member : Bool → List ℕ → Json → Option Given
 text_member keeps_case name j = of_text keeps_case name (text_or_texts j)
 
+-- a member whose variable has this form, or an unknown one; `None` if the value doesn't have this form
+abbrev pub member_in : Option Form → Bool → List ℕ → Json → Option Given
+member_in None keeps_case name j = member_with name None false
+member_in (Some form.Names) keeps_case name j = names_member name j
+member_in (Some form.Date) keeps_case name j = date_member name j
+member_in (Some other) keeps_case name j = text_member keeps_case name j
+
 -- a member; `None` if it doesn't have the form of its variable
 unfoldable pub member_of : Bool → List ℕ → Json → Option Given
-member_of keeps_case name j =
-    if is_names name then names_member name j
-    else if is_date name then date_member name j
-    else if is_text name then text_member keeps_case name j
-    else member_with name None false
+member_of keeps_case name j = member_in (form_of name) keeps_case name j
 
 -- whether a value is a text or a number that is written so
 abbrev pub has_text : List ℕ → Json → Bool

@@ -8,7 +8,7 @@ use Rattle.bib_csl.specs.contracts.item.ContentPartialEq.TheImpl as content
 use Rattle.bib_csl.specs.declared.item.Field.{Field}
 use Rattle.bib_csl.specs.declared.item.Item.{Item}
 use Rattle.bib_csl.specs.Items.{item_of_entry}
-use Rattle.bib_csl.specs.Names.{item_type_name, variable_name}
+use Rattle.bib_csl.specs.Tables.{item_type_name, variable_name}
 use Rattle.bib_from_csl.specs.declared.given.Given.{Given}
 use Rattle.bib_from_csl.specs.declared.given.GivenItem.{GivenItem}
 use Rattle.bib_from_csl.specs.declared.losses.Loss.{Loss}

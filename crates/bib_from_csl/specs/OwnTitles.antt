@@ -1,9 +1,9 @@
 -- Meaning: words of public contracts.
 -- Titles whose words keep their case. Many styles of BibTeX and BibLaTeX print titles in lowercase letters, except for text in braces. CSL
 -- recommends titles in sentence case, in which a capital inside of the title belongs to its word. pandoc protects the same words.
-use Rattle.std.specs.Prelude.{ℕ, Bool, true, false, ◌==◌, ◌||◌, if◌then◌else◌, List, [], ◌∷◌, ◌++◌, bytes_eq, codes, take}
+use Rattle.std.specs.Prelude.{ℕ, Bool, true, false, ◌==◌, ◌||◌, if◌then◌else◌, List, [], ◌∷◌, ◌++◌, bytes_eq, codes}
 use Rattle.std.specs.List.{flat_map, list_any, slice_split}
-use Rattle.std.specs.Str.{chars, str_eq_ignore_ascii_case}
+use Rattle.std.specs.Str.{chars}
 use Rattle.unicode.specs.Binary.{is_uppercase}
 use Rattle.bib_text.specs.Characters as char
 use Rattle.bib_dates.specs.Dates.{holds as has_byte}
@@ -11,10 +11,6 @@ use Rattle.bib_dates.specs.Dates.{holds as has_byte}
 -- whether a variable is the title of the work itself, whole or short
 abbrev pub is_own_title : List ℕ → Bool
 is_own_title name = bytes_eq name (codes "title") || bytes_eq name (codes "title-short")
-
--- whether the tag or the name of a language is English: it begins with `en`. The case of a tag doesn't count (RFC 5646, 2.1.1)
-abbrev pub is_english_tag : List ℕ → Bool
-is_english_tag tag = str_eq_ignore_ascii_case (take 2 tag) (codes "en")
 
 -- whether a word contains an uppercase letter
 abbrev pub has_capital : List ℕ → Bool

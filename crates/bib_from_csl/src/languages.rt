@@ -1,83 +1,66 @@
 //! BibLaTeX's names of languages, by their tags (BCP 47).
 
 ghost use Rattle.std.specs.Prelude.{◌≡◌};
+ghost use Rattle.bib_csl.specs.Named.{text_named};
 ghost use Rattle.bib_from_csl.specs.LanguageNames as spec;
 
 use crate::reading::sides;
+use bib_csl::named::text_named;
 
-// Returns the name of a language for a tag with a country or a script, or an empty text.
-#[tactic(auto, unfolding(crate::specs::LanguageNames::national_name))]
-fn national_name(tag: &str) -> &'static str
-    ensures { result.now ≡ spec.national_name tag.now }
-{
-    match tag {
-        "en-US" => "american",
-        "en-GB" => "british",
-        "en-CA" => "canadian",
-        "en-AU" => "australian",
-        "en-NZ" => "newzealand",
-        "de-AT" => "naustrian",
-        "de-CH" => "nswissgerman",
-        "pt-BR" => "brazil",
-        "pt-PT" => "portuguese",
-        "es-MX" => "mexican",
-        "fr-CA" => "canadien",
-        "sr-Latn" => "serbian",
-        "sr-Cyrl" => "serbianc",
-        _ => "",
-    }
-}
+// Languages: the tag and BibLaTeX's name.
+static LANGUAGES: [(&str, &str); 45] = [
+    ("en-US", "american"),
+    ("en-GB", "british"),
+    ("en-CA", "canadian"),
+    ("en-AU", "australian"),
+    ("en-NZ", "newzealand"),
+    ("de-AT", "naustrian"),
+    ("de-CH", "nswissgerman"),
+    ("pt-BR", "brazil"),
+    ("pt-PT", "portuguese"),
+    ("es-MX", "mexican"),
+    ("fr-CA", "canadien"),
+    ("sr-Latn", "serbian"),
+    ("sr-Cyrl", "serbianc"),
+    ("ca", "catalan"),
+    ("da", "danish"),
+    ("de", "ngerman"),
+    ("es", "spanish"),
+    ("eu", "basque"),
+    ("fi", "finnish"),
+    ("fr", "french"),
+    ("is", "icelandic"),
+    ("it", "italian"),
+    ("nb", "norsk"),
+    ("nl", "dutch"),
+    ("nn", "nynorsk"),
+    ("sv", "swedish"),
+    ("bg", "bulgarian"),
+    ("cs", "czech"),
+    ("el", "greek"),
+    ("et", "estonian"),
+    ("hr", "croatian"),
+    ("hu", "hungarian"),
+    ("lt", "lithuanian"),
+    ("lv", "latvian"),
+    ("mr", "marathi"),
+    ("pl", "polish"),
+    ("ro", "romanian"),
+    ("ru", "russian"),
+    ("sk", "slovak"),
+    ("sl", "slovene"),
+    ("tr", "turkish"),
+    ("uk", "ukrainian"),
+    ("gl", "galician"),
+    ("la", "latin"),
+    ("no", "norwegian"),
+];
 
-// Returns the name of a language of western, southern or northern Europe, or an empty text.
-#[tactic(auto, unfolding(crate::specs::LanguageNames::western_name))]
-fn western_name(tag: &str) -> &'static str
-    ensures { result.now ≡ spec.western_name tag.now }
+// Returns the name of the language with exactly this tag, or an empty text.
+fn named(tag: &str) -> &'static str
+    ensures { result.now ≡ text_named spec.language_names tag.now }
 {
-    match tag {
-        "ca" => "catalan",
-        "da" => "danish",
-        "de" => "ngerman",
-        "es" => "spanish",
-        "eu" => "basque",
-        "fi" => "finnish",
-        "fr" => "french",
-        "is" => "icelandic",
-        "it" => "italian",
-        "nb" => "norsk",
-        "nl" => "dutch",
-        "nn" => "nynorsk",
-        "sv" => "swedish",
-        _ => "",
-    }
-}
-
-// Returns the name of another language, or an empty text.
-#[tactic(auto, unfolding(crate::specs::LanguageNames::eastern_name))]
-fn other_name(tag: &str) -> &'static str
-    ensures { result.now ≡ spec.eastern_name tag.now }
-{
-    match tag {
-        "bg" => "bulgarian",
-        "cs" => "czech",
-        "el" => "greek",
-        "et" => "estonian",
-        "hr" => "croatian",
-        "hu" => "hungarian",
-        "lt" => "lithuanian",
-        "lv" => "latvian",
-        "mr" => "marathi",
-        "pl" => "polish",
-        "ro" => "romanian",
-        "ru" => "russian",
-        "sk" => "slovak",
-        "sl" => "slovene",
-        "tr" => "turkish",
-        "uk" => "ukrainian",
-        "gl" => "galician",
-        "la" => "latin",
-        "no" => "norwegian",
-        _ => "",
-    }
+    text_named(&LANGUAGES, tag)
 }
 
 // Returns the first name, or the other one if the first is empty.
@@ -104,7 +87,5 @@ fn without_country(tag: &str) -> &str
 pub(crate) fn language_name(tag: &str) -> &'static str
     ensures { result.now ≡ spec.language_name tag.now }
 {
-    let language = without_country(tag);
-    let name = first_name(western_name(language), other_name(language));
-    first_name(national_name(tag), name)
+    first_name(named(tag), named(without_country(tag)))
 }

@@ -53,7 +53,7 @@ fn content_of<'f>(fields: &'f [Field], name: &str) -> Option<&'f Content>
 fn has_field(work: &Work, name: &str) -> bool
     ensures { result ≡ spec.is_fielded work.now name.now }
 {
-    name == "language" || !field_of(&work.kind, work.in_work, name).is_empty()
+    name == "language" || !field_of(work.kind, work.in_work, name).is_empty()
 }
 
 // Returns whether the variable with a name has this content.

@@ -12,10 +12,12 @@ use crate::dates::{given_date, is_whole_date};
 use crate::given::{Given, GivenItem};
 use crate::names::{are_objects, are_whole_names, given_names};
 use crate::objects::{elements, members, string_under, text_in, text_under};
-use crate::titles::{is_english_tag, is_own_title, protected_title};
+use crate::titles::{is_own_title, protected_title};
 use crate::values::replaced;
-use crate::variables::{is_date, is_names, is_text};
+use crate::variables::form_of;
 use bib_csl::item::Content;
+use bib_csl::sentence_items::is_english_tag;
+use bib_csl::variables::Form;
 use bib_text::items::Items;
 use bib_text::text::Text;
 use json::Value;
@@ -231,16 +233,12 @@ fn member_of(
 ) -> Result<Option<Given>, AllocError>
     ensures { IfOk result (λ member. member ≡ spec.member_of keeps_case name.now (value_view value.now)) }
 {
-    if is_names(name) {
-        return names_member(alloc, name, value);
+    match form_of(name) {
+        Some(Form::Names) => names_member(alloc, name, value),
+        Some(Form::Date) => date_member(alloc, name, value),
+        Some(_) => text_member(alloc, keeps_case, name, value),
+        None => given(alloc, name, None, false),
     }
-    if is_date(name) {
-        return date_member(alloc, name, value);
-    }
-    if is_text(name) {
-        return text_member(alloc, keeps_case, name, value);
-    }
-    given(alloc, name, None, false)
 }
 
 // Returns whether a value is a text or a number that is written so.

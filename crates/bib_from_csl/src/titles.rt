@@ -16,16 +16,6 @@ pub fn is_own_title(name: &str) -> bool
     matches!(name, "title" | "title-short")
 }
 
-/// Returns whether the tag or the name of a language is English: it begins with `en`, in any ASCII case.
-pub fn is_english_tag(tag: &str) -> bool
-    ensures { result ≡ spec.is_english_tag tag.now }
-{
-    match tag.as_bytes().get(..2) {
-        Some(start) => start.eq_ignore_ascii_case(b"en"),
-        None => false,
-    }
-}
-
 // Returns whether a word contains an uppercase letter.
 fn has_capital(word: &str) -> bool
     ensures { result ≡ spec.has_capital word.now }

@@ -9,12 +9,13 @@ use crate::days::date_value;
 use crate::given::{Given, GivenItem};
 use crate::languages::language_name;
 use crate::people::{have_fixed_prefix, names_value};
-use crate::types::{entry_type_of, subtype_of, written_type_name};
+use crate::types::{item_type_for, subtype_of, written_type_name};
 use crate::values::{braced, listed_value, pages_value, plain_value, tagged_value};
-use crate::variables::{beside_field, beside_text, field_of, is_listed, is_tagged};
+use crate::variables::{beside_field, beside_text, field_of, form_of};
 use bib_csl::item::Content;
+use bib_csl::item_types::ItemType;
+use bib_csl::variables::Form;
 use bib_syntax::raw::is_key;
-use bib_tables::mechanics::EntryType;
 use bib_text::scanner::Scanner;
 use bib_text::text::Text;
 use std::alloc::{AllocError, Global};
@@ -22,8 +23,8 @@ use std::alloc::{AllocError, Global};
 /// The properties of an item that its fields depend on.
 #[derive(Debug, Drop)]
 pub struct Work {
-    /// The type of the entry.
-    pub kind: EntryType,
+    /// The type.
+    pub kind: ItemType,
     /// Whether the item has a title of its volume.
     pub in_work: bool,
     /// Whether prefixes are part of family names.
@@ -83,7 +84,7 @@ pub(crate) fn work_of(item: &GivenItem) -> Work
     ensures { result ≡ spec.work_for_item item.now }
 {
     Work {
-        kind: entry_type_of(item.kind.as_str()),
+        kind: item_type_for(item.kind.as_str()),
         in_work: have_volume_title(item.fields.as_slice()),
         uses_prefix: have_prefix(item.fields.as_slice()),
         has_event_title: have_event_title(item.fields.as_slice()),
@@ -113,21 +114,26 @@ fn push_known(alloc: Global, out: &mut Text, name: &str, text: &str) -> Result<(
     push_line(out, name, value.as_str())
 }
 
+// Returns the value of a field for the text of the variable `name`, which is neither a list nor tagged.
+fn untagged_value(alloc: Global, field: &str, name: &str, text: &str) -> Result<Text, AllocError>
+    ensures { IfOk result (λ value. value ≡ spec.untagged_source field.now name.now text.now) }
+{
+    if name == "page" {
+        return pages_value(alloc, text);
+    }
+    plain_value(alloc, field, text)
+}
+
 // Returns the value of a field for the text of the variable `name`.
 #[tactic(auto, unfolding(crate::specs::FromItems::variable_source))]
 fn text_value(alloc: Global, field: &str, name: &str, text: &str) -> Result<Text, AllocError>
     ensures { IfOk result (λ value. value ≡ spec.variable_source field.now name.now text.now) }
 {
-    if is_listed(name) {
-        return listed_value(alloc, text);
+    match form_of(name) {
+        Some(Form::Listed) => listed_value(alloc, text),
+        Some(Form::Tagged) => tagged_value(alloc, text),
+        _ => untagged_value(alloc, field, name, text),
     }
-    if is_tagged(name) {
-        return tagged_value(alloc, text);
-    }
-    if name == "page" {
-        return pages_value(alloc, text);
-    }
-    plain_value(alloc, field, text)
 }
 
 // Returns the value of a field for the content of the variable `name`, or `None` for a date that can't be written.
@@ -215,7 +221,7 @@ fn push_content(
             return Ok(());
         }
     }
-    let field = field_of(&work.kind, work.in_work, name);
+    let field = field_of(work.kind, work.in_work, name);
     if field.is_empty() {
         return Ok(());
     }

@@ -9,8 +9,9 @@ use Rattle.bib_text.specs.Characters as char
 use Rattle.bib_csl.specs.declared.item.Content.TheVariants as content
 use Rattle.bib_csl.specs.declared.item.ItemDate.{ItemDate}
 use Rattle.bib_csl.specs.declared.item.Name.{Name}
+use Rattle.bib_csl.specs.SentenceItems.{is_english_tag}
 use Rattle.bib_from_csl.specs.declared.given.Given.{Given}
-use Rattle.bib_from_csl.specs.OwnTitles.{is_english_tag, is_own_title, protected_title}
+use Rattle.bib_from_csl.specs.OwnTitles.{is_own_title, protected_title}
 use Rattle.bib_from_ris.specs.Lines.{right_of_hyphen, left_of_hyphen}
 use Rattle.bib_from_ris.specs.RisDates.{has_whole_date, is_year_of, ris_date}
 use Rattle.bib_from_ris.specs.RisNames.{ris_name}

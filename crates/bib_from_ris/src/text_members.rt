@@ -6,8 +6,9 @@ ghost use Rattle.bib_from_ris.specs.Members as spec;
 
 use crate::variables::{VariableLine, text_of};
 use bib_csl::item::Content;
+use bib_csl::sentence_items::is_english_tag;
 use bib_from_csl::given::Given;
-use bib_from_csl::titles::{is_english_tag, protected_title};
+use bib_from_csl::titles::protected_title;
 use bib_text::items::Items;
 use bib_text::text::Text;
 use std::alloc::{AllocError, Global};

@@ -5,8 +5,8 @@ ghost use Rattle.std.specs.Option.{option_copied};
 ghost use Rattle.bib_ris.specs.Types as spec;
 
 use bib_chunks::chunk::{ChunksRef, format_verbatim};
+use bib_csl::item_types::ItemType;
 use bib_csl::types::item_type_named;
-use bib_csl::variables::ItemType;
 use bib_tables::mechanics::EntryType;
 use std::alloc::{AllocError, Global};
 
