@@ -1,4 +1,7 @@
 pub mod Alike
+pub mod Kept
 pub mod Merged
+pub mod PartViews
 pub mod Picked
 pub mod Versions
+pub mod Views

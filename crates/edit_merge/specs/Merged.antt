@@ -4,9 +4,10 @@ use Rattle.std.specs.Prelude.{◌==◌, ◌&&◌, ℕ, ◌-◌, Bool, true, fals
 use Rattle.std.specs.List.{flat_map}
 use Rattle.bib_text.specs.Characters as char
 use Rattle.edit_units.specs.Units.{UnitReading, UnitTexts, end_of_units, texts_from}
-use Rattle.edit_merge.specs.Picked.{SlotReading, Versions, order_choice, slots}
+use Rattle.edit_merge.specs.Picked.{Versions, order_choice, slots}
 use Rattle.edit_merge.specs.Versions.{VersionReading}
 use Rattle.edit_merge.specs.declared.picking.Choice.{Choice}
+use Rattle.edit_merge.specs.declared.slots.Slot.{Slot}
 use Rattle.edit_merge.specs.declared.picking.Choice.TheVariants.{Ours, Theirs, Conflict}
 
 -- the units of a version as texts, with the white space before each
@@ -72,7 +73,7 @@ conflict_text markers o t =
     markers.ours ++ (char.line_feed ∷ (lines_of o ++ (markers.between ++ (char.line_feed ∷ (lines_of t ++ markers.theirs)))))
 
 -- the merged parts of a slot: one, or none if what is picked is absent
-abbrev pub parts_by : MarkersReading → Versions → SlotReading → Choice → List MergedPart
+abbrev pub parts_by : MarkersReading → Versions → Slot → Choice → List MergedPart
 parts_by markers vs s Ours =
     kept_part (space_by (texts_at vs.base s.base) (texts_at vs.ours s.ours) (texts_at vs.theirs s.theirs)) (is_text_unit vs.ours s.ours)
     (texts_at vs.ours s.ours)

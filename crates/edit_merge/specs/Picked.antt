@@ -6,6 +6,7 @@ use Rattle.edit_units.specs.Units.{UnitReading}
 use Rattle.edit_merge.specs.Alike.{are_alike}
 use Rattle.edit_merge.specs.Versions.{VersionReading, index_of, names_of, unit_text}
 use Rattle.edit_merge.specs.declared.picking.Choice.{Choice}
+use Rattle.edit_merge.specs.declared.slots.Slot.{Slot}
 use Rattle.edit_merge.specs.declared.picking.Choice.TheVariants.{Ours, Theirs, Conflict}
 
 -- The choice between two sides: a side that is equal to the base has changed nothing, so the other side counts. If both changed, ours counts
@@ -39,13 +40,6 @@ pub record Versions : Type 0 where
   pub ours : VersionReading
   pub theirs : VersionReading
 
--- the place of a unit in a merge: its index in each version that has it, and what is picked
-pub record SlotReading : Type 0 where
-  pub base : Option ℕ
-  pub ours : Option ℕ
-  pub theirs : Option ℕ
-  pub choice : Choice
-
 -- the choice for the units at these indices
 abbrev pub choice_at : Versions → Option ℕ → Option ℕ → Option ℕ → Choice
 choice_at vs base ours theirs =
@@ -56,7 +50,7 @@ choice_at vs base ours theirs =
     (is_alike vs.theirs t vs.base b || is_alike vs.theirs t vs.ours o) (is_alike vs.ours o vs.base b)
 
 -- the place of the units with a name
-abbrev pub slot_of : Versions → List ℕ → SlotReading
+abbrev pub slot_of : Versions → List ℕ → Slot
 slot_of vs name = record {
   base = index_of vs.base name;
   ours = index_of vs.ours name;
@@ -115,5 +109,5 @@ order_by vs Theirs = woven vs.theirs vs.ours 0 (names_of vs.theirs)
 order_by vs Conflict = woven vs.ours vs.theirs 0 (names_of vs.ours)
 
 -- the places of all units of both sides, in the order of the merge
-abbrev pub slots : Versions → List SlotReading
+abbrev pub slots : Versions → List Slot
 slots vs = map (slot_of vs) (order_by vs (order_choice vs))
