@@ -5,11 +5,11 @@ use Rattle.edit_units.proofs.UnitFacts.{AreMade, all_made, line_within}
 use Rattle.edit_units.specs.Views.{unit_reading_of}
 use Rattle.edit_units.proofs.units.units_of_lines.Goals as goal
 
-pub is_blank-requires-clause-order : goal.is_blank-requires-clause-order
-is_blank-requires-clause-order c = (line_within _ c.in-Some.line c.requires c.lines.invariant c.in-Some.ensures.items).order
+pub is_blank_line-requires-clause-order : goal.is_blank_line-requires-clause-order
+is_blank_line-requires-clause-order c = (line_within _ c.in-Some.line c.requires c.lines.invariant c.in-Some.ensures.items).order
 
-pub is_blank-requires-clause-within : goal.is_blank-requires-clause-within
-is_blank-requires-clause-within c = (line_within _ c.in-Some.line c.requires c.lines.invariant c.in-Some.ensures.items).end
+pub is_blank_line-requires-clause-within : goal.is_blank_line-requires-clause-within
+is_blank_line-requires-clause-within c = (line_within _ c.in-Some.line c.requires c.lines.invariant c.in-Some.ensures.items).end
 
 pub returns : goal.returns
 returns c =
