@@ -1,10 +1,10 @@
 -- Meaning: words of public contracts.
 -- The text of a merge: the picked units with white space between them. A conflict has the units of both sides between lines of markers.
-use Rattle.std.specs.Prelude.{◌==◌, ◌&&◌, ℕ, ◌-◌, Bool, true, false, List, [], ◌∷◌, ◌++◌, Option, Some, None, bytes_eq, cond, count_by, drop, length, replicate, slice_get}
-use Rattle.std.specs.List.{flat_map}
+use Rattle.std.specs.Prelude.{◌==◌, ◌&&◌, ℕ, Bool, false, not, List, [], ◌∷◌, ◌++◌, Option, Some, None, bytes_eq, cond, drop, length, slice_get}
+use Rattle.std.specs.List.{flat_map, list_any}
 use Rattle.bib_text.specs.Characters as char
 use Rattle.edit_units.specs.Units.{UnitReading, UnitTexts, end_of_units, texts_from}
-use Rattle.edit_merge.specs.Picked.{Versions, order_choice, slots}
+use Rattle.edit_merge.specs.Picked.{Versions, order_choice, slots, unit_at}
 use Rattle.edit_merge.specs.Versions.{VersionReading}
 use Rattle.edit_merge.specs.declared.picking.Choice.{Choice}
 use Rattle.edit_merge.specs.declared.slots.Slot.{Slot}
@@ -54,8 +54,7 @@ has_no_blocks (Some u) = length u.blocks == 0
 
 -- whether the unit at an index, if there is one, has no block
 abbrev pub is_text_unit : VersionReading → Option ℕ → Bool
-is_text_unit v None = false
-is_text_unit v (Some i) = has_no_blocks (slice_get v.units i)
+is_text_unit v index = has_no_blocks (unit_at v index)
 
 -- the merged part of a unit, if it is there
 abbrev pub kept_part : List ℕ → Bool → Option UnitTexts → List MergedPart
@@ -92,29 +91,29 @@ parts_by markers vs s Conflict =
 abbrev pub merged_parts : MarkersReading → Versions → List MergedPart
 merged_parts markers vs = flat_map (λ s. parts_by markers vs s s.choice) (slots vs)
 
--- whether a byte is a line feed
-abbrev pub is_feed : ℕ → Bool
-is_feed b = b == char.line_feed
-
 -- whether a text begins with a line feed
 abbrev pub begins_with_feed : List ℕ → Bool
 begins_with_feed [] = false
-begins_with_feed (b ∷ bs) = is_feed b
+begins_with_feed (b ∷ bs) = b == char.line_feed
 
--- white space with at least this number of line feeds, one of which is its first character
-abbrev pub with_feeds : ℕ → List ℕ → List ℕ
-with_feeds least space =
-    cond (least - count_by is_feed space == 0) (cond (begins_with_feed space) space (char.line_feed ∷ space))
-    (replicate (least - count_by is_feed space) char.line_feed ++ space)
+-- a text without a line feed at its start
+abbrev pub behind_feed : List ℕ → List ℕ
+behind_feed text = cond (begins_with_feed text) (drop 1 text) text
 
--- the white space between two parts: a blank line is after a text without blocks, so that the next part doesn't belong to its unit
+-- whether a text has a line feed
+abbrev pub has_feed : List ℕ → Bool
+has_feed text = list_any (λ b. b == char.line_feed) text
+
+-- The white space between two parts. It begins with a line feed. After a text without blocks it has a blank line, so that the next part
+-- doesn't belong to the unit of that text.
 abbrev pub space_between : Bool → List ℕ → List ℕ
-space_between is_text space = with_feeds (cond is_text 2 1) space
+space_between is_text space =
+    char.line_feed ∷ cond (is_text && not (has_feed (behind_feed space))) (char.line_feed ∷ behind_feed space) (behind_feed space)
 
 -- the white space at the end: it begins with a line feed, if there is some
 abbrev pub space_at_end : List ℕ → List ℕ
 space_at_end [] = []
-space_at_end (b ∷ bs) = with_feeds 1 (b ∷ bs)
+space_at_end (b ∷ bs) = char.line_feed ∷ behind_feed (b ∷ bs)
 
 -- the text of parts after a part
 abbrev pub text_after : Bool → List MergedPart → List ℕ → List ℕ

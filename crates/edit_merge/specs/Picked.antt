@@ -1,6 +1,6 @@
 -- Meaning: words of public contracts.
 -- What a merge picks. Each part has a value in the common base and in each of the two sides, ours and theirs. Absence is a value, too.
-use Rattle.std.specs.Prelude.{◌==◌, ◌&&◌, ◌||◌, ℕ, ◌+◌, Bool, true, false, not, List, [], ◌∷◌, ◌++◌, Option, Some, None, bytes_eq, cond, drop, filter, is_some, map, slice_get}
+use Rattle.std.specs.Prelude.{◌==◌, ◌&&◌, ◌||◌, ℕ, ◌+◌, Bool, true, false, not, List, [], ◌∷◌, ◌++◌, Option, Some, None, bytes_eq, cond, drop, filter, is_some, map, option_map, slice_get}
 use Rattle.std.specs.List.{before_first}
 use Rattle.edit_units.specs.Units.{UnitReading}
 use Rattle.edit_merge.specs.Alike.{are_alike}
@@ -20,12 +20,16 @@ abbrev pub unit_at : VersionReading → Option ℕ → Option UnitReading
 unit_at v None = None
 unit_at v (Some i) = slice_get v.units i
 
+-- whether two texts are equal, or both are absent
+abbrev pub are_same_texts : Option (List ℕ) → Option (List ℕ) → Bool
+are_same_texts None None = true
+are_same_texts None (Some text) = false
+are_same_texts (Some text) None = false
+are_same_texts (Some text) (Some other) = bytes_eq text other
+
 -- whether two units have the same bytes, or both are absent
 abbrev pub is_same : VersionReading → Option UnitReading → VersionReading → Option UnitReading → Bool
-is_same v None w None = true
-is_same v None w (Some u) = false
-is_same v (Some u) w None = false
-is_same v (Some u) w (Some x) = bytes_eq (unit_text v.text u) (unit_text w.text x)
+is_same v u w x = are_same_texts (option_map (unit_text v.text) u) (option_map (unit_text w.text) x)
 
 -- whether two units are alike, or both are absent
 abbrev pub is_alike : VersionReading → Option UnitReading → VersionReading → Option UnitReading → Bool
@@ -81,32 +85,38 @@ order_choice vs =
     choose (are_equal_names (names_of vs.theirs) (names_of vs.base)) (are_equal_names (names_of vs.ours) (names_of vs.base))
     (is_alike_order vs.theirs vs.base || is_alike_order vs.theirs vs.ours) (is_alike_order vs.ours vs.base)
 
--- the names of a version from an index on, up to the first one that another version has too
-abbrev pub run_from : VersionReading → VersionReading → ℕ → List (List ℕ)
-run_from main other at = before_first (has_name main) (drop at (names_of other))
+-- the names of a version after the one at an index, or all of them if there is no index
+abbrev pub names_behind : VersionReading → Option ℕ → List (List ℕ)
+names_behind v None = names_of v
+names_behind v (Some i) = drop 1 (drop i (names_of v))
 
--- the names of the other version that come before a name with this index in it: none if it has no index
-abbrev pub before_shared : VersionReading → VersionReading → ℕ → Option ℕ → List (List ℕ)
-before_shared main other at None = []
-before_shared main other at (Some i) = run_from main other at
+-- the names of `other` after the one at an index, up to the first one that `main` has too
+abbrev pub run_behind : VersionReading → VersionReading → Option ℕ → List (List ℕ)
+run_behind main other index = before_first (has_name main) (names_behind other index)
 
--- the index at which the next names of the other version begin
-abbrev pub next_at : ℕ → Option ℕ → ℕ
-next_at at None = at
-next_at at (Some i) = i + 1
+-- if `other` has a name at an index, the names of it that come before this name in the merge: those after the last name that both have
+abbrev pub before_shared : VersionReading → VersionReading → Option ℕ → Option ℕ → List (List ℕ)
+before_shared main other last None = []
+before_shared main other last (Some i) = run_behind main other last
+
+-- the index of the last name that both have: this one, or the one before
+abbrev pub last_shared : Option ℕ → Option ℕ → Option ℕ
+last_shared last None = last
+last_shared last (Some i) = Some i
 
 -- The names of two versions in one order: these names of the main one in its order, and before each name that both have, and at the end, the
--- names that only the other one has there. `at` is the index in the other one at which those names begin.
-abbrev pub woven : VersionReading → VersionReading → ℕ → List (List ℕ) → List (List ℕ)
-woven main other at [] = run_from main other at
-woven main other at (name ∷ names) =
-    before_shared main other at (index_of other name) ++ name ∷ woven main other (next_at at (index_of other name)) names
+-- names that only the other one has there. `last` is the index in the other one of the last name that both have.
+abbrev pub woven : VersionReading → VersionReading → Option ℕ → List (List ℕ) → List (List ℕ)
+woven main other last [] = run_behind main other last
+woven main other last (name ∷ names) =
+    before_shared main other last (index_of other name)
+    ++ name ∷ woven main other (last_shared last (index_of other name)) names
 
 -- the order of the merged names
 abbrev pub order_by : Versions → Choice → List (List ℕ)
-order_by vs Ours = woven vs.ours vs.theirs 0 (names_of vs.ours)
-order_by vs Theirs = woven vs.theirs vs.ours 0 (names_of vs.theirs)
-order_by vs Conflict = woven vs.ours vs.theirs 0 (names_of vs.ours)
+order_by vs Ours = woven vs.ours vs.theirs None (names_of vs.ours)
+order_by vs Theirs = woven vs.theirs vs.ours None (names_of vs.theirs)
+order_by vs Conflict = woven vs.ours vs.theirs None (names_of vs.ours)
 
 -- the places of all units of both sides, in the order of the merge
 abbrev pub slots : Versions → List Slot

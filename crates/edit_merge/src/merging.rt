@@ -1,6 +1,7 @@
 //! Writes the text of a merge.
 
-ghost use Rattle.std.specs.Prelude.{◌≡◌, ◌++◌, [], IfOk, OnOk, map, option_map};
+ghost use Rattle.std.specs.Prelude.{◌≡◌, ◌++◌, IfOk, OnOk, map};
+ghost use Rattle.std.specs.List.{flat_map};
 ghost use Rattle.std.specs.String.{string_bytes};
 ghost use Rattle.edit_merge.specs.Merged as merged;
 ghost use Rattle.edit_merge.specs.PartViews.{parts_view, part_view, texts_view};
@@ -9,7 +10,7 @@ ghost use Rattle.edit_merge.specs.Views.{markers_of, versions_of};
 
 use crate::order::order_choice;
 use crate::picking::Choice;
-use crate::slots::Slot;
+use crate::slots::{Slot, slots};
 use crate::version::{Version, Versions};
 use edit_units::texts::UnitText;
 use std::alloc::{AllocError, Global};
@@ -33,18 +34,11 @@ pub(crate) struct Part<'s> {
     is_text: bool,
 }
 
-// Returns the texts of the unit at an index, if there is an index.
-fn texts_at<'s>(version: &Version<'s>, index: Option<usize>) -> Option<UnitText<'s>>
-    ensures { texts_view result ≡ merged.texts_at version.now index }
-{
-    version.texts().get(index?).copied()
-}
-
 // Returns whether the unit at an index, if there is one, has no block.
 fn is_text_unit(version: &Version<'_>, index: Option<usize>) -> bool
     ensures { result ≡ merged.is_text_unit version.now index }
 {
-    match index.and_then(|i| version.units().get(i)) {
+    match version.unit_at(index) {
         Some(unit) => unit.blocks.is_empty(),
         None => false,
     }
@@ -126,9 +120,9 @@ fn part_of<'s>(
     ensures { IfOk result (λ part. parts_view part ≡
         merged.parts_by (markers_of markers.entry) (versions_of versions.entry) slot slot.choice) }
 {
-    let base = texts_at(versions.base, slot.base);
-    let ours = texts_at(versions.ours, slot.ours);
-    let theirs = texts_at(versions.theirs, slot.theirs);
+    let base = versions.base.texts_at(slot.base);
+    let ours = versions.ours.texts_at(slot.ours);
+    let theirs = versions.theirs.texts_at(slot.theirs);
     let space = space_by(base, ours, theirs);
     match slot.choice {
         Choice::Ours => kept_part(alloc, space, is_text_unit(versions.ours, slot.ours), ours),
@@ -139,4 +133,132 @@ fn part_of<'s>(
             is_text: false,
         })),
     }
+}
+
+// Returns the parts of these slots, in order.
+fn parts_of<'s>(
+    alloc: Global,
+    markers: Markers<'_>,
+    versions: Versions<'_, 's>,
+    slots: &[Slot],
+) -> Result<Vec<Part<'s>>, AllocError>
+    ensures { IfOk result (λ parts. map part_view parts.items ≡
+        flat_map (λ s. merged.parts_by (markers_of markers.entry) (versions_of versions.entry) s s.choice) slots.now) }
+{
+    let mut parts = Vec::new(alloc);
+    'slots: for slot in slots {
+        if let Some(part) = part_of(alloc, markers, versions, *slot)? {
+            parts.push(part)?;
+        }
+    }
+    Ok(parts)
+}
+
+// Returns a text without a line feed at its start.
+fn behind_feed(text: &str) -> &str
+    ensures { result.now ≡ merged.behind_feed text.now }
+{
+    if text.starts_with('\n') { &text[1..] } else { text }
+}
+
+// Appends the white space between two parts. `is_text` is whether the first part has no block.
+fn push_space(text: &mut String, is_text: bool, space: &str) -> Result<(), AllocError>
+    ensures { OnOk result (string_bytes text.new ≡ string_bytes text.old ++ merged.space_between is_text space.now) }
+{
+    let rest = behind_feed(space);
+    text.push('\n')?;
+    if is_text && !rest.contains('\n') {
+        text.push('\n')?;
+    }
+    text.push_str(rest)
+}
+
+// Appends the white space at the end.
+fn push_end(text: &mut String, end: &str) -> Result<(), AllocError>
+    ensures { OnOk result (string_bytes text.new ≡ string_bytes text.old ++ merged.space_at_end end.now) }
+{
+    if end.is_empty() {
+        return Ok(());
+    }
+    text.push('\n')?;
+    text.push_str(behind_feed(end))
+}
+
+// Appends parts with the white space between them, and the white space at the end, after a part.
+fn push_parts(
+    text: &mut String,
+    is_text: bool,
+    parts: &[Part<'_>],
+    end: &str,
+) -> Result<(), AllocError>
+    ensures { OnOk result (string_bytes text.new ≡ string_bytes text.old ++ merged.text_after is_text (map part_view parts.now) end.now) }
+{
+    let mut after_text = is_text;
+    'parts: for part in parts {
+        push_space(text, after_text, part.space)?;
+        text.push_str(&part.text)?;
+        after_text = part.is_text;
+    }
+    push_end(text, end)
+}
+
+// Returns the text of all parts. `main` is the version whose order they have.
+fn joined(
+    alloc: Global,
+    main: &Version<'_>,
+    parts: &[Part<'_>],
+    end: &str,
+) -> Result<String, AllocError>
+    ensures { IfOk result (λ text. string_bytes text ≡ merged.text_by (merged.texts_of main.now) (map part_view parts.now) end.now) }
+{
+    match parts {
+        [first, others @ ..] => {
+            let mut text = String::from_str(alloc, main.first_space(first.space))?;
+            text.push_str(&first.text)?;
+            push_parts(&mut text, first.is_text, others, end)?;
+            Ok(text)
+        }
+        [] => String::from_str(alloc, end),
+    }
+}
+
+// Returns the white space after the last unit.
+fn merged_end<'s>(versions: Versions<'_, 's>) -> &'s str
+    ensures { result.now ≡ merged.merged_end (versions_of versions.entry) }
+{
+    if versions.ours.end() == versions.base.end() {
+        versions.theirs.end()
+    } else {
+        versions.ours.end()
+    }
+}
+
+/// A merge.
+#[derive(Debug, Drop)]
+pub struct Merged {
+    /// The merged text.
+    pub text: String,
+    /// The place of each unit in it.
+    pub slots: Vec<Slot>,
+}
+
+/// Merges three versions of a file. A unit that only one side changed, added or removed is as this side has it. So is a unit that the other
+/// side changed in its layout only. If both changed it, and differently, it is a conflict: its text on both sides is between the `markers`.
+/// Returns an error only if out of memory.
+pub fn merge(
+    alloc: Global,
+    versions: Versions<'_, '_>,
+    markers: Markers<'_>,
+) -> Result<Merged, AllocError>
+    ensures text { IfOk result (λ m. string_bytes m.text ≡ merged.merged_text (markers_of markers.entry) (versions_of versions.entry)) }
+    ensures slots { IfOk result (λ m. m.slots.items ≡ picked.slots (versions_of versions.entry)) }
+{
+    let slots = slots(alloc, versions)?;
+    let parts = parts_of(alloc, markers, versions, &slots)?;
+    let main = match order_choice(alloc, versions)? {
+        Choice::Ours | Choice::Conflict => versions.ours,
+        Choice::Theirs => versions.theirs,
+    };
+    let text = joined(alloc, main, &parts, merged_end(versions))?;
+    Ok(Merged { text, slots })
 }

@@ -1,6 +1,6 @@
 //! The order of the units of a merge.
 
-ghost use Rattle.std.specs.Prelude.{◌≡◌, ◌++◌, ◌≤◌, Bool, IfOk, OnOk, filter, length, map};
+ghost use Rattle.std.specs.Prelude.{◌≡◌, ◌++◌, None, IfOk, OnOk, filter, map};
 ghost use Rattle.edit_merge.specs.Picked as picked;
 ghost use Rattle.edit_merge.specs.Versions.{names_of};
 ghost use Rattle.edit_merge.specs.Views.{versions_of};
@@ -17,19 +17,31 @@ fn are_equal_names(first: &[&str], second: &[&str]) -> bool
     first == second
 }
 
-// Appends the names of `other` from an index on, up to the first one that `main` has too.
+// Returns the names of a version after the one at an index, or all of them if there is no index.
+fn names_behind<'v>(version: &'v Version<'_>, index: Option<usize>) -> &'v [Text]
+    ensures { result.now ≡ picked.names_behind version.now index }
+{
+    let Some(index) = index else {
+        return version.names();
+    };
+    match version.names().get(index..) {
+        Some([_, behind @ ..]) => behind,
+        _ => &[],
+    }
+}
+
+// Appends the names of `other` after the one at an index, up to the first one that `main` has too.
 fn push_run<'v>(
     names: &mut Vec<&'v str>,
     main: &Version<'_>,
     other: &'v Version<'_>,
-    at: usize,
+    index: Option<usize>,
 ) -> Result<(), AllocError>
-    ensures { OnOk result (map (λ n. n.now) names.new.items ≡ map (λ n. n.now) names.old.items ++ picked.run_from main.now other.now at) }
+    ensures { OnOk result (map (λ n. n.now) names.new.items ≡
+        map (λ n. n.now) names.old.items ++ picked.run_behind main.now other.now index) }
 {
-    if at > other.names().len() {
-        return Ok(());
-    }
-    'names: for name in &other.names()[at..] {
+    let left = names_behind(other, index);
+    'names: for name in left {
         if main.index_of(name.as_str()).is_some() {
             return Ok(());
         }
@@ -44,18 +56,19 @@ fn woven<'v>(
     main: &'v Version<'_>,
     other: &'v Version<'_>,
 ) -> Result<Vec<&'v str>, AllocError>
-    ensures { IfOk result (λ names. map (λ n. n.now) names.items ≡ picked.woven main.now other.now 0 (names_of main.now)) }
+    ensures { IfOk result (λ names. map (λ n. n.now) names.items ≡ picked.woven main.now other.now None (names_of main.now)) }
 {
     let mut names = Vec::new(alloc);
-    let mut at = 0usize;
+    let mut last = None;
     'names: for name in main.names() {
-        if let Some(index) = other.index_of(name.as_str()) {
-            push_run(&mut names, main, other, at)?;
-            at = index + 1;
+        let index = other.index_of(name.as_str());
+        if index.is_some() {
+            push_run(&mut names, main, other, last)?;
+            last = index;
         }
         names.push(name.as_str())?;
     }
-    push_run(&mut names, main, other, at)?;
+    push_run(&mut names, main, other, last)?;
     Ok(names)
 }
 

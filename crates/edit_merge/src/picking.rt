@@ -1,6 +1,6 @@
 //! What a merge picks from the two sides.
 
-ghost use Rattle.std.specs.Prelude.{◌≡◌, IfOk};
+ghost use Rattle.std.specs.Prelude.{◌≡◌, IfOk, option_map};
 ghost use Rattle.edit_merge.specs.Picked as picked;
 ghost use Rattle.edit_merge.specs.Views.{versions_of};
 
@@ -19,17 +19,29 @@ pub enum Choice {
     Conflict,
 }
 
+// Returns whether two texts are equal, or both are absent.
+fn are_same_texts(text: Option<&str>, other: Option<&str>) -> bool
+    ensures { result ≡ picked.are_same_texts (option_map (λ t. t.now) text.entry) (option_map (λ t. t.now) other.entry) }
+{
+    match text {
+        Some(text) => match other {
+            Some(other) => text == other,
+            None => false,
+        },
+        None => other.is_none(),
+    }
+}
+
 // Returns whether the units at these indices have the same bytes, or both are absent.
-fn is_same(first: &Version<'_>, index: Option<usize>, second: &Version<'_>, other: Option<usize>) -> bool
+fn is_same(
+    first: &Version<'_>,
+    index: Option<usize>,
+    second: &Version<'_>,
+    other: Option<usize>,
+) -> bool
     ensures { result ≡ picked.is_same first.now (picked.unit_at first.now index) second.now (picked.unit_at second.now other) }
 {
-    let unit = index.and_then(|i| first.texts().get(i));
-    let found = other.and_then(|i| second.texts().get(i));
-    match (unit, found) {
-        (None, None) => true,
-        (Some(unit), Some(found)) => unit.text == found.text,
-        _ => false,
-    }
+    are_same_texts(first.text_at(index), second.text_at(other))
 }
 
 // Returns whether the units at these indices are alike, or both are absent.
@@ -43,12 +55,12 @@ fn is_alike(
     ensures { IfOk result (λ alike. alike ≡
         picked.is_alike first.now (picked.unit_at first.now index) second.now (picked.unit_at second.now other)) }
 {
-    let unit = index.and_then(|i| first.units().get(i));
-    let found = other.and_then(|i| second.units().get(i));
-    match (unit, found) {
-        (None, None) => Ok(true),
-        (Some(unit), Some(found)) => are_alike(alloc, first.text(), unit, second.text(), found),
-        _ => Ok(false),
+    match first.unit_at(index) {
+        Some(unit) => match second.unit_at(other) {
+            Some(found) => are_alike(alloc, first.text(), unit, second.text(), found),
+            None => Ok(false),
+        },
+        None => Ok(second.unit_at(other).is_none()),
     }
 }
 

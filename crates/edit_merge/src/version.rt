@@ -1,13 +1,15 @@
 //! A version of a file: its units and their names.
 
-ghost use Rattle.std.specs.Prelude.{◌≡◌, ◌⊎◌, Option, IfErr, IfOk, OnOk, map, option_map};
-ghost use Rattle.std.specs.FinMap.{get};
+ghost use Rattle.std.specs.Prelude.{◌≡◌, ◌⊎◌, IfErr, IfOk, OnOk, map, option_map};
 ghost use Rattle.bib_syntax.specs.Errors.{Refuses, out_of_memory};
 ghost use Rattle.bib_syntax.specs.Grammar.{IsFile};
 ghost use Rattle.bib_syntax.specs.SyntaxErrors.{IsReported};
 ghost use Rattle.edit_merge.specs.Merged as merged;
+ghost use Rattle.edit_merge.specs.PartViews.{texts_view};
+ghost use Rattle.edit_merge.specs.Picked as picked;
 ghost use Rattle.edit_merge.specs.Versions as versions;
 ghost use Rattle.edit_units.specs.Units.{AreUnits};
+ghost use Rattle.edit_units.specs.Views.{unit_reading_of};
 
 use crate::names::{indices_of, unit_names};
 use bib_collections::claims::Claims;
@@ -81,18 +83,38 @@ impl<'s> Version<'s> {
         self.text
     }
 
-    // Returns the units.
-    pub(crate) fn units(&self) -> &[Unit<'s>]
-        ensures { map unit_reading_of result.now ≡ self.now.units }
+    // Returns the unit at an index, if there is an index.
+    pub(crate) fn unit_at(&self, index: Option<usize>) -> Option<&Unit<'s>>
+        ensures { option_map (λ u. unit_reading_of u.now) result ≡ picked.unit_at self.now index }
     {
-        &self.units
+        self.units.get(index?)
     }
 
-    // Returns the texts of the units.
-    pub(crate) fn texts(&self) -> &[UnitText<'s>]
-        ensures { map unit_texts_of result.now ≡ merged.texts_of self.now }
+    // Returns the texts of the unit at an index, if there is an index.
+    pub(crate) fn texts_at(&self, index: Option<usize>) -> Option<UnitText<'s>>
+        ensures { texts_view result ≡ merged.texts_at self.now index }
     {
-        &self.texts
+        self.texts.get(index?).copied()
+    }
+
+    // Returns the bytes of the unit at an index, if there is an index.
+    pub(crate) fn text_at(&self, index: Option<usize>) -> Option<&'s str>
+        ensures { option_map (λ t. t.now) result ≡ option_map (versions.unit_text self.now.text) (picked.unit_at self.now index) }
+    {
+        match self.texts_at(index) {
+            Some(texts) => Some(texts.text),
+            None => None,
+        }
+    }
+
+    // Returns the white space before the first unit, or `other` if there is none.
+    pub(crate) fn first_space(&self, other: &'s str) -> &'s str
+        ensures { result.now ≡ merged.first_space (merged.texts_of self.now) other.now }
+    {
+        match self.texts.first() {
+            Some(texts) => texts.space,
+            None => other,
+        }
     }
 
     // Returns the white space after the last unit.
