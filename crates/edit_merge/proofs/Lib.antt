@@ -1,1 +1,2 @@
 pub mod AlikeFacts
+pub mod NameFacts

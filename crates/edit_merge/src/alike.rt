@@ -18,7 +18,11 @@ fn bytes_between(text: &[u8], start: usize, end: usize) -> &[u8]
     ensures { result.now ≡ between (place text.now start) (place text.now end) }
 {
     let last = end.min(text.len());
-    if start < last { &text[start..last] } else { &[] }
+    if start < last {
+        &text[start..last]
+    } else {
+        &[]
+    }
 }
 
 // Appends the bytes that aren't layout: neither ASCII white space nor a comma.
