@@ -1,30 +1,24 @@
 -- Fields that are alike.
-use Rattle.std.proofs.Common.{◌≡◌, ◌<◌, ◌≤◌, ◌+◌, ℕ, Bool, true, false, ◌&&◌, List, [], ◌∷◌, length, drop, get_or, map, suc, refl, sym, ap, ap₂, ◌∙◌}
+use Rattle.std.proofs.Common.{◌≡◌, ◌<◌, ◌≤◌, ◌+◌, ℕ, Bool, true, false, ◌&&◌, List, ◌∷◌, length, drop, get_or, map, refl, sym, ap, ap₂, ◌∙◌}
+use lib.Pointwise.{pointwise_long}
 use Rattle.std.proofs.lemmas.List.{drop_all, length-map}
-use Rattle.bib_syntax.specs.Reading.{FieldReading}
 use Rattle.bib_syntax.specs.Views.{field_of}
 use Rattle.bib_syntax.specs.declared.raw.Pair.{Pair}
 use Rattle.bib_queries.proofs.EqualValueFacts.{from_index}
 use Rattle.edit_merge.specs.Alike.{are_alike_fields, is_alike_field}
 
-and_false : (b c : Bool) → c ≡ false → (b && c) ≡ false
-and_false true c fails = fails
-and_false false c fails = refl
-
--- different numbers of fields aren't alike
-different_lengths : (fields others : List FieldReading) → (length fields ≡ length others → ⊥) → are_alike_fields fields others ≡ false
-different_lengths [] [] other = absurd (other refl)
-different_lengths [] (g ∷ others) other = refl
-different_lengths (f ∷ fields) [] other = refl
-different_lengths (f ∷ fields) (g ∷ others) other =
-    and_false (is_alike_field f g) (are_alike_fields fields others) (different_lengths fields others (λ same. other (ap suc same)))
-
 -- different numbers of raw fields aren't alike
 pub different_counts : (one other : List Pair) → (length one ≡ length other → ⊥)
     → are_alike_fields (map field_of one) (map field_of other) ≡ false
-different_counts one other differ =
-    different_lengths (map field_of one) (map field_of other)
-    (λ same. differ (sym (length-map one field_of) ∙ same ∙ length-map other field_of))
+different_counts one other differ = by_result (are_alike_fields (map field_of one) (map field_of other)) refl
+  where
+    by_result : (b : Bool) → are_alike_fields (map field_of one) (map field_of other) ≡ b → b ≡ false
+    by_result false is = refl
+    by_result true is =
+        absurd
+        (differ
+        (sym (length-map one field_of) ∙ pointwise_long is_alike_field (map field_of one) (map field_of other) is
+        ∙ length-map other field_of))
 
 -- the fields from an index on are alike if those at the index are, and those after it
 fields_next : (one other : List Pair) (index : ℕ) (p q : Pair) → index < length one → index < length other

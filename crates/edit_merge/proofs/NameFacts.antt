@@ -14,7 +14,7 @@ use Rattle.bib_text.proofs.ListFacts.{mapped_more}
 use Rattle.bib_queries.proofs.EqualValueFacts.{from_index}
 use Rattle.edit_units.specs.Views.{unit_reading_of}
 use Rattle.edit_units.specs.declared.units.Unit.{Unit}
-use Rattle.edit_merge.specs.Versions.{names_after, own_name}
+use Rattle.edit_merge.specs.Versions.{unique_names, own_name}
 
 -- the own names of these units of a text
 abbrev pub own_names : List ℕ → List Unit → List (List ℕ)
@@ -62,9 +62,9 @@ counts_more earlier counts new own number are number_is is name =
 -- the names so far and those of later own names are all names, after one more name
 pub names_more : (earlier later names whole : List (List ℕ)) (counts : ByText ℕ) (own : List ℕ) (number : ℕ)
     → AreCounts earlier counts → number ≡ unwrap_or (get counts own) 0
-    → names ++ names_after earlier (own ∷ later) ≡ whole
-    → (names ++ (decimal number ++ (codes " " ++ own)) ∷ []) ++ names_after (earlier ++ own ∷ []) later ≡ whole
+    → names ++ unique_names earlier (own ∷ later) ≡ whole
+    → (names ++ (decimal number ++ (codes " " ++ own)) ∷ []) ++ unique_names (earlier ++ own ∷ []) later ≡ whole
 names_more earlier later names whole counts own number are number_is so_far =
-    append_assoc names ((decimal number ++ (codes " " ++ own)) ∷ []) (names_after (earlier ++ own ∷ []) later)
-    ∙ ap (λ n. names ++ ((decimal n ++ (codes " " ++ own)) ∷ names_after (earlier ++ own ∷ []) later)) (number_is ∙ are own)
+    append_assoc names ((decimal number ++ (codes " " ++ own)) ∷ []) (unique_names (earlier ++ own ∷ []) later)
+    ∙ ap (λ n. names ++ ((decimal n ++ (codes " " ++ own)) ∷ unique_names (earlier ++ own ∷ []) later)) (number_is ∙ are own)
     ∙ so_far

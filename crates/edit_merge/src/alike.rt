@@ -99,8 +99,8 @@ fn are_alike_fields(alloc: Global, one: &[Pair<'_>], other: &[Pair<'_>]) -> Resu
 }
 
 // Returns the entry of a unit that has one entry and no definition.
-fn only_entry<'a, 's>(unit: &'a Unit<'s>) -> Option<&'a Spanned<RawEntry<'s>>>
-    ensures { option_map (λ entry. entry_reading_of entry.now) result ≡ spec.only_entry (unit_reading_of unit.now) }
+fn single_entry<'a, 's>(unit: &'a Unit<'s>) -> Option<&'a Spanned<RawEntry<'s>>>
+    ensures { option_map (λ entry. entry_reading_of entry.now) result ≡ spec.single_entry (unit_reading_of unit.now) }
 {
     if !unit.raw.abbreviations.is_empty() {
         return None;
@@ -148,8 +148,8 @@ pub(crate) fn are_alike(
 {
     let text = text.as_bytes();
     let other = other.as_bytes();
-    if let Some(entry) = only_entry(unit) {
-        if let Some(found) = only_entry(second) {
+    if let Some(entry) = single_entry(unit) {
+        if let Some(found) = single_entry(second) {
             return are_alike_entries(alloc, text, unit, entry, other, second, found);
         }
     }

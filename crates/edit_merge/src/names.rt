@@ -32,8 +32,8 @@ fn first_line(text: &str) -> &str
 }
 
 // Returns the name of a unit without entries and definitions.
-fn other_name(alloc: Global, text: &str, unit: &Unit<'_>) -> Result<Text, AllocError>
-    ensures { IfOk result (λ name. name ≡ spec.other_name unit.now.blocks.items text.now) }
+fn name_by_blocks(alloc: Global, text: &str, unit: &Unit<'_>) -> Result<Text, AllocError>
+    ensures { IfOk result (λ name. name ≡ spec.name_by_blocks unit.now.blocks.items text.now) }
 {
     if unit.blocks.is_empty() {
         prefixed(alloc, "text ", text)
@@ -54,10 +54,10 @@ fn own_name(alloc: Global, text: &str, unit: &Unit<'_>) -> Result<Text, AllocErr
         let name = definition.key.v.to_ascii_lowercase(alloc)?;
         return prefixed(alloc, "string ", name.as_str());
     }
-    other_name(alloc, &text[unit.span.start..unit.span.end], unit)
+    name_by_blocks(alloc, &text[unit.span.start..unit.span.end], unit)
 }
 
-// Returns an own name after a number.
+// Returns an own name after the number of earlier units that have it.
 fn numbered(alloc: Global, number: usize, own: &Text) -> Result<Text, AllocError>
     ensures { IfOk result (λ name. name ≡ decimal number ++ (codes " " ++ own.now)) }
 {

@@ -9,12 +9,14 @@ pub returns-then-not-branch : goal.returns-then-not-branch
 returns-then-not-branch c =
     sym
     (fields_differ c.args.one.now c.args.other.now c.fields.index c.index-one-index.result c.index-other-index.result (omega arith)
-    (omega (arith, c.if-one-other.false)) c.index-one-index.is c.index-other-index.is c.fields.invariant (sym c.in_ok-is_alike_field.ensures ∙ c.if-not-branch.true))
+    (omega (arith, c.if-one-other.false)) c.index-one-index.is c.index-other-index.is
+    c.fields.invariant (sym c.in_ok-is_alike_field.ensures ∙ c.if-not-branch.true))
 
 pub fields-preserved : goal.fields-preserved
 fields-preserved c =
     fields_same c.args.one.now c.args.other.now c.fields.index c.index-one-index.result c.index-other-index.result (omega arith)
-    (omega (arith, c.if-one-other.false)) c.index-one-index.is c.index-other-index.is c.fields.invariant (sym c.in_ok-is_alike_field.ensures ∙ c.if-not-branch.false)
+    (omega (arith, c.if-one-other.false)) c.index-one-index.is c.index-other-index.is
+    c.fields.invariant (sym c.in_ok-is_alike_field.ensures ∙ c.if-not-branch.false)
 
 pub returns : goal.returns
 returns c =

@@ -6,7 +6,7 @@ use Rattle.edit_entries.specs.Cuts.{CanBeCut}
 use Rattle.edit_units.specs.Units.{UnitReading}
 use Rattle.edit_units.specs.Views.{unit_reading_of}
 use Rattle.bib_queries.proofs.EqualValueFacts.{from_index}
-use Rattle.edit_merge.specs.Versions.{names_after, own_name, unit_names}
+use Rattle.edit_merge.specs.Versions.{unique_names, own_name, unit_names}
 use Rattle.edit_merge.proofs.NameFacts.{AreCounts, counts_more, counts_none, names_more, own_names, own_names_from, own_names_more}
 use Rattle.edit_merge.proofs.names.unit_names.Goals as goal
 
@@ -14,7 +14,7 @@ pub units-init : goal.units-init
 units-init c = record {
   cut = c.requires;
   counted = counts_none c.new-counts.result c.new-counts.ensures;
-  named = ap (λ l. l ++ names_after [] (own_names c.args.text.now c.args.units.now)) c.new-names.ensures.items;
+  named = ap (λ l. l ++ unique_names [] (own_names c.args.text.now c.args.units.now)) c.new-names.ensures.items;
 }
 
 pub units-preserved : goal.units-preserved
@@ -45,9 +45,10 @@ units-preserved c =
           (counts_more earlier c.units.counts c.claim.new.self own number c.units.invariant.counted number_is
           (c.in_ok-claim.ensures.claimed ∙ ap (λ n. insert c.units.counts n (number + 1)) c.in_ok-own.ensures));
       named =
-          ap (λ l. l ++ names_after (own_names text (take (index + 1) units)) later) pushed
-          ∙ ap (λ l. (c.units.names.items ++ (decimal number ++ (codes " " ++ own)) ∷ []) ++ names_after l later) more
+          ap (λ l. l ++ unique_names (own_names text (take (index + 1) units)) later) pushed
+          ∙ ap (λ l. (c.units.names.items ++ (decimal number ++ (codes " " ++ own)) ∷ []) ++ unique_names l later) more
           ∙ names_more earlier later c.units.names.items whole c.units.counts own number c.units.invariant.counted number_is
-          (ap (λ l. c.units.names.items ++ names_after earlier l) (sym (own_names_from text units index u c.units-test.true c.unit-item.is))
+          (ap (λ l. c.units.names.items ++ unique_names earlier l)
+          (sym (own_names_from text units index u c.units-test.true c.unit-item.is))
           ∙ c.units.invariant.named);
     }
