@@ -1,6 +1,6 @@
 //! The names of units, by which the units of one version are found in another one.
 
-ghost use Rattle.std.specs.Prelude.{◌≡◌, ◌++◌, ℕ, List, IfOk, codes, map};
+ghost use Rattle.std.specs.Prelude.{◌≡◌, ◌++◌, IfOk, codes, map};
 ghost use Rattle.std.specs.Fmt.{decimal};
 ghost use Rattle.std.specs.List.{AllByRecursion};
 ghost use Rattle.edit_entries.specs.Cuts.{CanBeCut};
@@ -8,12 +8,13 @@ ghost use Rattle.edit_units.specs.Views.{unit_reading_of};
 ghost use Rattle.edit_merge.specs.Versions as spec;
 
 use bib_collections::claims::Claims;
+use bib_text::spanned::Span;
 use bib_text::text::Text;
 use edit_units::units::Unit;
 use std::alloc::{AllocError, Global};
 
 // Returns a text after a prefix.
-fn prefixed(alloc: Global, prefix: &str, text: &str) -> Result<Text, AllocError>
+fn with_prefix(alloc: Global, prefix: &str, text: &str) -> Result<Text, AllocError>
     ensures { IfOk result (λ name. name ≡ prefix.now ++ text.now) }
 {
     let mut name = Text::from_str(alloc, prefix)?;
@@ -31,14 +32,14 @@ fn first_line(text: &str) -> &str
     }
 }
 
-// Returns the name of a unit without entries and definitions.
-fn name_by_blocks(alloc: Global, text: &str, unit: &Unit<'_>) -> Result<Text, AllocError>
-    ensures { IfOk result (λ name. name ≡ spec.name_by_blocks unit.now.blocks.items text.now) }
+// Returns the name of a unit without entries and definitions, with these blocks and this text.
+fn name_by_blocks(alloc: Global, blocks: &[Span], text: &str) -> Result<Text, AllocError>
+    ensures { IfOk result (λ name. name ≡ spec.name_by_blocks blocks.now text.now) }
 {
-    if unit.blocks.is_empty() {
-        prefixed(alloc, "text ", text)
+    if blocks.is_empty() {
+        with_prefix(alloc, "text ", text)
     } else {
-        prefixed(alloc, "block ", first_line(text))
+        with_prefix(alloc, "block ", first_line(text))
     }
 }
 
@@ -48,17 +49,18 @@ fn own_name(alloc: Global, text: &str, unit: &Unit<'_>) -> Result<Text, AllocErr
     ensures { IfOk result (λ name. name ≡ spec.own_name text.now (unit_reading_of unit.now)) }
 {
     if let Some(entry) = unit.raw.entries.first() {
-        return prefixed(alloc, "entry ", entry.v.key.v);
+        return with_prefix(alloc, "entry ", entry.v.key.v);
     }
     if let Some(definition) = unit.raw.abbreviations.first() {
         let name = definition.key.v.to_ascii_lowercase(alloc)?;
-        return prefixed(alloc, "string ", name.as_str());
+        return with_prefix(alloc, "string ", name.as_str());
     }
-    name_by_blocks(alloc, &text[unit.span.start..unit.span.end], unit)
+    let unit_text = &text[unit.span.start..unit.span.end];
+    name_by_blocks(alloc, &unit.blocks, unit_text)
 }
 
 // Returns an own name after the number of earlier units that have it.
-fn numbered(alloc: Global, number: usize, own: &Text) -> Result<Text, AllocError>
+fn with_number(alloc: Global, number: usize, own: &Text) -> Result<Text, AllocError>
     ensures { IfOk result (λ name. name ≡ decimal number ++ (codes " " ++ own.now)) }
 {
     let name = format!(in alloc; "{number} {}", own.as_str())?;
@@ -79,7 +81,7 @@ pub(crate) fn unit_names(
     'units: for unit in units {
         let own = own_name(alloc, text, unit)?;
         let number = counts.get(own.as_str()).unwrap_or(0);
-        names.push(numbered(alloc, number, &own)?)?;
+        names.push(with_number(alloc, number, &own)?)?;
         counts.claim(own, number + 1)?;
     }
     Ok(names)

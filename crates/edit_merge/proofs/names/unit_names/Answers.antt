@@ -33,7 +33,7 @@ units-preserved c =
     let pushed : c.push.new.self.items ≡ c.units.names.items ++ (decimal number ++ (codes " " ++ own)) ∷ [] =
     c.in_ok-push.ensures.items
     ∙ ap (λ n. c.units.names.items ++ n ∷ [])
-    (c.in_ok-numbered.ensures ∙ ap (λ n. decimal number ++ (codes " " ++ n)) c.in_ok-own.ensures) in
+    (c.in_ok-with_number.ensures ∙ ap (λ n. decimal number ++ (codes " " ++ n)) c.in_ok-own.ensures) in
     let more = own_names_more text units index u c.units-test.true c.unit-item.is in
     let whole = unit_names text (map unit_reading_of units) in
     record {
