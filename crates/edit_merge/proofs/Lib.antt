@@ -1,2 +1,4 @@
+pub mod AlikeFacts
+pub mod NameFacts
 pub mod OrderFacts
 pub mod TextFacts

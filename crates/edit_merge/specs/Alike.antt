@@ -1,7 +1,9 @@
 -- Meaning: words of public contracts.
 -- Units that are alike: they have the same content and the same comments, but may differ in their layout.
-use Rattle.std.specs.Prelude.{◌==◌, ◌&&◌, ◌||◌, ℕ, Bool, true, false, not, List, [], ◌∷◌, ◌++◌, Option, Some, None, bytes_eq, filter}
+use Rattle.std.specs.Prelude.{◌==◌, ◌&&◌, ◌||◌, ℕ, Bool, not, List, [], ◌∷◌, ◌++◌, Option, Some, None, bytes_eq, filter}
 use Rattle.std.specs.Char.{is_ascii_whitespace}
+use Rattle.std.specs.Cmp.Lexicographic.{pointwise}
+use Rattle.std.specs.declared.ops.Range.{Range}
 use Rattle.bib_text.specs.Characters as char
 use Rattle.bib_text.specs.Places.{between, place}
 use Rattle.bib_syntax.specs.Grammar.{is_word}
@@ -28,22 +30,20 @@ rest_of_entry text u e =
 abbrev pub is_alike_field : FieldReading → FieldReading → Bool
 is_alike_field f g = is_word f.name.text g.name.text && are_equal_pieces f.value.pieces g.value.pieces
 
--- whether fields are alike, one by one
+-- whether fields are alike, one by one, and their numbers are equal
 abbrev pub are_alike_fields : List FieldReading → List FieldReading → Bool
-are_alike_fields [] [] = true
-are_alike_fields [] (g ∷ gs) = false
-are_alike_fields (f ∷ fs) [] = false
-are_alike_fields (f ∷ fs) (g ∷ gs) = is_alike_field f g && are_alike_fields fs gs
+are_alike_fields fields others = pointwise is_alike_field fields others
 
--- the entry of a unit that has one entry and no definition
-abbrev pub only_of : List EntryReading → List FieldReading → Option EntryReading
-only_of (e ∷ []) [] = Some e
-only_of [] definitions = None
-only_of (e ∷ other ∷ es) definitions = None
-only_of (e ∷ []) (f ∷ fs) = None
+-- the entry of a unit whose only block is that entry
+abbrev pub single_of : List (Range ℕ) → List EntryReading → Option EntryReading
+single_of (block ∷ []) (e ∷ []) = Some e
+single_of (block ∷ []) [] = None
+single_of (block ∷ []) (e ∷ other ∷ es) = None
+single_of [] es = None
+single_of (block ∷ other ∷ blocks) es = None
 
-abbrev pub only_entry : UnitReading → Option EntryReading
-only_entry u = only_of u.says.entries u.says.abbreviations
+abbrev pub single_entry : UnitReading → Option EntryReading
+single_entry u = single_of u.blocks u.says.entries
 
 -- whether two units with these entries are alike: the types are equal, in any ASCII case, the fields are alike, and the rest is equal
 abbrev pub are_alike_entries : List ℕ → UnitReading → EntryReading → List ℕ → UnitReading → EntryReading → Bool
@@ -51,13 +51,13 @@ are_alike_entries text u e other v g =
     is_word e.kind.text g.kind.text && are_alike_fields e.fields g.fields
     && bytes_eq (rest_of_entry text u e) (rest_of_entry other v g)
 
--- whether two units are alike, given the entry of each, if it has only one
+-- whether two units are alike, given the entry of each, if it is its only block
 abbrev pub are_alike_by : List ℕ → UnitReading → Option EntryReading → List ℕ → UnitReading → Option EntryReading → Bool
 are_alike_by text u None other v found = are_equal_texts (unit_text text u) (unit_text other v)
 are_alike_by text u (Some e) other v None = are_equal_texts (unit_text text u) (unit_text other v)
 are_alike_by text u (Some e) other v (Some g) = are_alike_entries text u e other v g
 
--- whether two units of two texts are alike. Units without an entry, or with several ones, are alike if their texts are equal with each run of
--- ASCII white space as one space
+-- whether two units of two texts are alike. Unless the only block of each is an entry, they are alike if their texts are equal with each run
+-- of ASCII white space as one space
 abbrev pub are_alike : List ℕ → UnitReading → List ℕ → UnitReading → Bool
-are_alike text u other v = are_alike_by text u (only_entry u) other v (only_entry v)
+are_alike text u other v = are_alike_by text u (single_entry u) other v (single_entry v)

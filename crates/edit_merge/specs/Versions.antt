@@ -23,13 +23,13 @@ first_line text = before_first (λ b. b == char.line_feed) text
 
 -- the name of a unit with some blocks, but no entry and no definition: its first line, as `@comment{jabref-meta: grouping:`. The name of a
 -- unit without blocks is its text.
-abbrev pub other_name : List (Range ℕ) → List ℕ → List ℕ
-other_name [] text = codes "text " ++ text
-other_name (block ∷ blocks) text = codes "block " ++ first_line text
+abbrev pub name_by_blocks : List (Range ℕ) → List ℕ → List ℕ
+name_by_blocks [] text = codes "text " ++ text
+name_by_blocks (block ∷ blocks) text = codes "block " ++ first_line text
 
 -- the name of a unit without entries: that of its first definition in ASCII lowercase, if it has one
 abbrev pub name_without_entry : List FieldReading → UnitReading → List ℕ → List ℕ
-name_without_entry [] u text = other_name u.blocks text
+name_without_entry [] u text = name_by_blocks u.blocks text
 name_without_entry (f ∷ fs) u text = codes "string " ++ str_to_ascii_lowercase f.name.text
 
 -- the name of a unit: the key of its first entry, if it has one
@@ -42,17 +42,17 @@ abbrev pub own_name : List ℕ → UnitReading → List ℕ
 own_name text u = name_by u.says.entries u (unit_text text u)
 
 -- a name that no other unit of the file has: the number of earlier units with this own name, and this own name
-abbrev pub numbered_name : List (List ℕ) → List ℕ → List ℕ
-numbered_name earlier own = decimal (count_by (bytes_eq own) earlier) ++ (codes " " ++ own)
+abbrev pub unique_name : List (List ℕ) → List ℕ → List ℕ
+unique_name earlier own = decimal (count_by (bytes_eq own) earlier) ++ (codes " " ++ own)
 
 -- the names of units, of which `earlier` are the own names of the units before them
-abbrev pub names_after : List (List ℕ) → List (List ℕ) → List (List ℕ)
-names_after earlier [] = []
-names_after earlier (own ∷ owns) = numbered_name earlier own ∷ names_after (earlier ++ own ∷ []) owns
+abbrev pub unique_names : List (List ℕ) → List (List ℕ) → List (List ℕ)
+unique_names earlier [] = []
+unique_names earlier (own ∷ owns) = unique_name earlier own ∷ unique_names (earlier ++ own ∷ []) owns
 
 -- the names of the units of a text
 abbrev pub unit_names : List ℕ → List UnitReading → List (List ℕ)
-unit_names text units = names_after [] (map (own_name text) units)
+unit_names text units = unique_names [] (map (own_name text) units)
 
 -- a version of a file: its text and its units
 pub record VersionReading : Type 0 where
