@@ -26,13 +26,12 @@ fn with_single_spaces(alloc: Global, text: &[u8]) -> Result<Vec<u8>, AllocError>
     Ok(spaced)
 }
 
-/// Returns whether the bytes of two texts are the same if each run of ASCII white space is one space. Returns an error only if out of
-/// memory.
-pub fn are_equal_texts(alloc: Global, text: &[u8], other: &[u8]) -> Result<bool, AllocError>
+/// Returns whether two texts are the same if each run of ASCII white space is one space. Returns an error only if out of memory.
+pub fn are_equal_texts(alloc: Global, text: &str, other: &str) -> Result<bool, AllocError>
     ensures { IfOk result (λ equal. equal ≡ spec.are_equal_texts text.now other.now) }
 {
-    let first = with_single_spaces(alloc, text)?;
-    let second = with_single_spaces(alloc, other)?;
+    let first = with_single_spaces(alloc, text.as_bytes())?;
+    let second = with_single_spaces(alloc, other.as_bytes())?;
     Ok(first.as_slice() == second.as_slice())
 }
 
@@ -47,9 +46,7 @@ fn is_equal_piece(
 {
     match one.v {
         RawChunk::Normal(first) => match other.v {
-            RawChunk::Normal(second) => {
-                are_equal_texts(alloc, first.as_bytes(), second.as_bytes())
-            }
+            RawChunk::Normal(second) => are_equal_texts(alloc, first, second),
             RawChunk::Abbreviation(_) => Ok(false),
         },
         RawChunk::Abbreviation(first) => match other.v {

@@ -12,7 +12,8 @@ use Rattle.edit_merge.specs.Picked.{are_equal_names}
 pushed : (old : List (Bor (List ℕ))) (text : Bor (List ℕ)) (name : List ℕ) (rest : List (List ℕ)) → text.now ≡ name
     → map (λ n. n.now) (old ++ text ∷ []) ++ rest ≡ map (λ n. n.now) old ++ name ∷ rest
 pushed old text name rest is =
-    ap (λ ns. ns ++ rest) (map-append (λ (n : Bor (List ℕ)). n.now) old (text ∷ [])) ∙ append_assoc (map (λ n. n.now) old) (text.now ∷ []) rest
+    ap (λ ns. ns ++ rest) (map-append (λ (n : Bor (List ℕ)). n.now) old (text ∷ []))
+    ∙ append_assoc (map (λ n. n.now) old) (text.now ∷ []) rest
     ∙ ap (λ n. map (λ n. n.now) old ++ n ∷ rest) is
 
 -- a run that begins with a name that fails the test

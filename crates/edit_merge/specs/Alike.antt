@@ -10,7 +10,7 @@ use Rattle.bib_syntax.specs.Grammar.{is_word}
 use Rattle.bib_syntax.specs.Reading.{EntryReading, FieldReading}
 use Rattle.bib_queries.specs.EqualValues.{are_equal_pieces, are_equal_texts}
 use Rattle.edit_units.specs.Units.{UnitReading}
-use Rattle.edit_merge.specs.Versions.{unit_text}
+use Rattle.edit_merge.specs.Versions.{text_of_unit}
 
 -- whether a byte isn't ASCII white space or a comma, which are the layout of an entry outside of its values
 abbrev pub is_no_layout : ℕ → Bool
@@ -53,11 +53,11 @@ are_alike_entries text u e other v g =
 
 -- whether two units are alike, given the entry of each, if it is its only block
 abbrev pub are_alike_by : List ℕ → UnitReading → Option EntryReading → List ℕ → UnitReading → Option EntryReading → Bool
-are_alike_by text u None other v found = are_equal_texts (unit_text text u) (unit_text other v)
-are_alike_by text u (Some e) other v None = are_equal_texts (unit_text text u) (unit_text other v)
+are_alike_by text u None other v found = are_equal_texts (text_of_unit text u) (text_of_unit other v)
+are_alike_by text u (Some e) other v None = are_equal_texts (text_of_unit text u) (text_of_unit other v)
 are_alike_by text u (Some e) other v (Some g) = are_alike_entries text u e other v g
 
--- whether two units of two texts are alike. Unless the only block of each is an entry, they are alike if their texts are equal with each run
--- of ASCII white space as one space
+-- whether two units of two texts are alike. Unless the only block of each is an entry, they are alike if their texts are equal with each
+-- run of ASCII white space as one space
 abbrev pub are_alike : List ℕ → UnitReading → List ℕ → UnitReading → Bool
 are_alike text u other v = are_alike_by text u (single_entry u) other v (single_entry v)

@@ -1,18 +1,18 @@
 -- Meaning: words of public contracts.
 -- The text of a merge: the picked units with white space between them. A conflict has the units of both sides between lines of markers.
-use Rattle.std.specs.Prelude.{◌==◌, ◌&&◌, ℕ, Bool, false, not, List, [], ◌∷◌, ◌++◌, Option, Some, None, bytes_eq, cond, drop, length, slice_get}
+use Rattle.std.specs.Prelude.{◌==◌, ◌&&◌, ℕ, Bool, false, not, List, [], ◌∷◌, ◌++◌, Option, Some, None, bytes_eq, codes, cond, drop, length, slice_get}
 use Rattle.std.specs.List.{flat_map, list_any}
 use Rattle.bib_text.specs.Characters as char
 use Rattle.edit_units.specs.Units.{UnitReading, UnitTexts, end_of_units, texts_from}
-use Rattle.edit_merge.specs.Picked.{Versions, order_choice, slots, unit_at}
+use Rattle.edit_merge.specs.Picked.{Versions, order_choice, slots, version_unit}
 use Rattle.edit_merge.specs.Versions.{VersionReading}
 use Rattle.edit_merge.specs.declared.picking.Choice.{Choice}
 use Rattle.edit_merge.specs.declared.slots.Slot.{Slot}
 use Rattle.edit_merge.specs.declared.picking.Choice.TheVariants.{Ours, Theirs, Conflict}
 
 -- the units of a version as texts, with the white space before each
-abbrev pub texts_of : VersionReading → List UnitTexts
-texts_of v = texts_from v.text 0 v.units
+abbrev pub version_texts : VersionReading → List UnitTexts
+version_texts v = texts_from v.text 0 v.units
 
 -- the white space after the last unit of a version
 abbrev pub end_of : VersionReading → List ℕ
@@ -21,7 +21,7 @@ end_of v = drop (end_of_units 0 v.units) v.text
 -- the texts of the unit at an index, if there is an index
 abbrev pub texts_at : VersionReading → Option ℕ → Option UnitTexts
 texts_at v None = None
-texts_at v (Some i) = slice_get (texts_of v) i
+texts_at v (Some i) = slice_get (version_texts v) i
 
 -- the lines that mark the two sides of a conflict, without line feeds
 pub record MarkersReading : Type 0 where
@@ -54,7 +54,7 @@ has_no_blocks (Some u) = length u.blocks == 0
 
 -- whether the unit at an index, if there is one, has no block
 abbrev pub is_text_unit : VersionReading → Option ℕ → Bool
-is_text_unit v index = has_no_blocks (unit_at v index)
+is_text_unit v index = has_no_blocks (version_unit v index)
 
 -- the merged part of a unit, if it is there
 abbrev pub kept_part : List ℕ → Bool → Option UnitTexts → List MergedPart
@@ -62,14 +62,14 @@ kept_part space is_text None = []
 kept_part space is_text (Some p) = record { space = space; text = p.text; is_text = is_text } ∷ []
 
 -- a text and a line feed, if it is there
-abbrev pub lines_of : Option UnitTexts → List ℕ
-lines_of None = []
-lines_of (Some p) = p.text ++ char.line_feed ∷ []
+abbrev pub ended_text : Option UnitTexts → List ℕ
+ended_text None = []
+ended_text (Some p) = p.text ++ char.line_feed ∷ []
 
 -- the text of a conflict
 abbrev pub conflict_text : MarkersReading → Option UnitTexts → Option UnitTexts → List ℕ
 conflict_text markers o t =
-    markers.ours ++ (char.line_feed ∷ (lines_of o ++ (markers.between ++ (char.line_feed ∷ (lines_of t ++ markers.theirs)))))
+    markers.ours ++ (char.line_feed ∷ (ended_text o ++ (markers.between ++ (char.line_feed ∷ (ended_text t ++ markers.theirs)))))
 
 -- the merged parts of a slot: one, or none if what is picked is absent
 abbrev pub parts_by : MarkersReading → Versions → Slot → Choice → List MergedPart
@@ -104,11 +104,14 @@ behind_feed text = cond (begins_with_feed text) (drop 1 text) text
 abbrev pub has_feed : List ℕ → Bool
 has_feed text = list_any (λ b. b == char.line_feed) text
 
+-- the line ends before white space: two after a text without blocks, unless the white space has a line feed, and otherwise one
+abbrev pub line_ends_before : Bool → List ℕ → List ℕ
+line_ends_before is_text rest = cond (is_text && not (has_feed rest)) (codes "\n\n") (codes "\n")
+
 -- The white space between two parts. It begins with a line feed. After a text without blocks it has a blank line, so that the next part
 -- doesn't belong to the unit of that text.
 abbrev pub space_between : Bool → List ℕ → List ℕ
-space_between is_text space =
-    char.line_feed ∷ cond (is_text && not (has_feed (behind_feed space))) (char.line_feed ∷ behind_feed space) (behind_feed space)
+space_between is_text space = line_ends_before is_text (behind_feed space) ++ behind_feed space
 
 -- the white space at the end: it begins with a line feed, if there is some
 abbrev pub space_at_end : List ℕ → List ℕ
@@ -116,9 +119,9 @@ space_at_end [] = []
 space_at_end (b ∷ bs) = char.line_feed ∷ behind_feed (b ∷ bs)
 
 -- the text of parts after a part
-abbrev pub text_after : Bool → List MergedPart → List ℕ → List ℕ
-text_after is_text [] end = space_at_end end
-text_after is_text (p ∷ ps) end = space_between is_text p.space ++ (p.text ++ text_after p.is_text ps end)
+abbrev pub text_behind : Bool → List MergedPart → List ℕ → List ℕ
+text_behind is_text [] end = space_at_end end
+text_behind is_text (p ∷ ps) end = space_between is_text p.space ++ (p.text ++ text_behind p.is_text ps end)
 
 -- the white space before the first unit of a version, if it has one
 abbrev pub first_space : List UnitTexts → List ℕ → List ℕ
@@ -128,7 +131,7 @@ first_space (p ∷ ps) other = p.space
 -- the text of all parts, if the main version has these ones
 abbrev pub text_by : List UnitTexts → List MergedPart → List ℕ → List ℕ
 text_by main [] end = end
-text_by main (p ∷ ps) end = first_space main p.space ++ (p.text ++ text_after p.is_text ps end)
+text_by main (p ∷ ps) end = first_space main p.space ++ (p.text ++ text_behind p.is_text ps end)
 
 -- the version whose order the merge has
 abbrev pub main_by : Versions → Choice → VersionReading
@@ -142,4 +145,4 @@ merged_end vs = cond (bytes_eq (end_of vs.ours) (end_of vs.base)) (end_of vs.the
 
 -- the merged text
 abbrev pub merged_text : MarkersReading → Versions → List ℕ
-merged_text markers vs = text_by (texts_of (main_by vs (order_choice vs))) (merged_parts markers vs) (merged_end vs)
+merged_text markers vs = text_by (version_texts (main_by vs (order_choice vs))) (merged_parts markers vs) (merged_end vs)

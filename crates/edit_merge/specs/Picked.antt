@@ -4,21 +4,21 @@ use Rattle.std.specs.Prelude.{◌==◌, ◌&&◌, ◌||◌, ℕ, ◌+◌, Bool, 
 use Rattle.std.specs.List.{before_first}
 use Rattle.edit_units.specs.Units.{UnitReading}
 use Rattle.edit_merge.specs.Alike.{are_alike}
-use Rattle.edit_merge.specs.Versions.{VersionReading, index_of, names_of, unit_text}
+use Rattle.edit_merge.specs.Versions.{VersionReading, named_index, version_names, text_of_unit}
 use Rattle.edit_merge.specs.declared.picking.Choice.{Choice}
 use Rattle.edit_merge.specs.declared.slots.Slot.{Slot}
 use Rattle.edit_merge.specs.declared.picking.Choice.TheVariants.{Ours, Theirs, Conflict}
 
--- The choice between two sides: a side that is equal to the base has changed nothing, so the other side counts. If both changed, ours counts
--- if theirs is alike the base or alike ours, and theirs counts if ours is alike the base. Otherwise they conflict.
+-- The choice between two sides. A side that is equal to the base has changed nothing, so the other side counts. If both changed, ours
+-- counts if theirs is alike the base or alike ours, and theirs counts if ours is alike the base. Otherwise they conflict.
 abbrev pub choose : Bool → Bool → Bool → Bool → Choice
 choose theirs_same ours_same theirs_alike ours_alike =
     cond theirs_same Ours (cond ours_same Theirs (cond theirs_alike Ours (cond ours_alike Theirs Conflict)))
 
 -- the unit at an index, if there is an index
-abbrev pub unit_at : VersionReading → Option ℕ → Option UnitReading
-unit_at v None = None
-unit_at v (Some i) = slice_get v.units i
+abbrev pub version_unit : VersionReading → Option ℕ → Option UnitReading
+version_unit v None = None
+version_unit v (Some i) = slice_get v.units i
 
 -- whether two texts are equal, or both are absent
 abbrev pub are_same_texts : Option (List ℕ) → Option (List ℕ) → Bool
@@ -29,7 +29,7 @@ are_same_texts (Some text) (Some other) = bytes_eq text other
 
 -- whether two units have the same bytes, or both are absent
 abbrev pub is_same : VersionReading → Option UnitReading → VersionReading → Option UnitReading → Bool
-is_same v u w x = are_same_texts (option_map (unit_text v.text) u) (option_map (unit_text w.text) x)
+is_same v u w x = are_same_texts (option_map (text_of_unit v.text) u) (option_map (text_of_unit w.text) x)
 
 -- whether two units are alike, or both are absent
 abbrev pub is_alike : VersionReading → Option UnitReading → VersionReading → Option UnitReading → Bool
@@ -47,26 +47,26 @@ pub record Versions : Type 0 where
 -- the choice for the units at these indices
 abbrev pub choice_at : Versions → Option ℕ → Option ℕ → Option ℕ → Choice
 choice_at vs base ours theirs =
-    let b = unit_at vs.base base in
-    let o = unit_at vs.ours ours in
-    let t = unit_at vs.theirs theirs in
+    let b = version_unit vs.base base in
+    let o = version_unit vs.ours ours in
+    let t = version_unit vs.theirs theirs in
     choose (is_same vs.theirs t vs.base b) (is_same vs.ours o vs.base b)
     (is_alike vs.theirs t vs.base b || is_alike vs.theirs t vs.ours o) (is_alike vs.ours o vs.base b)
 
 -- the place of the units with a name
 abbrev pub slot_of : Versions → List ℕ → Slot
 slot_of vs name = record {
-  base = index_of vs.base name;
-  ours = index_of vs.ours name;
-  theirs = index_of vs.theirs name;
-  choice = choice_at vs (index_of vs.base name) (index_of vs.ours name) (index_of vs.theirs name);
+  base = named_index vs.base name;
+  ours = named_index vs.ours name;
+  theirs = named_index vs.theirs name;
+  choice = choice_at vs (named_index vs.base name) (named_index vs.ours name) (named_index vs.theirs name);
 }
 
 -- ---- the order
 
 -- whether a version has a unit with this name
-abbrev pub has_name : VersionReading → List ℕ → Bool
-has_name v name = is_some (index_of v name)
+abbrev pub has_unit_named : VersionReading → List ℕ → Bool
+has_unit_named v name = is_some (named_index v name)
 
 -- whether two lists of names are equal
 abbrev pub are_equal_names : List (List ℕ) → List (List ℕ) → Bool
@@ -77,22 +77,23 @@ are_equal_names (n ∷ ns) (m ∷ ms) = bytes_eq n m && are_equal_names ns ms
 
 -- whether the names that two versions share have the same order in both
 abbrev pub is_alike_order : VersionReading → VersionReading → Bool
-is_alike_order v w = are_equal_names (filter (has_name w) (names_of v)) (filter (has_name v) (names_of w))
+is_alike_order v w = are_equal_names (filter (has_unit_named w) (version_names v)) (filter (has_unit_named v) (version_names w))
 
 -- whose order the merge has: ours, unless theirs alone is another one than that of the base
 abbrev pub order_choice : Versions → Choice
 order_choice vs =
-    choose (are_equal_names (names_of vs.theirs) (names_of vs.base)) (are_equal_names (names_of vs.ours) (names_of vs.base))
+    choose (are_equal_names (version_names vs.theirs) (version_names vs.base)) (are_equal_names (version_names vs.ours)
+    (version_names vs.base))
     (is_alike_order vs.theirs vs.base || is_alike_order vs.theirs vs.ours) (is_alike_order vs.ours vs.base)
 
 -- the names of a version after the one at an index, or all of them if there is no index
 abbrev pub names_behind : VersionReading → Option ℕ → List (List ℕ)
-names_behind v None = names_of v
-names_behind v (Some i) = drop 1 (drop i (names_of v))
+names_behind v None = version_names v
+names_behind v (Some i) = drop 1 (drop i (version_names v))
 
 -- the names of `other` after the one at an index, up to the first one that `main` has too
 abbrev pub run_behind : VersionReading → VersionReading → Option ℕ → List (List ℕ)
-run_behind main other index = before_first (has_name main) (names_behind other index)
+run_behind main other index = before_first (has_unit_named main) (names_behind other index)
 
 -- if `other` has a name at an index, the names of it that come before this name in the merge: those after the last name that both have
 abbrev pub before_shared : VersionReading → VersionReading → Option ℕ → Option ℕ → List (List ℕ)
@@ -104,19 +105,19 @@ abbrev pub last_shared : Option ℕ → Option ℕ → Option ℕ
 last_shared last None = last
 last_shared last (Some i) = Some i
 
--- The names of two versions in one order: these names of the main one in its order, and before each name that both have, and at the end, the
--- names that only the other one has there. `last` is the index in the other one of the last name that both have.
+-- The names of two versions in one order: these names of the main one in its order, and before each name that both have, and at the end,
+-- the names that only the other one has there. `last` is the index in the other one of the last name that both have.
 abbrev pub woven : VersionReading → VersionReading → Option ℕ → List (List ℕ) → List (List ℕ)
 woven main other last [] = run_behind main other last
 woven main other last (name ∷ names) =
-    before_shared main other last (index_of other name)
-    ++ name ∷ woven main other (last_shared last (index_of other name)) names
+    before_shared main other last (named_index other name)
+    ++ name ∷ woven main other (last_shared last (named_index other name)) names
 
 -- the order of the merged names
 abbrev pub order_by : Versions → Choice → List (List ℕ)
-order_by vs Ours = woven vs.ours vs.theirs None (names_of vs.ours)
-order_by vs Theirs = woven vs.theirs vs.ours None (names_of vs.theirs)
-order_by vs Conflict = woven vs.ours vs.theirs None (names_of vs.ours)
+order_by vs Ours = woven vs.ours vs.theirs None (version_names vs.ours)
+order_by vs Theirs = woven vs.theirs vs.ours None (version_names vs.theirs)
+order_by vs Conflict = woven vs.ours vs.theirs None (version_names vs.ours)
 
 -- the places of all units of both sides, in the order of the merge
 abbrev pub slots : Versions → List Slot

@@ -14,8 +14,8 @@ use Rattle.bib_syntax.specs.Reading.{EntryReading, FieldReading}
 use Rattle.edit_units.specs.Units.{UnitReading}
 
 -- the bytes of a unit
-abbrev pub unit_text : List ℕ → UnitReading → List ℕ
-unit_text text u = between (place text u.start) (place text u.end)
+abbrev pub text_of_unit : List ℕ → UnitReading → List ℕ
+text_of_unit text u = between (place text u.start) (place text u.end)
 
 -- the first line of a text
 abbrev pub first_line : List ℕ → List ℕ
@@ -39,7 +39,7 @@ name_by (e ∷ es) u text = codes "entry " ++ e.key.text
 
 -- the name of a unit, which other units of the file may have too
 abbrev pub own_name : List ℕ → UnitReading → List ℕ
-own_name text u = name_by u.says.entries u (unit_text text u)
+own_name text u = name_by u.says.entries u (text_of_unit text u)
 
 -- a name that no other unit of the file has: the number of earlier units with this own name, and this own name
 abbrev pub unique_name : List (List ℕ) → List ℕ → List ℕ
@@ -60,13 +60,13 @@ pub record VersionReading : Type 0 where
   pub units : List UnitReading
 
 -- the names of the units of a version
-abbrev pub names_of : VersionReading → List (List ℕ)
-names_of v = unit_names v.text v.units
+abbrev pub version_names : VersionReading → List (List ℕ)
+version_names v = unit_names v.text v.units
 
 -- the index of the unit with each name
 abbrev pub indices_of : List (List ℕ) → ByText ℕ
 indices_of names = with_claims empty (map (λ x. (x.1, x.0)) (enumerate_from 0 names))
 
 -- the index of the unit of a version that has a name, if there is one
-abbrev pub index_of : VersionReading → List ℕ → Option ℕ
-index_of v name = get (indices_of (names_of v)) name
+abbrev pub named_index : VersionReading → List ℕ → Option ℕ
+named_index v name = get (indices_of (version_names v)) name

@@ -5,6 +5,7 @@ ghost use Rattle.bib_text.specs.Places.{between, place};
 ghost use Rattle.bib_syntax.specs.Views.{entry_reading_of, field_of};
 ghost use Rattle.edit_units.specs.Views.{unit_reading_of};
 ghost use Rattle.edit_merge.specs.Alike as spec;
+ghost use Rattle.edit_merge.specs.Versions.{text_of_unit};
 ghost use Rattle.edit_merge.specs.Alike.{is_no_layout, outside_fields};
 
 use bib_queries::equal_values::{are_equal_pieces, are_equal_texts};
@@ -136,24 +137,32 @@ fn are_alike_entries(
     Ok(rest.as_slice() == other_rest.as_slice())
 }
 
-// Returns whether two units of two texts are alike. Returns an error only if out of memory.
+// Returns whether two units of two texts are alike. `own` and `other_own` are the bytes of the units. Returns an error only if out of memory.
 pub(crate) fn are_alike(
     alloc: Global,
     text: &str,
     unit: &Unit<'_>,
+    own: &str,
     other: &str,
     second: &Unit<'_>,
+    other_own: &str,
 ) -> Result<bool, AllocError>
+    requires own { own.now ≡ text_of_unit text.now (unit_reading_of unit.now) }
+    requires other_own { other_own.now ≡ text_of_unit other.now (unit_reading_of second.now) }
     ensures { IfOk result (λ alike. alike ≡ spec.are_alike text.now (unit_reading_of unit.now) other.now (unit_reading_of second.now)) }
 {
-    let text = text.as_bytes();
-    let other = other.as_bytes();
     if let Some(entry) = single_entry(unit) {
         if let Some(found) = single_entry(second) {
-            return are_alike_entries(alloc, text, unit, entry, other, second, found);
+            return are_alike_entries(
+                alloc,
+                text.as_bytes(),
+                unit,
+                entry,
+                other.as_bytes(),
+                second,
+                found,
+            );
         }
     }
-    let first_text = bytes_between(text, unit.span.start, unit.span.end);
-    let second_text = bytes_between(other, second.span.start, second.span.end);
-    are_equal_texts(alloc, first_text, second_text)
+    are_equal_texts(alloc, own, other_own)
 }

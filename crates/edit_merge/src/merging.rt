@@ -62,7 +62,7 @@ fn space_by<'s>(
 
 // Appends a text and a line feed, if the text is there.
 fn push_lines(text: &mut String, unit: Option<UnitText<'_>>) -> Result<(), AllocError>
-    ensures { OnOk result (string_bytes text.new ≡ string_bytes text.old ++ merged.lines_of (texts_view unit.entry)) }
+    ensures { OnOk result (string_bytes text.new ≡ string_bytes text.old ++ merged.ended_text (texts_view unit.entry)) }
 {
     if let Some(unit) = unit {
         text.push_str(unit.text)?;
@@ -126,7 +126,12 @@ fn part_of<'s>(
     let space = space_by(base, ours, theirs);
     match slot.choice {
         Choice::Ours => kept_part(alloc, space, is_text_unit(versions.ours, slot.ours), ours),
-        Choice::Theirs => kept_part(alloc, space, is_text_unit(versions.theirs, slot.theirs), theirs),
+        Choice::Theirs => kept_part(
+            alloc,
+            space,
+            is_text_unit(versions.theirs, slot.theirs),
+            theirs,
+        ),
         Choice::Conflict => Ok(Some(Part {
             space,
             text: conflict_text(alloc, markers, ours, theirs)?,
@@ -158,7 +163,29 @@ fn parts_of<'s>(
 fn behind_feed(text: &str) -> &str
     ensures { result.now ≡ merged.behind_feed text.now }
 {
-    if text.starts_with('\n') { &text[1..] } else { text }
+    if text.starts_with('\n') {
+        &text[1..]
+    } else {
+        text
+    }
+}
+
+// Returns whether a text has a line feed.
+fn has_feed(text: &str) -> bool
+    ensures { result ≡ merged.has_feed text.now }
+{
+    text.as_bytes().contains(&b'\n')
+}
+
+// Returns the line ends before the white space `rest`: two after a text without blocks, unless `rest` has a line feed, and otherwise one.
+fn line_ends(is_text: bool, rest: &str) -> &'static str
+    ensures { result.now ≡ merged.line_ends_before is_text rest.now }
+{
+    if is_text && !has_feed(rest) {
+        "\n\n"
+    } else {
+        "\n"
+    }
 }
 
 // Appends the white space between two parts. `is_text` is whether the first part has no block.
@@ -166,10 +193,7 @@ fn push_space(text: &mut String, is_text: bool, space: &str) -> Result<(), Alloc
     ensures { OnOk result (string_bytes text.new ≡ string_bytes text.old ++ merged.space_between is_text space.now) }
 {
     let rest = behind_feed(space);
-    text.push('\n')?;
-    if is_text && !rest.contains('\n') {
-        text.push('\n')?;
-    }
+    text.push_str(line_ends(is_text, rest))?;
     text.push_str(rest)
 }
 
@@ -191,7 +215,7 @@ fn push_parts(
     parts: &[Part<'_>],
     end: &str,
 ) -> Result<(), AllocError>
-    ensures { OnOk result (string_bytes text.new ≡ string_bytes text.old ++ merged.text_after is_text (map part_view parts.now) end.now) }
+    ensures { OnOk result (string_bytes text.new ≡ string_bytes text.old ++ merged.text_behind is_text (map part_view parts.now) end.now) }
 {
     let mut after_text = is_text;
     'parts: for part in parts {
@@ -209,7 +233,7 @@ fn joined(
     parts: &[Part<'_>],
     end: &str,
 ) -> Result<String, AllocError>
-    ensures { IfOk result (λ text. string_bytes text ≡ merged.text_by (merged.texts_of main.now) (map part_view parts.now) end.now) }
+    ensures { IfOk result (λ text. string_bytes text ≡ merged.text_by (merged.version_texts main.now) (map part_view parts.now) end.now) }
 {
     match parts {
         [first, others @ ..] => {
@@ -230,6 +254,16 @@ fn merged_end<'s>(versions: Versions<'_, 's>) -> &'s str
         versions.theirs.end()
     } else {
         versions.ours.end()
+    }
+}
+
+// Returns the version whose order a merge has by this choice.
+fn main_by<'v, 's>(versions: Versions<'v, 's>, choice: Choice) -> &'v Version<'s>
+    ensures { result.now ≡ merged.main_by (versions_of versions.entry) choice }
+{
+    match choice {
+        Choice::Ours | Choice::Conflict => versions.ours,
+        Choice::Theirs => versions.theirs,
     }
 }
 
@@ -255,10 +289,7 @@ pub fn merge(
 {
     let slots = slots(alloc, versions)?;
     let parts = parts_of(alloc, markers, versions, &slots)?;
-    let main = match order_choice(alloc, versions)? {
-        Choice::Ours | Choice::Conflict => versions.ours,
-        Choice::Theirs => versions.theirs,
-    };
+    let main = main_by(versions, order_choice(alloc, versions)?);
     let text = joined(alloc, main, &parts, merged_end(versions))?;
     Ok(Merged { text, slots })
 }

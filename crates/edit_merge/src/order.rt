@@ -2,7 +2,7 @@
 
 ghost use Rattle.std.specs.Prelude.{◌≡◌, ◌++◌, None, IfOk, OnOk, filter, map};
 ghost use Rattle.edit_merge.specs.Picked as picked;
-ghost use Rattle.edit_merge.specs.Versions.{names_of};
+ghost use Rattle.edit_merge.specs.Versions.{version_names};
 ghost use Rattle.edit_merge.specs.Views.{versions_of};
 
 use crate::picking::Choice;
@@ -56,7 +56,7 @@ fn woven<'v>(
     main: &'v Version<'_>,
     other: &'v Version<'_>,
 ) -> Result<Vec<&'v str>, AllocError>
-    ensures { IfOk result (λ names. map (λ n. n.now) names.items ≡ picked.woven main.now other.now None (names_of main.now)) }
+    ensures { IfOk result (λ names. map (λ n. n.now) names.items ≡ picked.woven main.now other.now None (version_names main.now)) }
 {
     let mut names = Vec::new(alloc);
     let mut last = None;
@@ -74,7 +74,7 @@ fn woven<'v>(
 
 // Returns the names of a version.
 fn all_names<'v>(alloc: Global, version: &'v Version<'_>) -> Result<Vec<&'v str>, AllocError>
-    ensures { IfOk result (λ names. map (λ n. n.now) names.items ≡ names_of version.now) }
+    ensures { IfOk result (λ names. map (λ n. n.now) names.items ≡ version_names version.now) }
 {
     let mut names = Vec::new(alloc);
     'names: for name in version.names() {
@@ -89,7 +89,7 @@ fn shared_names<'v>(
     version: &'v Version<'_>,
     other: &Version<'_>,
 ) -> Result<Vec<&'v str>, AllocError>
-    ensures { IfOk result (λ names. map (λ n. n.now) names.items ≡ filter (picked.has_name other.now) (names_of version.now)) }
+    ensures { IfOk result (λ names. map (λ n. n.now) names.items ≡ filter (picked.has_unit_named other.now) (version_names version.now)) }
 {
     let mut names = Vec::new(alloc);
     'names: for name in version.names() {
@@ -106,7 +106,7 @@ fn is_same_order(
     first: &Version<'_>,
     second: &Version<'_>,
 ) -> Result<bool, AllocError>
-    ensures { IfOk result (λ same. same ≡ picked.are_equal_names (names_of first.now) (names_of second.now)) }
+    ensures { IfOk result (λ same. same ≡ picked.are_equal_names (version_names first.now) (version_names second.now)) }
 {
     let names = all_names(alloc, first)?;
     let others = all_names(alloc, second)?;
@@ -127,10 +127,7 @@ fn is_alike_order(
 }
 
 // Returns whose order the merge has.
-pub(crate) fn order_choice(
-    alloc: Global,
-    versions: Versions<'_, '_>,
-) -> Result<Choice, AllocError>
+pub(crate) fn order_choice(alloc: Global, versions: Versions<'_, '_>) -> Result<Choice, AllocError>
     ensures { IfOk result (λ choice. choice ≡ picked.order_choice (versions_of versions.entry)) }
 {
     if is_same_order(alloc, versions.theirs, versions.base)? {

@@ -39,7 +39,7 @@ fn is_same(
     second: &Version<'_>,
     other: Option<usize>,
 ) -> bool
-    ensures { result ≡ picked.is_same first.now (picked.unit_at first.now index) second.now (picked.unit_at second.now other) }
+    ensures { result ≡ picked.is_same first.now (picked.version_unit first.now index) second.now (picked.version_unit second.now other) }
 {
     are_same_texts(first.text_at(index), second.text_at(other))
 }
@@ -53,14 +53,22 @@ fn is_alike(
     other: Option<usize>,
 ) -> Result<bool, AllocError>
     ensures { IfOk result (λ alike. alike ≡
-        picked.is_alike first.now (picked.unit_at first.now index) second.now (picked.unit_at second.now other)) }
+        picked.is_alike first.now (picked.version_unit first.now index) second.now (picked.version_unit second.now other)) }
 {
-    match first.unit_at(index) {
-        Some(unit) => match second.unit_at(other) {
-            Some(found) => are_alike(alloc, first.text(), unit, second.text(), found),
+    match first.unit_with_text(index) {
+        Some((unit, text)) => match second.unit_with_text(other) {
+            Some((found, found_text)) => are_alike(
+                alloc,
+                first.text(),
+                unit,
+                text,
+                second.text(),
+                found,
+                found_text,
+            ),
             None => Ok(false),
         },
-        None => Ok(second.unit_at(other).is_none()),
+        None => Ok(second.unit_with_text(other).is_none()),
     }
 }
 

@@ -1,6 +1,6 @@
 //! A version of a file: its units and their names.
 
-ghost use Rattle.std.specs.Prelude.{◌≡◌, ◌⊎◌, IfErr, IfOk, OnOk, map, option_map};
+ghost use Rattle.std.specs.Prelude.{◌≡◌, ◌⊎◌, IfErr, IfOk, IfSome, OnOk, map, option_map};
 ghost use Rattle.bib_syntax.specs.Errors.{Refuses, out_of_memory};
 ghost use Rattle.bib_syntax.specs.Grammar.{IsFile};
 ghost use Rattle.bib_syntax.specs.SyntaxErrors.{IsReported};
@@ -33,7 +33,7 @@ pub struct Version<'s> {
 
 impl<'s> Model for Version<'s> {
     ghost use Rattle.std.specs.Prelude.{map};
-    ghost use Rattle.edit_merge.specs.Kept.{IsKept};
+    ghost use Rattle.edit_merge.specs.Kept.{ArePartsOfVersion};
     ghost use Rattle.edit_merge.specs.Versions.{VersionReading};
     ghost use Rattle.edit_units.specs.Views.{unit_reading_of, unit_texts_of};
 
@@ -41,7 +41,7 @@ impl<'s> Model for Version<'s> {
 
     ghost view = { λ v. record { text = v.text.now; units = map unit_reading_of v.units.items } };
 
-    ghost invariant = { λ v. IsKept (record { text = v.text.now; units = map unit_reading_of v.units.items })
+    ghost invariant = { λ v. ArePartsOfVersion (record { text = v.text.now; units = map unit_reading_of v.units.items })
         (map unit_texts_of v.texts.items) v.end.now v.names.items v.indices };
 }
 
@@ -85,7 +85,7 @@ impl<'s> Version<'s> {
 
     // Returns the unit at an index, if there is an index.
     pub(crate) fn unit_at(&self, index: Option<usize>) -> Option<&Unit<'s>>
-        ensures { option_map (λ u. unit_reading_of u.now) result ≡ picked.unit_at self.now index }
+        ensures { option_map (λ u. unit_reading_of u.now) result ≡ picked.version_unit self.now index }
     {
         self.units.get(index?)
     }
@@ -99,7 +99,7 @@ impl<'s> Version<'s> {
 
     // Returns the bytes of the unit at an index, if there is an index.
     pub(crate) fn text_at(&self, index: Option<usize>) -> Option<&'s str>
-        ensures { option_map (λ t. t.now) result ≡ option_map (versions.unit_text self.now.text) (picked.unit_at self.now index) }
+        ensures { option_map (λ t. t.now) result ≡ option_map (versions.text_of_unit self.now.text) (picked.version_unit self.now index) }
     {
         match self.texts_at(index) {
             Some(texts) => Some(texts.text),
@@ -107,9 +107,23 @@ impl<'s> Version<'s> {
         }
     }
 
+    // Returns the unit at an index and its bytes, if there is an index.
+    pub(crate) fn unit_with_text(&self, index: Option<usize>) -> Option<(&Unit<'s>, &'s str)>
+        ensures unit { option_map (λ x. unit_reading_of x.0.now) result ≡ picked.version_unit self.now index }
+        ensures text { IfSome result (λ x. x.1.now ≡ versions.text_of_unit self.now.text (unit_reading_of x.0.now)) }
+    {
+        match self.unit_at(index) {
+            Some(unit) => match self.text_at(index) {
+                Some(text) => Some((unit, text)),
+                None => None,
+            },
+            None => None,
+        }
+    }
+
     // Returns the white space before the first unit, or `other` if there is none.
     pub(crate) fn first_space(&self, other: &'s str) -> &'s str
-        ensures { result.now ≡ merged.first_space (merged.texts_of self.now) other.now }
+        ensures { result.now ≡ merged.first_space (merged.version_texts self.now) other.now }
     {
         match self.texts.first() {
             Some(texts) => texts.space,
@@ -126,14 +140,14 @@ impl<'s> Version<'s> {
 
     /// Returns the names of the units. A name has only one unit.
     pub fn names(&self) -> &[Text]
-        ensures { result.now ≡ versions.names_of self.now }
+        ensures { result.now ≡ versions.version_names self.now }
     {
         &self.names
     }
 
     /// Returns the index of the unit with a name, or `None` if no unit has it.
     pub fn index_of(&self, name: &str) -> Option<usize>
-        ensures { result ≡ versions.index_of self.now name.now }
+        ensures { result ≡ versions.named_index self.now name.now }
     {
         self.indices.get(name)
     }

@@ -177,7 +177,8 @@ whole_from text at u us after order rest =
     ∙ sym (append_assoc (space ++ own) others end ∙ append_assoc space own (others ++ end))
 
 -- a unit and those after it may be cut out
-cuts_from : (text : List ℕ) (at : ℕ) (u : UnitReading) (us : List UnitReading) → at ≤ u.start → u.start ≤ u.end → IsCharBoundary text u.start
+cuts_from : (text : List ℕ) (at : ℕ) (u : UnitReading) (us : List UnitReading) → at ≤ u.start → u.start ≤ u.end
+    → IsCharBoundary text u.start
     → IsCharBoundary text u.end → (IsCharBoundary text u.end → AreUnitsCut text u.end us) → IsCharBoundary text at
     → AreUnitsCut text at (u ∷ us)
 cuts_from text at u us after order start_cut end_cut others cut = (
@@ -276,7 +277,8 @@ joined_cut : (text : List ℕ) {u end v : Place} (l : LineReading) (first : Unit
     → IsLine u l end → CharAt end 10 v → has_no_block l ≡ true → first.start ≡ v.at → IsCharBoundary text u.at
     → AreCut text v.at (first ∷ us)
     → AreCut text u.at ((record first { start = l.start }) ∷ us)
-joined_cut text {u} {end} {v} l first us same line feed empty starts cut (AreCut.some after order fits start_cut end_cut white read others) =
+joined_cut text {u} {end} {v} l first us same line feed empty starts cut
+    (AreCut.some after order fits start_cut end_cut white read others) =
     let ahead = ahead_in_line line.inside in
     let ends : end.text ≡ text = ahead.text ∙ same in
     let line_fits : end.at ≤ length text = omega (arith, char_left feed, ap length ends) in
@@ -316,7 +318,8 @@ rest_of_line text {u} {v} l same line at_end =
     ap (λ n. take (n - l.start) (drop l.start text)) last ∙ take_to_end text l.start ∙ ap (λ n. drop n text) line.starts
 
 -- the last line, blank or not
-last_cut : (text : List ℕ) {u v : Place} (l : LineReading) (blank : Bool) → u.text ≡ text → IsLine u l v → AtEnd v → IsCharBoundary text u.at
+last_cut : (text : List ℕ) {u v : Place} (l : LineReading) (blank : Bool) → u.text ≡ text → IsLine u l v → AtEnd v
+    → IsCharBoundary text u.at
     → is_blank_line text l ≡ blank
     → AreLinesCut text u.at (not blank) (cond blank [] (unit_of_line l ∷ []))
 last_cut text l true same line at_end cut is = record {
@@ -328,8 +331,15 @@ last_cut text l true same line at_end cut is = record {
 last_cut text {u} {v} l false same line at_end cut is =
     let last : l.end ≡ length text = omega (arith, line.ends, at_end, ap length (ahead_in_line line.inside).text, ap length same) in
     record {
-      cut = apart_cut text l [] same line (omega (arith, line.ends, last)) cut (cut_file text ((ahead_in_line line.inside).text ∙ same) (file.end at_end))
-          (record { parts = _; ends = inl (ap (λ n. drop n text) last ∙ drop_all (length text) text (omega arith)); whole = refl; cuts = λ start. start });
+      cut = apart_cut text l [] same line (omega (arith, line.ends, last)) cut (cut_file text ((ahead_in_line line.inside).text ∙ same)
+          (file.end at_end))
+          (record {
+            parts = _;
+            ends = inl
+                (ap (λ n. drop n text) last ∙ drop_all (length text) text (omega arith));
+            whole = refl;
+            cuts = λ start. start;
+          });
       first = λ is. record { unit = unit_of_line l; others = []; is = refl; starts = line.starts };
     }
 
@@ -367,7 +377,8 @@ more_cut text {u} {end} {v} l ls false true same line feed is above cut others =
     ≡ (record first.unit { start = l.start }) ∷ first.others = ap (with_line true l) first.is in
     record {
       cut = subst (AreCut text u.at) (sym whole)
-          (joined_cut text l first.unit first.others same line feed joins.1 first.starts cut (subst (AreCut text v.at) first.is others.cut));
+          (joined_cut text l first.unit first.others same line feed joins.1 first.starts cut
+          (subst (AreCut text v.at) first.is others.cut));
       first = λ is. record { unit = record first.unit { start = l.start }; others = first.others; is = whole; starts = line.starts };
     }
 
@@ -386,13 +397,15 @@ lines_cut text same (AreLinesFrom.more {l = l} {ls = ls} line feed rest) =
 cut_parts : (text : List ℕ) (at : ℕ) (us : List UnitReading) → AreCut text at us
     → AreParts (parts_from text at us) (drop (end_of_units at us) text)
 cut_parts text at [] (AreCut.none white) = AreParts.none white
-cut_parts text at (u ∷ us) (AreCut.some after order fits start_cut end_cut white read others) = AreParts.some white read others.parts others.ends
+cut_parts text at (u ∷ us)
+    (AreCut.some after order fits start_cut end_cut white read others) = AreParts.some white read others.parts others.ends
 
 -- the rest of a text is its parts from there on
 cut_whole : (text : List ℕ) (at : ℕ) (us : List UnitReading) → AreCut text at us
     → drop at text ≡ text_of_parts (parts_from text at us) (drop (end_of_units at us) text)
 cut_whole text at [] cut = refl
-cut_whole text at (u ∷ us) (AreCut.some after order fits start_cut end_cut white read others) = whole_from text at u us after order others.whole
+cut_whole text at (u ∷ us)
+    (AreCut.some after order fits start_cut end_cut white read others) = whole_from text at u us after order others.whole
 
 pub units_are_parts : (text : List ℕ) (units : List UnitReading) → AreUnits text units → AreItsParts text units
 units_are_parts text units are =
