@@ -1,10 +1,10 @@
 -- The texts of units at an index.
-use Rattle.std.proofs.Common.{◌≡◌, ◌∙◌, ℕ, zero, suc, List, [], ◌∷◌, Option, Some, None, refl, sym, ap}
+use Rattle.std.proofs.Common.{◌≡◌, ℕ, zero, suc, List, [], ◌∷◌, Option, Some, None, refl}
 use Rattle.std.specs.Prelude.{option_map, slice_get}
 use Rattle.std.specs.List.{AllByRecursion}
 use Rattle.edit_entries.specs.Cuts.{CanBeCut}
 use Rattle.edit_units.specs.Cuts.{AreUnitsCut}
-use Rattle.edit_units.specs.Units.{UnitReading, UnitTexts, texts_from}
+use Rattle.edit_units.specs.Units.{UnitReading, texts_from}
 use Rattle.edit_merge.specs.Merged.{texts_at}
 use Rattle.edit_merge.specs.Picked.{version_unit}
 use Rattle.edit_merge.specs.Versions.{VersionReading, text_of_unit}

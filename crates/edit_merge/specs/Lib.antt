@@ -1,4 +1,5 @@
 pub mod Alike
+pub mod Clean
 pub mod Kept
 pub mod Merged
 pub mod PartViews

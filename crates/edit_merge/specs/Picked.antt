@@ -1,6 +1,6 @@
 -- Meaning: words of public contracts.
 -- What a merge picks. Each part has a value in the common base and in each of the two sides, ours and theirs. Absence is a value, too.
-use Rattle.std.specs.Prelude.{◌==◌, ◌&&◌, ◌||◌, ℕ, ◌+◌, Bool, true, false, not, List, [], ◌∷◌, ◌++◌, Option, Some, None, bytes_eq, cond, drop, filter, is_some, map, option_map, slice_get}
+use Rattle.std.specs.Prelude.{◌&&◌, ◌||◌, ℕ, ◌+◌, Bool, true, false, List, [], ◌∷◌, ◌++◌, Option, Some, None, bytes_eq, cond, drop, filter, is_some, map, option_map, slice_get}
 use Rattle.std.specs.List.{before_first}
 use Rattle.edit_units.specs.Units.{UnitReading}
 use Rattle.edit_merge.specs.Alike.{are_alike}

@@ -1,6 +1,5 @@
 -- Meaning: words of public contracts.
 -- The values of the code as definitions.
-use Rattle.std.specs.Prelude.{ℕ, List}
 use Rattle.edit_merge.specs.Merged.{MarkersReading}
 use Rattle.edit_merge.specs.Picked as picked
 use Rattle.edit_merge.specs.declared.merging.Markers.{Markers}

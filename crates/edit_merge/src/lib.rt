@@ -6,6 +6,7 @@
 #![tactic(auto)]
 
 mod alike;
+pub mod laws;
 pub mod merging;
 mod names;
 mod order;
