@@ -12,7 +12,7 @@ use Rattle.std.specs.Char.{digit_value}
 use Rattle.std.specs.Str.Parse.{AllDigits}
 use Rattle.bib_text.proofs.ListFacts.{count_more}
 use Rattle.edit_merge.specs.Versions.{VersionReading, own_name, unique_names, version_names}
-use Rattle.edit_merge.specs.Distinct.{AreDistinct}
+use Rattle.edit_merge.specs.Distinct.{AreAllDifferent}
 
 -- ---- a number, a space and an own name
 
@@ -65,7 +65,7 @@ later earlier (next ∷ owns) own k fits below =
       later (earlier ++ next ∷ []) owns own k (omega (arith, fits, size)) (omega (arith, below, counted)),
     )
 
-distinct_from : (earlier owns : List (List ℕ)) → length earlier + length owns < 2 ^ 64 → AreDistinct (unique_names earlier owns)
+distinct_from : (earlier owns : List (List ℕ)) → length earlier + length owns < 2 ^ 64 → AreAllDifferent (unique_names earlier owns)
 distinct_from earlier [] fits = _
 distinct_from earlier (own ∷ owns) fits =
     let counted : count_by (bytes_eq own) (earlier ++ own ∷ []) ≡ count_by (bytes_eq own) earlier + cond (bytes_eq own own) 1 0 =
@@ -78,6 +78,6 @@ distinct_from earlier (own ∷ owns) fits =
       distinct_from (earlier ++ own ∷ []) owns (omega (arith, fits, size)),
     )
 
-pub names_are_distinct : (v : VersionReading) → length v.units < 2 ^ 64 → AreDistinct (version_names v)
+pub names_are_distinct : (v : VersionReading) → length v.units < 2 ^ 64 → AreAllDifferent (version_names v)
 names_are_distinct v fits =
     distinct_from [] (map (own_name v.text) v.units) (omega (arith, fits, length-map v.units (own_name v.text)))

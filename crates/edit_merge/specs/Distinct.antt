@@ -4,6 +4,6 @@ use Rattle.std.specs.Prelude.{◌≡◌, ℕ, List, [], ◌∷◌, ⊤}
 use Rattle.std.specs.List.{AllByRecursion}
 
 -- no two of these names are equal
-abbrev pub AreDistinct : List (List ℕ) → Type 0
-AreDistinct [] = ⊤
-AreDistinct (name ∷ names) = AllByRecursion (λ other. name ≡ other → ⊥) names × AreDistinct names
+abbrev pub AreAllDifferent : List (List ℕ) → Type 0
+AreAllDifferent [] = ⊤
+AreAllDifferent (name ∷ names) = AllByRecursion (λ other. name ≡ other → ⊥) names × AreAllDifferent names

@@ -3,7 +3,7 @@
 ghost use Rattle.std.specs.Prelude.{◌<◌, ◌^◌, length};
 ghost use Rattle.edit_entries.specs.Changes.{IsReadPlaceless};
 ghost use Rattle.edit_merge.specs.Clean.{HaveUnits, IsClean, merged_content};
-ghost use Rattle.edit_merge.specs.Distinct.{AreDistinct};
+ghost use Rattle.edit_merge.specs.Distinct.{AreAllDifferent};
 ghost use Rattle.edit_merge.specs.Merged.{MarkersReading, merged_text};
 ghost use Rattle.edit_merge.specs.Picked.{Versions};
 ghost use Rattle.edit_merge.specs.Versions.{VersionReading, version_names};
@@ -16,5 +16,5 @@ pub fn clean_merges_are_read()
 
 /// States that no two units of a version have the same name, if it has fewer than 2^64 units.
 pub fn names_are_distinct()
-    ensures { (v : VersionReading) → length v.units < 2 ^ 64 → AreDistinct (version_names v) }
+    ensures { (v : VersionReading) → length v.units < 2 ^ 64 → AreAllDifferent (version_names v) }
 {}
