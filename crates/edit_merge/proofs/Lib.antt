@@ -1,4 +1,5 @@
 pub mod AlikeFacts
+pub mod ApartFacts
 pub mod CleanFacts
 pub mod NameFacts
 pub mod OrderFacts

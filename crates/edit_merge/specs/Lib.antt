@@ -1,5 +1,6 @@
 pub mod Alike
 pub mod Clean
+pub mod Distinct
 pub mod Kept
 pub mod Merged
 pub mod PartViews
