@@ -1,9 +1,9 @@
 -- The units of a text are its parts: each is the text of a file by itself, and white space is between them.
 use Rattle.std.proofs.Common.{◌≡◌, inl, inr, ℕ, ◌+◌, ◌-◌, ◌≤◌, arith, Bool, true, false, cond, List, [], ◌∷◌, ◌++◌, length, take, drop, refl, sym, ap, ◌∙◌, subst, append_assoc}
-use Rattle.std.specs.Prelude.{◌==◌, not}
+use Rattle.std.specs.Prelude.{◌==◌, ◌&&◌, ◌||◌, ⊤, not}
 use Rattle.std.specs.Char.{is_ascii_whitespace}
 use Rattle.std.proofs.lemmas.Str.{encode_ascii, len_utf8_ascii}
-use Rattle.std.specs.List.{AllByRecursion, flat_map, list_all}
+use Rattle.std.specs.List.{AllByRecursion, flat_map, list_all, list_any}
 use Rattle.std.specs.Str.{IsCharBoundary}
 use Rattle.std.specs.declared.ops.Range.{Range}
 use Rattle.std.proofs.lemmas.Bool.{and_parts, cases_lt, eqb-true}
@@ -29,6 +29,7 @@ use Rattle.edit_entries.proofs.ZoneFacts.{Frame, Inside, Zone, char_there, insid
 use Rattle.edit_units.proofs.JoinFacts.{feed_between}
 use Rattle.edit_units.proofs.UnitFacts.{line_apart}
 use Rattle.edit_units.specs.Cuts.{AreUnitsCut}
+use Rattle.edit_units.specs.Separated.{AreSeparated, HasBlankLine}
 use Rattle.edit_units.specs.Parts.{AreItsParts, AreParts, IsFileEnd, IsLineEnd, IsNextPart, IsWhite, parts_from, text_of_parts}
 use Rattle.edit_units.specs.Units.{AreUnits, UnitReading, end_of_units, begin_filled, has_no_block, is_above, is_blank_line, line_bytes, line_units, with_line}
 
@@ -163,6 +164,7 @@ record AreNext (text : List ℕ) (at : ℕ) (units : List UnitReading) : Type 0 
   ends : IsFileEnd (drop (end_of_units at units) text)
   whole : drop at text ≡ text_of_parts (parts_from text at units) (drop (end_of_units at units) text)
   cuts : IsCharBoundary text at → AreUnitsCut text at units
+  separated : AreSeparated text units
 
 -- the text from an offset on: a unit, and the parts after it
 whole_from : (text : List ℕ) (at : ℕ) (u : UnitReading) (us : List UnitReading) → at ≤ u.start → u.start ≤ u.end
@@ -193,7 +195,8 @@ data AreCut (text : List ℕ) (at : ℕ) : List UnitReading → Type 0 where
   some : {u : UnitReading} {us : List UnitReading} → at ≤ u.start → u.start ≤ u.end → u.end ≤ length text
       → IsCharBoundary text u.start → IsCharBoundary text u.end
       → IsWhite (between (place text at) (place text u.start))
-      → IsReadPlaceless u.says (between (place text u.start) (place text u.end)) → AreNext text u.end us → AreCut text at (u ∷ us)
+      → IsReadPlaceless u.says (between (place text u.start) (place text u.end))
+      → ((length u.blocks == 0) ≡ true → HasBlankLine text u.end us) → AreNext text u.end us → AreCut text at (u ∷ us)
 
 -- units after a line feed
 next_from : (text : List ℕ) {end v : Place} {us : List UnitReading} → end.text ≡ text → CharAt end 10 v → AreCut text v.at us
@@ -203,8 +206,9 @@ next_from text {end} {v} same feed (AreCut.none white) = record {
   ends = inr (subst IsLineEnd (sym (feed_rest text same feed)) (IsLineEnd.feed white));
   whole = refl;
   cuts = λ start. start;
+  separated = _;
 }
-next_from text {end} {v} same feed (AreCut.some {u = u} {us = us} after order fits start_cut end_cut white read others) = record {
+next_from text {end} {v} same feed (AreCut.some {u = u} {us = us} after order fits start_cut end_cut white read blank others) = record {
   parts = (
     record {
       space = subst IsLineEnd
@@ -219,6 +223,7 @@ next_from text {end} {v} same feed (AreCut.some {u = u} {us = us} after order fi
   ends = others.ends;
   whole = whole_from text end.at u us (omega (arith, after, feed.next)) order others.whole;
   cuts = cuts_from text end.at u us (omega (arith, after, feed.next)) order start_cut end_cut others.cuts;
+  separated = (blank, others.separated);
 }
 
 -- a blank line before units
@@ -231,12 +236,12 @@ blank_before text at {end} {v} same feed from fits line (AreCut.none white) = Ar
     ∙ ap (λ t. between (place text at) (place text end.at) ++ t) (feed_rest text same feed)))
     (passed_append is_ascii_whitespace (between (place text at) (place text end.at)) (10 ∷ drop v.at text) line white))
 blank_before text at {end} {v} same feed from fits line
-    (AreCut.some {u = u} {us = us} after order within start_cut end_cut white read others) = AreCut.some
+    (AreCut.some {u = u} {us = us} after order within start_cut end_cut white read blank others) = AreCut.some
     (omega (arith, from, after, feed.next)) order within start_cut end_cut
     (subst IsWhite (sym (feed_split text at u.start same feed from after (omega (arith, order, within))))
     (passed_append is_ascii_whitespace (between (place text at) (place text end.at)) (10 ∷ between (place text v.at) (place text u.start))
     line white))
-    read others
+    read blank others
 
 -- ---- the units of lines
 
@@ -247,10 +252,46 @@ record BeginsWith (at : ℕ) (units : List UnitReading) : Type 0 where
   is : units ≡ unit ∷ others
   starts : unit.start ≡ at
 
+-- the white space before the first of these units has a line feed
+abbrev HasFeed : List ℕ → ℕ → List UnitReading → Type 0
+HasFeed text at [] = ⊤
+HasFeed text at (u ∷ us) = list_any (λ b. b == 10) (between (place text at) (place text u.start)) ≡ true
+
+or_true : (b : Bool) → (b || true) ≡ true
+or_true true = refl
+or_true false = refl
+
+any_feed : (before rest : List ℕ) → list_any (λ b. b == 10) (before ++ 10 ∷ rest) ≡ true
+any_feed [] rest = refl
+any_feed (b ∷ before) rest = ap (λ x. (b == 10) || x) (any_feed before rest) ∙ or_true (b == 10)
+
+-- a line feed after a blank line
+feed_behind : (text : List ℕ) (at : ℕ) {end v : Place} (us : List UnitReading) → end.text ≡ text → CharAt end 10 v → at ≤ end.at
+    → AreCut text v.at us → HasFeed text at us
+feed_behind text at [] same feed from cut = tt
+feed_behind text at {end} {v} (u ∷ us) same feed from (AreCut.some after order fits start_cut end_cut white read blank others) =
+    ap (list_any (λ b. b == 10)) (feed_split text at u.start same feed from after (omega (arith, order, fits)))
+    ∙ any_feed (between (place text at) (place text end.at)) (between (place text v.at) (place text u.start))
+
+-- after a line feed, a line feed in white space is behind its first character
+blank_behind : (text : List ℕ) {end v : Place} (us : List UnitReading) → end.text ≡ text → CharAt end 10 v → AreCut text v.at us
+    → HasFeed text v.at us → HasBlankLine text end.at us
+blank_behind text [] same feed cut has = tt
+blank_behind text {end} {v} (u ∷ us) same feed (AreCut.some after order fits start_cut end_cut white read blank others) has =
+    ap (λ t. list_any (λ b. b == 10) (drop 1 t))
+    (feed_split text end.at u.start same feed (omega arith) after (omega (arith, order, fits))
+    ∙ ap (λ t. t ++ 10 ∷ between (place text v.at) (place text u.start)) (none_between text end.at))
+    ∙ has
+
+left_false : (a b : Bool) → (a && b) ≡ false → b ≡ true → a ≡ false
+left_false true b both is = absurd (test_clash b is both)
+left_false false b both is = refl
+
 -- the units of lines from a place on. If the first line isn't blank, the first unit begins with it
 record AreLinesCut (text : List ℕ) (at : ℕ) (filled : Bool) (units : List UnitReading) : Type 0 where
   cut : AreCut text at units
   first : filled ≡ true → BeginsWith at units
+  feed : filled ≡ false → HasFeed text at units
 
 -- a line without blocks has no content
 no_content : {u v : Place} {blocks : List (Range ℕ)} {says : FileReading} → InLine u blocks says v → blocks ≡ [] → says ≡ empty_reading
@@ -278,7 +319,7 @@ joined_cut : (text : List ℕ) {u end v : Place} (l : LineReading) (first : Unit
     → AreCut text v.at (first ∷ us)
     → AreCut text u.at ((record first { start = l.start }) ∷ us)
 joined_cut text {u} {end} {v} l first us same line feed empty starts cut
-    (AreCut.some after order fits start_cut end_cut white read others) =
+    (AreCut.some after order fits start_cut end_cut white read blank others) =
     let ahead = ahead_in_line line.inside in
     let ends : end.text ≡ text = ahead.text ∙ same in
     let line_fits : end.at ≤ length text = omega (arith, char_left feed, ap length ends) in
@@ -299,17 +340,18 @@ joined_cut text {u} {end} {v} l first us same line feed empty starts cut
     (white_start text u.at l.start line.starts)
     (subst (λ r. IsReadPlaceless r (between (place text l.start) (place text first.end))) (ap (λ r. then r first.says) silent)
     (subst (IsReadPlaceless (then l.says first.says)) (sym split) both))
-    others
+    blank others
 
 -- a line that is a unit by itself
 apart_cut : (text : List ℕ) {u end : Place} (l : LineReading) (us : List UnitReading) → u.text ≡ text → IsLine u l end
-    → end.at ≤ length text → IsCharBoundary text u.at → IsCharBoundary text end.at → AreNext text l.end us
+    → end.at ≤ length text → IsCharBoundary text u.at → IsCharBoundary text end.at
+    → (has_no_block l ≡ true → HasBlankLine text l.end us) → AreNext text l.end us
     → AreCut text u.at (unit_of_line l ∷ us)
-apart_cut text {u} {end} l us same line fits cut cut' others =
+apart_cut text {u} {end} l us same line fits cut cut' blank others =
     let ahead = ahead_in_line line.inside in
     AreCut.some {u = unit_of_line l} (omega (arith, line.starts)) (omega (arith, line.starts, line.ends, ahead.at))
     (omega (arith, line.ends, fits)) (subst (IsCharBoundary text) (sym line.starts) cut) (subst (IsCharBoundary text) (sym line.ends) cut')
-    (white_start text u.at l.start line.starts) (line_alone text l same line fits) others
+    (white_start text u.at l.start line.starts) (line_alone text l same line fits) blank others
 
 -- the bytes of the last line are the rest of the text
 rest_of_line : (text : List ℕ) {u v : Place} (l : LineReading) → u.text ≡ text → IsLine u l v → AtEnd v → line_bytes text l ≡ drop u.at text
@@ -327,20 +369,23 @@ last_cut text l true same line at_end cut is = record {
       (subst IsWhite (rest_of_line text l same line at_end)
       (and_parts (has_no_block l) (list_all is_ascii_whitespace (line_bytes text l)) is).1);
   first = λ is. absurd (test_clash false is refl);
+  feed = λ is. tt;
 }
 last_cut text {u} {v} l false same line at_end cut is =
     let last : l.end ≡ length text = omega (arith, line.ends, at_end, ap length (ahead_in_line line.inside).text, ap length same) in
     record {
       cut = apart_cut text l [] same line (omega (arith, line.ends, last)) cut (cut_file text ((ahead_in_line line.inside).text ∙ same)
-          (file.end at_end))
+          (file.end at_end)) (λ empty. tt)
           (record {
             parts = _;
             ends = inl
                 (ap (λ n. drop n text) last ∙ drop_all (length text) text (omega arith));
             whole = refl;
             cuts = λ start. start;
+            separated = _;
           });
       first = λ is. record { unit = unit_of_line l; others = []; is = refl; starts = line.starts };
+      feed = λ is. absurd (test_clash true refl is);
     }
 
 -- a line before others, blank or not
@@ -358,17 +403,24 @@ more_cut text {u} {end} {v} l ls true joins same line feed is above cut others =
           (and_parts (has_no_block l) (list_all is_ascii_whitespace (line_bytes text l)) is).1)
           others.cut;
       first = λ is. absurd (test_clash false is refl);
+      feed = λ is. feed_behind text u.at (line_units text ls) (ahead.text ∙ same) feed ahead.at others.cut;
     }
 more_cut text {u} {end} {v} l ls false false same line feed is above cut others =
     let ahead = ahead_in_line line.inside in
     let next : AreNext text l.end (line_units text ls) =
     subst (λ n. AreNext text n (line_units text ls)) (sym line.ends) (next_from text (ahead.text ∙ same) feed others.cut) in
     let whole = line_apart l (line_units text ls) in
+    let blank : has_no_block l ≡ true → HasBlankLine text l.end (line_units text ls) =
+    λ empty.
+    subst (λ n. HasBlankLine text n (line_units text ls)) (sym line.ends)
+    (blank_behind text (line_units text ls) (ahead.text ∙ same) feed others.cut
+    (others.feed (left_false (begin_filled text ls) (has_no_block l) above empty))) in
     record {
       cut = subst (AreCut text u.at) (sym whole)
           (apart_cut text l (line_units text ls) same line (omega (arith, char_left feed, ap length ahead.text, ap length same)) cut
-          (subst (λ t. IsCharBoundary t end.at) (ahead.text ∙ same) (char_boundary feed)) next);
+          (subst (λ t. IsCharBoundary t end.at) (ahead.text ∙ same) (char_boundary feed)) blank next);
       first = λ is. record { unit = unit_of_line l; others = line_units text ls; is = whole; starts = line.starts };
+      feed = λ is. absurd (test_clash true refl is);
     }
 more_cut text {u} {end} {v} l ls false true same line feed is above cut others =
     let joins = and_parts (begin_filled text ls) (has_no_block l) above in
@@ -380,6 +432,7 @@ more_cut text {u} {end} {v} l ls false true same line feed is above cut others =
           (joined_cut text l first.unit first.others same line feed joins.1 first.starts cut
           (subst (AreCut text v.at) first.is others.cut));
       first = λ is. record { unit = record first.unit { start = l.start }; others = first.others; is = whole; starts = line.starts };
+      feed = λ is. absurd (test_clash true refl is);
     }
 
 lines_cut : (text : List ℕ) {u : Place} {ls : List LineReading} → u.text ≡ text → AreLinesFrom u ls
@@ -398,14 +451,14 @@ cut_parts : (text : List ℕ) (at : ℕ) (us : List UnitReading) → AreCut text
     → AreParts (parts_from text at us) (drop (end_of_units at us) text)
 cut_parts text at [] (AreCut.none white) = AreParts.none white
 cut_parts text at (u ∷ us)
-    (AreCut.some after order fits start_cut end_cut white read others) = AreParts.some white read others.parts others.ends
+    (AreCut.some after order fits start_cut end_cut white read blank others) = AreParts.some white read others.parts others.ends
 
 -- the rest of a text is its parts from there on
 cut_whole : (text : List ℕ) (at : ℕ) (us : List UnitReading) → AreCut text at us
     → drop at text ≡ text_of_parts (parts_from text at us) (drop (end_of_units at us) text)
 cut_whole text at [] cut = refl
 cut_whole text at (u ∷ us)
-    (AreCut.some after order fits start_cut end_cut white read others) = whole_from text at u us after order others.whole
+    (AreCut.some after order fits start_cut end_cut white read blank others) = whole_from text at u us after order others.whole
 
 pub units_are_parts : (text : List ℕ) (units : List UnitReading) → AreUnits text units → AreItsParts text units
 units_are_parts text units are =
@@ -421,5 +474,13 @@ units_cut text units are = by units (subst (AreCut text 0) (sym are.units_are) (
 
     by : (us : List UnitReading) → AreCut text 0 us → AreUnitsCut text 0 us
     by [] cut = start
-    by (u ∷ us) (AreCut.some after order fits start_cut end_cut white read others) =
+    by (u ∷ us) (AreCut.some after order fits start_cut end_cut white read blank others) =
         cuts_from text 0 u us after order start_cut end_cut others.cuts start
+
+-- a blank line is between each unit without blocks and the next unit
+pub units_are_separated : (text : List ℕ) (units : List UnitReading) → AreUnits text units → AreSeparated text units
+units_are_separated text units are = by units (subst (AreCut text 0) (sym are.units_are) (lines_cut text refl are.are).cut)
+  where
+    by : (us : List UnitReading) → AreCut text 0 us → AreSeparated text us
+    by [] cut = tt
+    by (u ∷ us) (AreCut.some after order fits start_cut end_cut white read blank others) = (blank, others.separated)
