@@ -9,7 +9,8 @@ use Rattle.bib_syntax.specs.Lines.{AreLinesFrom, IsLine, LineReading}
 use Rattle.bib_syntax.proofs.LineReadFacts.{ahead_in_line}
 use Rattle.bib_syntax.specs.LineViews.{line_of}
 use Rattle.bib_syntax.specs.declared.raw.lines.RawLine.{RawLine}
-use Rattle.edit_units.specs.Units.{IsWithin, UnitReading, begin_filled, has_no_block, is_above, is_blank_line, line_units, with_line}
+use Rattle.edit_units.specs.Cuts.{IsWithin}
+use Rattle.edit_units.specs.Units.{UnitReading, begin_filled, has_no_block, is_above, is_blank_line, line_units, with_line}
 use Rattle.edit_units.specs.Views.{unit_reading_of}
 use Rattle.edit_units.specs.declared.units.Unit.{Unit}
 

@@ -1,7 +1,8 @@
 -- Machinery: words of private contracts.
--- A text may be cut where its units begin and end.
-use Rattle.std.specs.Prelude.{ℕ, List, [], ◌∷◌}
+-- A text may be cut where its units begin and end, and its lines are within it.
+use Rattle.std.specs.Prelude.{ℕ, ◌≤◌, List, [], ◌∷◌, length}
 use Rattle.std.specs.Str.{IsCharBoundary}
+use Rattle.bib_syntax.specs.Lines.{LineReading}
 use Rattle.edit_entries.specs.Cuts.{CanBeCut}
 use Rattle.edit_units.specs.Units.{UnitReading}
 
@@ -9,3 +10,8 @@ use Rattle.edit_units.specs.Units.{UnitReading}
 abbrev pub AreUnitsCut : List ℕ → ℕ → List UnitReading → Type 0
 AreUnitsCut text at [] = IsCharBoundary text at
 AreUnitsCut text at (u ∷ us) = CanBeCut text at u.start × CanBeCut text u.start u.end × AreUnitsCut text u.end us
+
+-- a line is within a text
+pub record IsWithin (text : List ℕ) (l : LineReading) : Type 0 where
+  pub order : l.start ≤ l.end
+  pub end : l.end ≤ length text

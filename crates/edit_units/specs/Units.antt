@@ -1,6 +1,6 @@
 -- Meaning: words of public contracts.
 -- The units of a file: the parts that a comparison or a merge of files keeps together.
-use Rattle.std.specs.Prelude.{◌≡◌, ◌≤◌, ◌==◌, ◌&&◌, ℕ, Bool, false, not, List, [], ◌∷◌, cond, length}
+use Rattle.std.specs.Prelude.{◌≡◌, ◌==◌, ◌&&◌, ℕ, Bool, false, not, List, [], ◌∷◌, cond, length}
 use Rattle.std.specs.declared.ops.Range.{Range}
 use Rattle.std.specs.Char.{is_ascii_whitespace}
 use Rattle.std.specs.List.{list_all}
@@ -11,11 +11,6 @@ use Rattle.bib_syntax.specs.Reading.{FileReading}
 -- the bytes of a line, without its line feed
 abbrev pub line_bytes : List ℕ → LineReading → List ℕ
 line_bytes text l = between (place text l.start) (place text l.end)
-
--- a line is within a text
-pub record IsWithin (text : List ℕ) (l : LineReading) : Type 0 where
-  pub order : l.start ≤ l.end
-  pub end : l.end ≤ length text
 
 -- whether a line has no block
 abbrev pub has_no_block : LineReading → Bool
@@ -48,7 +43,8 @@ with_line joins l (u ∷ us) =
     cond joins ((record u { start = l.start }) ∷ us) (record { start = l.start; end = l.end; blocks = l.blocks; says = l.says } ∷ u ∷ us)
 
 -- The units of lines: a blank line belongs to none. Each other line without a block belongs to the unit of the next line, unless that is
--- blank. So a unit is a line with blocks and the lines directly above it, or else several lines between blank lines.
+-- blank. So a unit is a line with blocks and the lines directly above it, or else one or more lines without blocks, up to a
+-- blank line or the end.
 abbrev pub line_units : List ℕ → List LineReading → List UnitReading
 line_units text [] = []
 line_units text (l ∷ ls) = cond (is_blank_line text l) (line_units text ls) (with_line (is_above text l ls) l (line_units text ls))

@@ -16,7 +16,8 @@ pub struct UnitText<'s> {
     pub text: &'s str,
 }
 
-/// Returns the texts of the units of a text, and the white space after the last unit. Returns an error only if out of memory.
+/// Returns the texts of the units of a text, and the white space after the last unit. `units` are those that `Unit::parse_all` returns for
+/// the text. Returns an error only if out of memory.
 pub fn unit_texts<'s>(
     alloc: Global,
     text: &'s str,

@@ -7,15 +7,17 @@ ghost use Rattle.bib_syntax.specs.Errors.{Refuses, out_of_memory};
 ghost use Rattle.bib_syntax.specs.Grammar.{IsFile};
 ghost use Rattle.bib_syntax.specs.LineViews.{line_of};
 ghost use Rattle.bib_syntax.specs.SyntaxErrors.{IsReported};
+ghost use Rattle.edit_units.specs.Cuts.{IsWithin};
 ghost use Rattle.edit_units.specs.Units as spec;
-ghost use Rattle.edit_units.specs.Units.{AreUnits, IsWithin, line_units, with_line};
+ghost use Rattle.edit_units.specs.Units.{AreUnits, line_units, with_line};
 ghost use Rattle.edit_units.specs.Views.{unit_reading_of};
 
 use bib_syntax::raw::{ParseError, RawBibliography, RawLine};
 use bib_text::spanned::Span;
 use std::alloc::{AllocError, Global};
 
-/// A unit of a text: a line with blocks and the lines directly above it, or else several lines between blank lines.
+/// A unit of a text: a line with blocks and the lines directly above it, or else one or more lines without blocks, up to a blank line or the
+/// end.
 #[derive(Debug, Clone, Drop)]
 pub struct Unit<'s> {
     /// The span of its lines, in bytes of the text, without the last line feed.
