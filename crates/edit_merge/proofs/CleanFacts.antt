@@ -11,8 +11,8 @@ use Rattle.edit_units.specs.Units.{AreUnits, UnitReading, UnitTexts, texts_from}
 use Rattle.edit_units.proofs.CutFacts.{units_are_parts}
 use Rattle.edit_units.proofs.JoinFacts.{parts_are_read}
 use Rattle.edit_merge.specs.Clean.{HaveUnits, IsClean, IsPicked, unit_content, contents_together, merged_content, picked_content}
-use Rattle.edit_merge.specs.Merged.{MarkersReading, MergedPart, behind_feed, end_of, first_space, has_feed, kept_part, main_by, merged_end, merged_text, parts_by, space_at_end, space_between, space_by, text_behind, text_by, texts_at, version_texts}
-use Rattle.edit_merge.specs.Picked.{Versions, order_choice, slots, version_unit}
+use Rattle.edit_merge.specs.Merged.{MarkersReading, MergedPart, behind_feed, end_of, first_space, has_feed, kept_part, merged_end, merged_start, merged_text, parts_by, space_at_end, space_between, space_by, start_of, text_behind, text_by, texts_at, version_texts}
+use Rattle.edit_merge.specs.Picked.{Versions, slots, version_unit}
 use Rattle.edit_merge.specs.Versions.{VersionReading}
 use Rattle.edit_merge.specs.declared.picking.Choice.{Choice}
 use Rattle.edit_merge.specs.declared.picking.Choice.TheVariants.{Ours, Theirs, Conflict}
@@ -199,45 +199,41 @@ unfolding file_parts
 file_parts_content is_text ArePartsRead.none = refl
 file_parts_content is_text (ArePartsRead.some {p = p} {says = says} read rest) = ap (then says) (file_parts_content p.is_text rest)
 
--- the text of parts, with the white space `first` before the first of them
-text_read : (main : List UnitTexts) (end : List ℕ) {ps : List MergedPart} {says : List FileReading}
-    → ((other : List ℕ) → IsWhite other → IsWhite (first_space main other)) → IsWhite end → ArePartsRead ps says
-    → IsReadPlaceless (contents_together says) (text_by main ps end)
-text_read main end first white ArePartsRead.none = parts_are_read [] end (AreParts.none white)
-text_read main end first white (ArePartsRead.some {p = p} {ps = ps} {says = says} {rest = rest} read others) =
-    let part : FilePart = record { space = first_space main p.space; text = p.text; says = says } in
+-- the text of parts after this white space
+text_read : (start end : List ℕ) {ps : List MergedPart} {says : List FileReading} → IsWhite start → IsWhite end → ArePartsRead ps says
+    → IsReadPlaceless (contents_together says) (text_by start ps end)
+text_read start end first white ArePartsRead.none = parts_are_read [] end (AreParts.none white)
+text_read start end first white (ArePartsRead.some {p = p} {ps = ps} {says = says} {rest = rest} read others) =
+    let part : FilePart = record { space = start; text = p.text; says = says } in
     let parts : List FilePart = file_parts p.is_text ps rest in
     let left : List ℕ = flat_map (λ q. q.space ++ q.text) parts in
-    let whole : text_of_parts (part ∷ parts) (space_at_end end)
-    ≡ first_space main p.space ++ (p.text ++ text_behind p.is_text ps end) =
-    append_assoc (first_space main p.space ++ p.text) left (space_at_end end)
-    ∙ append_assoc (first_space main p.space) p.text (left ++ space_at_end end)
-    ∙ ap (λ t. first_space main p.space ++ (p.text ++ t)) (file_parts_text p.is_text end others) in
+    let whole : text_of_parts (part ∷ parts) (space_at_end end) ≡ start ++ (p.text ++ text_behind p.is_text ps end) =
+    append_assoc (start ++ p.text) left (space_at_end end) ∙ append_assoc start p.text (left ++ space_at_end end)
+    ∙ ap (λ t. start ++ (p.text ++ t)) (file_parts_text p.is_text end others) in
     subst (IsReadPlaceless (then says (contents_together rest))) whole
     (subst (λ r. IsReadPlaceless r (text_of_parts (part ∷ parts) (space_at_end end))) (ap (then says) (file_parts_content p.is_text others))
     (parts_are_read (part ∷ parts) (space_at_end end)
-    (AreParts.some (first p.space read.space) read.text (file_parts_next p.is_text others) (ends end white))))
+    (AreParts.some first read.text (file_parts_next p.is_text others) (ends end white))))
 
-first_white : (us : List UnitReading) (ts : List UnitTexts) → AreRead us ts → (other : List ℕ) → IsWhite other
-    → IsWhite (first_space ts other)
-first_white [] [] AreRead.none other white = white
-first_white [] (t ∷ ts) read other white = elim read [ ]
-first_white (u ∷ us) [] read other white = elim read [ ]
-first_white (u ∷ us) (t ∷ ts) (AreRead.some read rest) other white = read.space
+first_white : (us : List UnitReading) (ts : List UnitTexts) → AreRead us ts → IsWhite (first_space ts)
+first_white [] [] AreRead.none = refl
+first_white [] (t ∷ ts) read = elim read [ ]
+first_white (u ∷ us) [] read = elim read [ ]
+first_white (u ∷ us) (t ∷ ts) (AreRead.some read rest) = read.space
 
-main_read : (vs : Versions) (choice : Choice) → HaveUnits vs → AreUnits (main_by vs choice).text (main_by vs choice).units
-main_read vs Ours have = have.ours
-main_read vs Theirs have = have.theirs
-main_read vs Conflict have = have.ours
+start_white : (v : VersionReading) → AreUnits v.text v.units → IsWhite (start_of v)
+start_white v are = first_white v.units (version_texts v) (version_read v are)
+
+picked_white : (same : Bool) (ours theirs : List ℕ) → IsWhite ours → IsWhite theirs → IsWhite (cond same theirs ours)
+picked_white true ours theirs wo wt = wt
+picked_white false ours theirs wo wt = wo
 
 pub clean_merges_are_read : (markers : MarkersReading) (vs : Versions) → HaveUnits vs → IsClean vs
     → IsReadPlaceless (merged_content vs) (merged_text markers vs)
 clean_merges_are_read markers vs have clean =
-    let main : VersionReading = main_by vs (order_choice vs) in
-    let units = main_read vs (order_choice vs) have in
-    text_read (version_texts main) (merged_end vs) (first_white main.units (version_texts main) (version_read main units))
-    (by (bytes_eq (end_of vs.ours) (end_of vs.base))) (slots_read markers vs (slots vs) have clean)
-  where
-    by : (same : Bool) → IsWhite (cond same (end_of vs.theirs) (end_of vs.ours))
-    by true = end_white vs.theirs have.theirs
-    by false = end_white vs.ours have.ours
+    text_read (merged_start vs) (merged_end vs)
+    (picked_white (bytes_eq (start_of vs.ours) (start_of vs.base)) (start_of vs.ours) (start_of vs.theirs) (start_white vs.ours have.ours)
+    (start_white vs.theirs have.theirs))
+    (picked_white (bytes_eq (end_of vs.ours) (end_of vs.base)) (end_of vs.ours) (end_of vs.theirs) (end_white vs.ours have.ours)
+    (end_white vs.theirs have.theirs))
+    (slots_read markers vs (slots vs) have clean)

@@ -4,7 +4,7 @@ use Rattle.std.specs.Prelude.{◌==◌, ◌&&◌, ℕ, Bool, false, not, List, [
 use Rattle.std.specs.List.{flat_map, list_any}
 use Rattle.bib_text.specs.Characters as char
 use Rattle.edit_units.specs.Units.{UnitReading, UnitTexts, end_of_units, texts_from}
-use Rattle.edit_merge.specs.Picked.{Versions, order_choice, slots, version_unit}
+use Rattle.edit_merge.specs.Picked.{Versions, slots, version_unit}
 use Rattle.edit_merge.specs.Versions.{VersionReading}
 use Rattle.edit_merge.specs.declared.picking.Choice.{Choice}
 use Rattle.edit_merge.specs.declared.slots.Slot.{Slot}
@@ -123,26 +123,28 @@ abbrev pub text_behind : Bool → List MergedPart → List ℕ → List ℕ
 text_behind is_text [] end = space_at_end end
 text_behind is_text (p ∷ ps) end = space_between is_text p.space ++ (p.text ++ text_behind p.is_text ps end)
 
--- the white space before the first unit of a version, if it has one
-abbrev pub first_space : List UnitTexts → List ℕ → List ℕ
-first_space [] other = other
-first_space (p ∷ ps) other = p.space
+-- the white space before the first unit, if there is one
+abbrev pub first_space : List UnitTexts → List ℕ
+first_space [] = []
+first_space (p ∷ ps) = p.space
 
--- the text of all parts, if the main version has these ones
-abbrev pub text_by : List UnitTexts → List MergedPart → List ℕ → List ℕ
-text_by main [] end = end
-text_by main (p ∷ ps) end = first_space main p.space ++ (p.text ++ text_behind p.is_text ps end)
-
--- the version whose order the merge has
-abbrev pub main_by : Versions → Choice → VersionReading
-main_by vs Ours = vs.ours
-main_by vs Theirs = vs.theirs
-main_by vs Conflict = vs.ours
+-- the text of all parts after this white space
+abbrev pub text_by : List ℕ → List MergedPart → List ℕ → List ℕ
+text_by start [] end = end
+text_by start (p ∷ ps) end = start ++ (p.text ++ text_behind p.is_text ps end)
 
 -- the white space after the last unit: that of the side that changed it, or else that of ours
 abbrev pub merged_end : Versions → List ℕ
 merged_end vs = cond (bytes_eq (end_of vs.ours) (end_of vs.base)) (end_of vs.theirs) (end_of vs.ours)
 
+-- the white space before the first unit of a version
+abbrev pub start_of : VersionReading → List ℕ
+start_of v = first_space (version_texts v)
+
+-- the white space before the first unit: that of the side that changed it, or else that of ours
+abbrev pub merged_start : Versions → List ℕ
+merged_start vs = cond (bytes_eq (start_of vs.ours) (start_of vs.base)) (start_of vs.theirs) (start_of vs.ours)
+
 -- the merged text
 abbrev pub merged_text : MarkersReading → Versions → List ℕ
-merged_text markers vs = text_by (version_texts (main_by vs (order_choice vs))) (merged_parts markers vs) (merged_end vs)
+merged_text markers vs = text_by (merged_start vs) (merged_parts markers vs) (merged_end vs)

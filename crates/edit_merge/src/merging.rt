@@ -8,7 +8,6 @@ ghost use Rattle.edit_merge.specs.PartViews.{parts_view, part_view, texts_view};
 ghost use Rattle.edit_merge.specs.Picked as picked;
 ghost use Rattle.edit_merge.specs.Views.{markers_of, versions_of};
 
-use crate::order::order_choice;
 use crate::picking::Choice;
 use crate::slots::{Slot, slots};
 use crate::version::{Version, Versions};
@@ -226,23 +225,34 @@ fn push_parts(
     push_end(text, end)
 }
 
-// Returns the text of all parts. `main` is the version whose order they have.
-fn joined(
+// Returns the text of all parts after the white space `start`.
+fn text_by(
     alloc: Global,
-    main: &Version<'_>,
+    start: &str,
     parts: &[Part<'_>],
     end: &str,
 ) -> Result<String, AllocError>
-    ensures { IfOk result (λ text. string_bytes text ≡ merged.text_by (merged.version_texts main.now) (map part_view parts.now) end.now) }
+    ensures { IfOk result (λ text. string_bytes text ≡ merged.text_by start.now (map part_view parts.now) end.now) }
 {
     match parts {
         [first, others @ ..] => {
-            let mut text = String::from_str(alloc, main.first_space(first.space))?;
+            let mut text = String::from_str(alloc, start)?;
             text.push_str(&first.text)?;
             push_parts(&mut text, first.is_text, others, end)?;
             Ok(text)
         }
         [] => String::from_str(alloc, end),
+    }
+}
+
+// Returns the white space before the first unit.
+fn merged_start<'s>(versions: Versions<'_, 's>) -> &'s str
+    ensures { result.now ≡ merged.merged_start (versions_of versions.entry) }
+{
+    if versions.ours.start() == versions.base.start() {
+        versions.theirs.start()
+    } else {
+        versions.ours.start()
     }
 }
 
@@ -254,16 +264,6 @@ fn merged_end<'s>(versions: Versions<'_, 's>) -> &'s str
         versions.theirs.end()
     } else {
         versions.ours.end()
-    }
-}
-
-// Returns the version whose order a merge has by this choice.
-fn main_by<'v, 's>(versions: Versions<'v, 's>, choice: Choice) -> &'v Version<'s>
-    ensures { result.now ≡ merged.main_by (versions_of versions.entry) choice }
-{
-    match choice {
-        Choice::Ours | Choice::Conflict => versions.ours,
-        Choice::Theirs => versions.theirs,
     }
 }
 
@@ -289,7 +289,6 @@ pub fn merge(
 {
     let slots = slots(alloc, versions)?;
     let parts = parts_of(alloc, markers, versions, &slots)?;
-    let main = main_by(versions, order_choice(alloc, versions)?);
-    let text = joined(alloc, main, &parts, merged_end(versions))?;
+    let text = text_by(alloc, merged_start(versions), &parts, merged_end(versions))?;
     Ok(Merged { text, slots })
 }

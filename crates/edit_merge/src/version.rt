@@ -121,13 +121,13 @@ impl<'s> Version<'s> {
         }
     }
 
-    // Returns the white space before the first unit, or `other` if there is none.
-    pub(crate) fn first_space(&self, other: &'s str) -> &'s str
-        ensures { result.now ≡ merged.first_space (merged.version_texts self.now) other.now }
+    // Returns the white space before the first unit, or an empty text if there is none.
+    pub(crate) fn start(&self) -> &'s str
+        ensures { result.now ≡ merged.start_of self.now }
     {
         match self.texts.first() {
             Some(texts) => texts.space,
-            None => other,
+            None => "",
         }
     }
 
