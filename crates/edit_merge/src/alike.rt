@@ -1,6 +1,6 @@
 //! Units that have the same content and the same comments, but may differ in their layout.
 
-ghost use Rattle.std.specs.Prelude.{◌≡◌, ◌++◌, IfOk, OnOk, filter, map, option_map};
+ghost use Rattle.std.specs.Prelude.{◌≡◌, ◌&&◌, ◌++◌, IfOk, OnOk, bytes_eq, filter, map, option_map};
 ghost use Rattle.bib_text.specs.Places.{between, place};
 ghost use Rattle.bib_syntax.specs.Views.{entry_reading_of, field_of};
 ghost use Rattle.edit_units.specs.Views.{unit_reading_of};
@@ -8,7 +8,7 @@ ghost use Rattle.edit_merge.specs.Alike as spec;
 ghost use Rattle.edit_merge.specs.Versions.{text_of_unit};
 ghost use Rattle.edit_merge.specs.Alike.{is_no_layout, outside_fields};
 
-use bib_queries::equal_values::{are_equal_pieces, are_equal_texts};
+use bib_queries::equal_values::are_equal_pieces;
 use bib_syntax::raw::{Pair, RawEntry, is_word};
 use bib_text::spanned::Spanned;
 use edit_units::units::Unit;
@@ -112,8 +112,28 @@ fn single_entry<'a, 's>(unit: &'a Unit<'s>) -> Option<&'a Spanned<RawEntry<'s>>>
     }
 }
 
-// Returns whether two units with these entries are alike: the types are equal, in any ASCII case, the fields are alike, and the rest is
-// equal.
+// Returns whether the texts before and after two entries of units are equal.
+fn are_equal_around(
+    text: &[u8],
+    unit: &Unit<'_>,
+    entry: &Spanned<RawEntry<'_>>,
+    other: &[u8],
+    second: &Unit<'_>,
+    found: &Spanned<RawEntry<'_>>,
+) -> bool
+    ensures { result ≡ (bytes_eq (spec.before_entry text.now (unit_reading_of unit.now) (entry_reading_of entry.now))
+        (spec.before_entry other.now (unit_reading_of second.now) (entry_reading_of found.now))
+        && bytes_eq (spec.behind_entry text.now (unit_reading_of unit.now) (entry_reading_of entry.now))
+        (spec.behind_entry other.now (unit_reading_of second.now) (entry_reading_of found.now))) }
+{
+    bytes_between(text, unit.span.start, entry.span.start)
+        == bytes_between(other, second.span.start, found.span.start)
+        && bytes_between(text, entry.span.end, unit.span.end)
+            == bytes_between(other, found.span.end, second.span.end)
+}
+
+// Returns whether two units with these entries are alike: the types are equal, in any ASCII case, the fields are alike, the text before and
+// after the entries is equal, and the rest is equal except for white space and commas.
 fn are_alike_entries(
     alloc: Global,
     text: &[u8],
@@ -132,9 +152,39 @@ fn are_alike_entries(
     if !are_alike_fields(alloc, &entry.v.fields, &found.v.fields)? {
         return Ok(false);
     }
+    if !are_equal_around(text, unit, entry, other, second, found) {
+        return Ok(false);
+    }
     let rest = rest_of_entry(alloc, text, unit, entry)?;
     let other_rest = rest_of_entry(alloc, other, second, found)?;
     Ok(rest.as_slice() == other_rest.as_slice())
+}
+
+// Returns whether two units with one entry each are alike.
+fn are_alike_by(
+    alloc: Global,
+    text: &[u8],
+    unit: &Unit<'_>,
+    other: &[u8],
+    second: &Unit<'_>,
+) -> Result<bool, AllocError>
+    ensures { IfOk result (λ alike. alike ≡ spec.are_alike_by text.now (unit_reading_of unit.now) (spec.single_entry (unit_reading_of unit.now))
+        other.now (unit_reading_of second.now) (spec.single_entry (unit_reading_of second.now))) }
+{
+    match single_entry(unit) {
+        Some(entry) => match single_entry(second) {
+            Some(found) => are_alike_entries(alloc, text, unit, entry, other, second, found),
+            None => Ok(false),
+        },
+        None => Ok(false),
+    }
+}
+
+// Returns whether a text has a percent sign.
+fn has_comment_sign(text: &str) -> bool
+    ensures { result ≡ spec.has_comment_sign text.now }
+{
+    text.as_bytes().contains(&b'%')
 }
 
 // Returns whether two units of two texts are alike. `own` and `other_own` are the bytes of the units. Returns an error only if out of memory.
@@ -151,18 +201,11 @@ pub(crate) fn are_alike(
     requires other_own { other_own.now ≡ text_of_unit other.now (unit_reading_of second.now) }
     ensures { IfOk result (λ alike. alike ≡ spec.are_alike text.now (unit_reading_of unit.now) other.now (unit_reading_of second.now)) }
 {
-    if let Some(entry) = single_entry(unit) {
-        if let Some(found) = single_entry(second) {
-            return are_alike_entries(
-                alloc,
-                text.as_bytes(),
-                unit,
-                entry,
-                other.as_bytes(),
-                second,
-                found,
-            );
-        }
+    if own == other_own {
+        return Ok(true);
     }
-    are_equal_texts(alloc, own, other_own)
+    if has_comment_sign(own) || has_comment_sign(other_own) {
+        return Ok(false);
+    }
+    are_alike_by(alloc, text.as_bytes(), unit, other.as_bytes(), second)
 }

@@ -226,12 +226,7 @@ fn push_parts(
 }
 
 // Returns the text of all parts after the white space `start`.
-fn text_by(
-    alloc: Global,
-    start: &str,
-    parts: &[Part<'_>],
-    end: &str,
-) -> Result<String, AllocError>
+fn text_by(alloc: Global, start: &str, parts: &[Part<'_>], end: &str) -> Result<String, AllocError>
     ensures { IfOk result (λ text. string_bytes text ≡ merged.text_by start.now (map part_view parts.now) end.now) }
 {
     match parts {
