@@ -22,6 +22,7 @@ mod imports;
 mod items;
 mod json_imports;
 mod keys;
+mod merges;
 mod orders;
 mod recodings;
 mod records;
@@ -53,6 +54,7 @@ fn rows(alloc: Global, layer: &str, input: &str) -> Result<String, AllocError> {
         "imports" => answered::<imports::Imports>(alloc, input),
         "items" => answered::<items::CslItems>(alloc, input),
         "json_imports" => answered::<json_imports::JsonImports>(alloc, input),
+        "merges" => answered::<merges::Merges>(alloc, input),
         "orders" => answered::<orders::Orders>(alloc, input),
         "keys" => answered::<keys::Keys>(alloc, input),
         "recodings" => answered::<recodings::Recodings>(alloc, input),

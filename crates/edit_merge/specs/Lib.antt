@@ -1,0 +1,9 @@
+pub mod Alike
+pub mod Clean
+pub mod Distinct
+pub mod Kept
+pub mod Merged
+pub mod PartViews
+pub mod Picked
+pub mod Versions
+pub mod Views

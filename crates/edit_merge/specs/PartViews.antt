@@ -1,0 +1,22 @@
+-- Machinery: words of private contracts.
+-- The parts of a merge and the texts of units, from the values of the code.
+use Rattle.std.specs.Prelude.{List, [], ◌∷◌, Option, Some, None, option_map}
+use Rattle.std.specs.String.{string_bytes}
+use Rattle.edit_merge.specs.Merged.{MergedPart}
+use Rattle.edit_merge.specs.declared.merging.Part.{Part}
+use Rattle.edit_units.specs.Units.{UnitTexts}
+use Rattle.edit_units.specs.Views.{unit_texts_of}
+use Rattle.edit_units.specs.declared.texts.UnitText.{UnitText}
+
+-- the texts of a unit, if it is there
+abbrev pub texts_view : Option UnitText → Option UnitTexts
+texts_view found = option_map unit_texts_of found
+
+-- a part
+abbrev pub part_view : Part → MergedPart
+part_view p = record { space = p.space.now; text = string_bytes p.text; is_text = p.is_text }
+
+-- a part, if there is one, as a list
+abbrev pub parts_view : Option Part → List MergedPart
+parts_view None = []
+parts_view (Some p) = part_view p ∷ []
