@@ -11,12 +11,12 @@ use Rattle.edit_units.specs.Units.{AreUnits, UnitReading, UnitTexts, texts_from}
 use Rattle.edit_units.proofs.CutFacts.{units_are_parts}
 use Rattle.edit_units.proofs.JoinFacts.{parts_are_read}
 use Rattle.edit_merge.specs.Clean.{HaveUnits, IsClean, IsPicked, unit_content, contents_together, merged_content, picked_content}
-use Rattle.edit_merge.specs.Merged.{MarkersReading, MergedPart, behind_feed, end_of, first_space, has_feed, kept_part, merged_end, merged_start, merged_text, parts_by, space_at_end, space_between, space_by, start_of, text_behind, text_by, texts_at, version_texts}
-use Rattle.edit_merge.specs.Picked.{Versions, slots, version_unit}
-use Rattle.edit_merge.specs.Versions.{VersionReading}
+use Rattle.edit_merge.specs.Merged.{MarkersReading, MergedPart, behind_feed, has_feed, kept_part, merged_end, merged_start, merged_text, parts_by, space_at_end, space_between, space_by, text_behind, text_by}
+use Rattle.edit_merge.specs.Picked.{Versions, slots}
 use Rattle.edit_merge.specs.declared.picking.Choice.{Choice}
 use Rattle.edit_merge.specs.declared.picking.Choice.TheVariants.{Ours, Theirs, Conflict}
 use Rattle.edit_merge.specs.declared.slots.Slot.{Slot}
+use Rattle.edit_versions.specs.Versions.{VersionReading, end_of, first_space, start_of, texts_at, version_texts, version_unit}
 
 -- ---- white space
 

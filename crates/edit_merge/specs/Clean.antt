@@ -3,11 +3,12 @@
 use Rattle.std.specs.Prelude.{List, [], ◌∷◌, Option, Some, None, ⊤}
 use Rattle.std.specs.List.{AllByRecursion, flat_map}
 use Rattle.bib_syntax.specs.Reading.{FileReading, empty_reading, then}
-use Rattle.edit_merge.specs.Picked.{Versions, slots, version_unit}
+use Rattle.edit_merge.specs.Picked.{Versions, slots}
 use Rattle.edit_merge.specs.declared.picking.Choice.{Choice}
 use Rattle.edit_merge.specs.declared.picking.Choice.TheVariants.{Ours, Theirs, Conflict}
 use Rattle.edit_merge.specs.declared.slots.Slot.{Slot}
 use Rattle.edit_units.specs.Units.{AreUnits, UnitReading}
+use Rattle.edit_versions.specs.Versions.{version_unit}
 
 -- each version has the units of its text
 pub record HaveUnits (vs : Versions) : Type 0 where

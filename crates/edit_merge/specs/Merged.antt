@@ -4,24 +4,11 @@ use Rattle.std.specs.Prelude.{◌==◌, ◌&&◌, ℕ, Bool, false, not, List, [
 use Rattle.std.specs.List.{flat_map, list_any}
 use Rattle.bib_text.specs.Characters as char
 use Rattle.edit_units.specs.Units.{UnitReading, UnitTexts, end_of_units, texts_from}
-use Rattle.edit_merge.specs.Picked.{Versions, slots, version_unit}
-use Rattle.edit_merge.specs.Versions.{VersionReading}
+use Rattle.edit_merge.specs.Picked.{Versions, slots}
 use Rattle.edit_merge.specs.declared.picking.Choice.{Choice}
 use Rattle.edit_merge.specs.declared.slots.Slot.{Slot}
 use Rattle.edit_merge.specs.declared.picking.Choice.TheVariants.{Ours, Theirs, Conflict}
-
--- the units of a version as texts, with the white space before each
-abbrev pub version_texts : VersionReading → List UnitTexts
-version_texts v = texts_from v.text 0 v.units
-
--- the white space after the last unit of a version
-abbrev pub end_of : VersionReading → List ℕ
-end_of v = drop (end_of_units 0 v.units) v.text
-
--- the texts of the unit at an index, if there is an index
-abbrev pub texts_at : VersionReading → Option ℕ → Option UnitTexts
-texts_at v None = None
-texts_at v (Some i) = slice_get (version_texts v) i
+use Rattle.edit_versions.specs.Versions.{VersionReading, version_unit}
 
 -- the lines that mark the two sides of a conflict, without line feeds
 pub record MarkersReading : Type 0 where
@@ -123,11 +110,6 @@ abbrev pub text_behind : Bool → List MergedPart → List ℕ → List ℕ
 text_behind is_text [] end = space_at_end end
 text_behind is_text (p ∷ ps) end = space_between is_text p.space ++ (p.text ++ text_behind p.is_text ps end)
 
--- the white space before the first unit, if there is one
-abbrev pub first_space : List UnitTexts → List ℕ
-first_space [] = []
-first_space (p ∷ ps) = p.space
-
 -- the text of all parts after this white space
 abbrev pub text_by : List ℕ → List MergedPart → List ℕ → List ℕ
 text_by start [] end = end
@@ -136,10 +118,6 @@ text_by start (p ∷ ps) end = start ++ (p.text ++ text_behind p.is_text ps end)
 -- the white space after the last unit: that of the side that changed it, or else that of ours
 abbrev pub merged_end : Versions → List ℕ
 merged_end vs = cond (bytes_eq (end_of vs.ours) (end_of vs.base)) (end_of vs.theirs) (end_of vs.ours)
-
--- the white space before the first unit of a version
-abbrev pub start_of : VersionReading → List ℕ
-start_of v = first_space (version_texts v)
 
 -- the white space before the first unit: that of the side that changed it, or else that of ours
 abbrev pub merged_start : Versions → List ℕ

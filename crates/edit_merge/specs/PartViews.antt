@@ -8,10 +8,6 @@ use Rattle.edit_units.specs.Units.{UnitTexts}
 use Rattle.edit_units.specs.Views.{unit_texts_of}
 use Rattle.edit_units.specs.declared.texts.UnitText.{UnitText}
 
--- the texts of a unit, if it is there
-abbrev pub texts_view : Option UnitText → Option UnitTexts
-texts_view found = option_map unit_texts_of found
-
 -- a part
 abbrev pub part_view : Part → MergedPart
 part_view p = record { space = p.space.now; text = string_bytes p.text; is_text = p.is_text }

@@ -3,40 +3,17 @@
 use Rattle.std.specs.Prelude.{◌&&◌, ◌||◌, ℕ, ◌+◌, Bool, true, false, List, [], ◌∷◌, ◌++◌, Option, Some, None, bytes_eq, cond, drop, filter, is_some, map, option_map, slice_get}
 use Rattle.std.specs.List.{before_first}
 use Rattle.edit_units.specs.Units.{UnitReading}
-use Rattle.edit_merge.specs.Alike.{are_alike}
-use Rattle.edit_merge.specs.Versions.{VersionReading, named_index, version_names, text_of_unit}
 use Rattle.edit_merge.specs.declared.picking.Choice.{Choice}
 use Rattle.edit_merge.specs.declared.slots.Slot.{Slot}
 use Rattle.edit_merge.specs.declared.picking.Choice.TheVariants.{Ours, Theirs, Conflict}
+use Rattle.edit_versions.specs.Alike.{are_alike}
+use Rattle.edit_versions.specs.Versions.{VersionReading, named_index, text_of_unit, version_names}
 
 -- The choice between two sides. A side that is equal to the base has changed nothing, so the other side counts. If both changed, ours
 -- counts if theirs is alike the base or alike ours, and theirs counts if ours is alike the base. Otherwise they conflict.
 abbrev pub choose : Bool → Bool → Bool → Bool → Choice
 choose theirs_same ours_same theirs_alike ours_alike =
     cond theirs_same Ours (cond ours_same Theirs (cond theirs_alike Ours (cond ours_alike Theirs Conflict)))
-
--- the unit at an index, if there is an index
-abbrev pub version_unit : VersionReading → Option ℕ → Option UnitReading
-version_unit v None = None
-version_unit v (Some i) = slice_get v.units i
-
--- whether two texts are equal, or both are absent
-abbrev pub are_same_texts : Option (List ℕ) → Option (List ℕ) → Bool
-are_same_texts None None = true
-are_same_texts None (Some text) = false
-are_same_texts (Some text) None = false
-are_same_texts (Some text) (Some other) = bytes_eq text other
-
--- whether two units have the same bytes, or both are absent
-abbrev pub is_same : VersionReading → Option UnitReading → VersionReading → Option UnitReading → Bool
-is_same v u w x = are_same_texts (option_map (text_of_unit v.text) u) (option_map (text_of_unit w.text) x)
-
--- whether two units are alike, or both are absent
-abbrev pub is_alike : VersionReading → Option UnitReading → VersionReading → Option UnitReading → Bool
-is_alike v None w None = true
-is_alike v None w (Some u) = false
-is_alike v (Some u) w None = false
-is_alike v (Some u) w (Some x) = are_alike v.text u w.text x
 
 -- the versions of a file that are merged
 pub record Versions : Type 0 where
@@ -63,10 +40,6 @@ slot_of vs name = record {
 }
 
 -- ---- the order
-
--- whether a version has a unit with this name
-abbrev pub has_unit_named : VersionReading → List ℕ → Bool
-has_unit_named v name = is_some (named_index v name)
 
 -- whether two lists of names are equal
 abbrev pub are_equal_names : List (List ℕ) → List (List ℕ) → Bool

@@ -3,7 +3,7 @@
 use Rattle.edit_merge.specs.Merged.{MarkersReading}
 use Rattle.edit_merge.specs.Picked as picked
 use Rattle.edit_merge.specs.declared.merging.Markers.{Markers}
-use Rattle.edit_merge.specs.declared.version.Versions.{Versions}
+use Rattle.edit_merge.specs.declared.picking.Versions.{Versions}
 
 -- the three versions of a merge
 abbrev pub versions_of : Versions → picked.Versions

@@ -4,13 +4,14 @@ ghost use Rattle.std.specs.Prelude.{◌≡◌, ◌++◌, IfOk, OnOk, map};
 ghost use Rattle.std.specs.List.{flat_map};
 ghost use Rattle.std.specs.String.{string_bytes};
 ghost use Rattle.edit_merge.specs.Merged as merged;
-ghost use Rattle.edit_merge.specs.PartViews.{parts_view, part_view, texts_view};
+ghost use Rattle.edit_merge.specs.PartViews.{parts_view, part_view};
 ghost use Rattle.edit_merge.specs.Picked as picked;
 ghost use Rattle.edit_merge.specs.Views.{markers_of, versions_of};
+ghost use Rattle.edit_versions.specs.Views.{texts_view};
 
-use crate::picking::Choice;
+use crate::picking::{Choice, Versions};
 use crate::slots::{Slot, slots};
-use crate::version::{Version, Versions};
+use edit_versions::version::Version;
 use edit_units::texts::UnitText;
 use std::alloc::{AllocError, Global};
 

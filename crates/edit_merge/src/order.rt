@@ -2,11 +2,12 @@
 
 ghost use Rattle.std.specs.Prelude.{◌≡◌, ◌++◌, None, IfOk, OnOk, filter, map};
 ghost use Rattle.edit_merge.specs.Picked as picked;
-ghost use Rattle.edit_merge.specs.Versions.{version_names};
+ghost use Rattle.edit_versions.specs.Versions.{version_names};
+ghost use Rattle.edit_versions.specs.Versions as versions;
 ghost use Rattle.edit_merge.specs.Views.{versions_of};
 
-use crate::picking::Choice;
-use crate::version::{Version, Versions};
+use crate::picking::{Choice, Versions};
+use edit_versions::version::Version;
 use bib_text::text::Text;
 use std::alloc::{AllocError, Global};
 
@@ -89,7 +90,7 @@ fn shared_names<'v>(
     version: &'v Version<'_>,
     other: &Version<'_>,
 ) -> Result<Vec<&'v str>, AllocError>
-    ensures { IfOk result (λ names. map (λ n. n.now) names.items ≡ filter (picked.has_unit_named other.now) (version_names version.now)) }
+    ensures { IfOk result (λ names. map (λ n. n.now) names.items ≡ filter (versions.has_unit_named other.now) (version_names version.now)) }
 {
     let mut names = Vec::new(alloc);
     'names: for name in version.names() {

@@ -5,8 +5,7 @@ ghost use Rattle.edit_merge.specs.Picked as picked;
 ghost use Rattle.edit_merge.specs.Views.{versions_of};
 
 use crate::order::{order, order_choice};
-use crate::picking::{Choice, choice_at};
-use crate::version::Versions;
+use crate::picking::{Choice, Versions, choice_at};
 use std::alloc::{AllocError, Global};
 
 /// The place of the units with one name: their index in each version, if it has one, and what the merge picks.

@@ -1,9 +1,9 @@
 use Rattle.std.proofs.Common.{◌≡◌, ◌∙◌, ◌++◌, ap, map, sym}
 use Rattle.std.specs.List.{before_first}
 use Rattle.std.specs.Option.{is_some}
-use Rattle.edit_merge.specs.Picked.{has_unit_named}
 use Rattle.edit_merge.proofs.OrderFacts.{run_ends, run_goes_on}
 use Rattle.edit_merge.proofs.order.push_run.Goals as goal
+use Rattle.edit_versions.specs.Versions.{has_unit_named}
 
 pub names-preserved : goal.names-preserved
 names-preserved c =

@@ -1,5 +1,0 @@
-use Rattle.edit_merge.proofs.ApartFacts.{names_are_distinct}
-use Rattle.edit_merge.proofs.laws.names_are_distinct.Goals as goal
-
-pub returns : goal.returns
-returns c v fits = names_are_distinct v fits

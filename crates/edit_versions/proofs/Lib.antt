@@ -1,0 +1,4 @@
+pub mod AlikeFacts
+pub mod ApartFacts
+pub mod NameFacts
+pub mod TextFacts

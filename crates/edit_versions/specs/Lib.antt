@@ -1,0 +1,5 @@
+pub mod Alike
+pub mod Distinct
+pub mod Kept
+pub mod Versions
+pub mod Views
