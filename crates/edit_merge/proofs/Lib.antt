@@ -1,2 +1,3 @@
 pub mod CleanFacts
+pub mod GroupFacts
 pub mod OrderFacts

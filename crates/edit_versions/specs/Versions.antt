@@ -4,7 +4,7 @@ use Rattle.std.specs.Prelude.{◌==◌, ◌-◌, ℕ, List, [], ◌∷◌, ◌++
 use Rattle.std.specs.declared.ops.Range.{Range}
 use Rattle.std.specs.Fmt.{decimal}
 use Rattle.std.specs.FinMap.{empty, get}
-use Rattle.std.specs.List.{before_first, enumerate_from, list_any, suffix_len}
+use Rattle.std.specs.List.{after_first, before_first, enumerate_from, list_any, suffix_len}
 use Rattle.std.specs.Str.{chars, str_to_ascii_lowercase}
 use Rattle.bib_collections.specs.Names.{with_claims}
 use Rattle.bib_collections.specs.Sorted.{ByText}
@@ -96,6 +96,14 @@ named_index v name = get (indices_of (version_names v)) name
 -- whether a version has a unit with this name
 abbrev pub has_unit_named : VersionReading → List ℕ → Bool
 has_unit_named v name = is_some (named_index v name)
+
+-- the own name in a name: the part after the number
+abbrev pub own_part : List ℕ → List ℕ
+own_part name = after_first (λ b. b == char.space) name
+
+-- whether several units of a version have this own name: then one of them is number 1, as numbers begin at 0
+abbrev pub is_repeated : VersionReading → List ℕ → Bool
+is_repeated v own = has_unit_named v (codes "1 " ++ own)
 
 -- ---- the units at indices
 

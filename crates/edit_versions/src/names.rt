@@ -14,12 +14,22 @@ use edit_units::units::Unit;
 use std::alloc::{AllocError, Global};
 
 // Returns a text after a prefix.
-fn with_prefix(alloc: Global, prefix: &str, text: &str) -> Result<Text, AllocError>
+pub(crate) fn with_prefix(alloc: Global, prefix: &str, text: &str) -> Result<Text, AllocError>
     ensures { IfOk result (λ name. name ≡ prefix.now ++ text.now) }
 {
     let mut name = Text::from_str(alloc, prefix)?;
     name.push_str(text)?;
     Ok(name)
+}
+
+/// Returns the own name in a name of a unit: the part after the number.
+pub fn own_part(name: &str) -> &str
+    ensures { result.now ≡ spec.own_part name.now }
+{
+    match name.split_once(' ') {
+        Some((_, own)) => own,
+        None => "",
+    }
 }
 
 // Returns the first line of a text.
