@@ -2,8 +2,7 @@
 use Rattle.std.proofs.Common.{◌≡◌, inl, inr, ℕ, zero, suc, arith, codes, Bool, true, false, cond, List, [], ◌∷◌, ◌++◌, Option, Some, None, refl, sym, ap, ◌∙◌, subst, append_assoc}
 use Rattle.std.specs.Prelude.{◌&&◌, ◌==◌, bytes_eq, drop, not, option_map, slice_get, unwrap_or}
 use Rattle.std.proofs.lemmas.Bool.{ne_eqb}
-use Rattle.std.specs.Char.{is_ascii_whitespace}
-use Rattle.std.specs.List.{AllByRecursion, flat_map, list_all}
+use Rattle.std.specs.List.{AllByRecursion, flat_map}
 use Rattle.bib_syntax.specs.Reading.{FileReading, then}
 use Rattle.edit_entries.specs.Changes.{IsReadPlaceless}
 use Rattle.edit_units.specs.Parts.{AreParts, FilePart, IsFileEnd, IsLineEnd, IsNextPart, IsWhite, parts_from, parts_together, text_of_parts}

@@ -1,3 +1,6 @@
 pub mod CleanFacts
 pub mod GroupFacts
 pub mod OrderFacts
+pub mod PickedFacts
+pub mod SideFacts
+pub mod UnchangedFacts

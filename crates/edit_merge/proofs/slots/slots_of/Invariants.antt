@@ -1,5 +1,4 @@
 use Rattle.std.proofs.Common.{◌≡◌, ◌++◌, drop, map}
-use Rattle.edit_merge.specs.Groups.{AreChanges}
 use Rattle.edit_merge.specs.Picked.{slot_of}
 use Rattle.edit_merge.specs.Views.{versions_of}
 use Rattle.edit_merge.proofs.slots.slots_of.Given as goal
