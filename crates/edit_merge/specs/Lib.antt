@@ -1,4 +1,5 @@
 pub mod Clean
+pub mod Entries
 pub mod Groups
 pub mod Merged
 pub mod PartViews

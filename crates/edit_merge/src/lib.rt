@@ -6,6 +6,7 @@
 //! (`laws::unchanged_theirs_gives_ours`).
 #![tactic(auto)]
 
+pub mod entries;
 mod groups;
 pub mod laws;
 pub mod merging;

@@ -45,8 +45,8 @@ fn choice_of(
     }
 }
 
-// Returns the place of the units with a name.
-fn slot_of(
+/// Returns the place of the units with a name.
+pub(crate) fn slot_of(
     alloc: Global,
     versions: Versions<'_, '_>,
     changes: &Changes,

@@ -7,7 +7,7 @@ ghost use Rattle.bib_syntax.specs.SyntaxErrors.{IsReported};
 ghost use Rattle.edit_versions.specs.Versions as versions;
 ghost use Rattle.edit_versions.specs.Views.{texts_view};
 ghost use Rattle.edit_units.specs.Units.{AreUnits};
-ghost use Rattle.edit_units.specs.Views.{unit_reading_of};
+ghost use Rattle.edit_units.specs.Views.{unit_reading_of, unit_texts_of};
 
 use crate::names::{indices_of, unit_names, with_prefix};
 use bib_collections::claims::Claims;
@@ -86,6 +86,13 @@ impl<'s> Version<'s> {
         ensures { option_map (λ u. unit_reading_of u.now) result ≡ versions.version_unit self.now index }
     {
         self.units.get(index?)
+    }
+
+    /// Returns the units as texts, in order.
+    pub fn texts(&self) -> &[UnitText<'s>]
+        ensures { map unit_texts_of result.now ≡ versions.version_texts self.now }
+    {
+        &self.texts
     }
 
     /// Returns the texts of the unit at an index, if there is an index.
