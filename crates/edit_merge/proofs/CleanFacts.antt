@@ -1,7 +1,6 @@
 -- The text of a merge without a conflict is the text of a file.
-use Rattle.std.proofs.Common.{◌≡◌, inl, inr, ℕ, zero, suc, arith, codes, Bool, true, false, cond, List, [], ◌∷◌, ◌++◌, Option, Some, None, refl, sym, ap, ◌∙◌, subst, append_assoc}
-use Rattle.std.specs.Prelude.{◌&&◌, ◌==◌, bytes_eq, drop, not, option_map, slice_get, unwrap_or}
-use Rattle.std.proofs.lemmas.Bool.{ne_eqb}
+use Rattle.std.proofs.Common.{◌≡◌, inl, inr, ℕ, zero, suc, ◌<◌, arith, codes, Bool, true, false, cond, List, [], ◌∷◌, ◌++◌, Option, Some, None, refl, sym, ap, ◌∙◌, subst, append_assoc}
+use Rattle.std.specs.Prelude.{◌&&◌, bytes_eq, drop, max, not, option_map, slice_get, unwrap_or}
 use Rattle.std.specs.List.{AllByRecursion, flat_map}
 use Rattle.bib_syntax.specs.Reading.{FileReading, then}
 use Rattle.edit_entries.specs.Changes.{IsReadPlaceless}
@@ -11,7 +10,7 @@ use Rattle.edit_units.proofs.CutFacts.{units_are_parts}
 use Rattle.edit_units.proofs.JoinFacts.{parts_are_read}
 use Rattle.edit_versions.specs.Versions.{VersionReading, end_of, texts_at, version_texts, version_unit}
 use Rattle.edit_merge.specs.Clean.{HaveUnits, IsClean, IsPicked, contents_together, merged_content, picked_content, unit_content}
-use Rattle.edit_merge.specs.Merged.{MarkersReading, MergedPart, end_behind, has_feed, is_same_space, is_text_slot, merged_blank, merged_end, merged_start, merged_text, part_with, picked_space, slot_parts, slot_space, slot_text, space_before, space_between, start_of, text_behind, text_of_merge}
+use Rattle.edit_merge.specs.Merged.{MarkersReading, MergedPart, end_behind, has_feed, is_same_space, is_text_slot, merged_blank, merged_end, merged_start, merged_text, part_with, picked_space, slot_parts, slot_space, slot_text, space_at, space_between, start_of, text_behind, text_of_merge}
 use Rattle.edit_merge.specs.Picked.{Versions, slots}
 use Rattle.edit_merge.specs.declared.picking.Choice.{Choice}
 use Rattle.edit_merge.specs.declared.picking.Choice.TheVariants.{Ours, Theirs, Conflict}
@@ -38,7 +37,8 @@ data IfThere (P : List ℕ → Type 0) : Option (List ℕ) → Type 0 where
   absent : IfThere P None
   there : {text : List ℕ} → P text → IfThere P (Some text)
 
-picked_has : (P : List ℕ → Type 0) (b : Option (List ℕ)) {o t : Option (List ℕ)} → IfThere P o → IfThere P t → IfThere P (picked_space b o t)
+picked_has : (P : List ℕ → Type 0) (b : Option (List ℕ)) {o t : Option (List ℕ)} → IfThere P o → IfThere P t
+    → IfThere P (picked_space b o t)
 picked_has P b IfThere.absent theirs = theirs
 picked_has P b (IfThere.there ours) IfThere.absent = IfThere.there ours
 picked_has P b (IfThere.there {text = o} ours) (IfThere.there {text = t} theirs) = IfThere.there (by (is_same_space b o))
@@ -136,19 +136,15 @@ next_at [] i next = IfThere.absent
 next_at (t ∷ ts) zero next = IfThere.there next.0
 next_at (t ∷ ts) (suc i) next = next_at ts i next.1
 
--- the white space before each unit except the first one
-later_at : (ts : List UnitTexts) (i : ℕ) → AreNext (drop 1 ts)
-    → IfThere IsLineEnd (cond (i == 0) None (option_map (λ t. t.space) (slice_get ts i)))
-later_at ts zero next = IfThere.absent
-later_at [] (suc i) next =
-    subst (λ b. IfThere IsLineEnd (cond b None None)) (sym (ne_eqb (suc i) 0 (λ same. omega (arith, same)))) IfThere.absent
-later_at (t ∷ ts) (suc i) next =
-    subst (λ b. IfThere IsLineEnd (cond b None (option_map (λ t. t.space) (slice_get ts i))))
-    (sym (ne_eqb (suc i) 0 (λ same. omega (arith, same)))) (next_at ts i next)
+-- the white space before each unit after the first one
+later_at : (ts : List UnitTexts) (i : ℕ) → 0 < i → AreNext (drop 1 ts) → IfThere IsLineEnd (option_map (λ t. t.space) (slice_get ts i))
+later_at ts zero later next = absurd (omega (arith, later))
+later_at [] (suc i) later next = IfThere.absent
+later_at (t ∷ ts) (suc i) later next = next_at ts i next
 
-space_ends : (v : VersionReading) (index : Option ℕ) → AreUnits v.text v.units → IfThere IsLineEnd (space_before v index)
+space_ends : (v : VersionReading) (index : Option ℕ) → AreUnits v.text v.units → IfThere IsLineEnd (space_at v index)
 space_ends v None are = IfThere.absent
-space_ends v (Some i) are = later_at (version_texts v) i (version_read v are).next
+space_ends v (Some i) are = later_at (version_texts v) (max i 1) (omega arith) (version_read v are).next
 
 -- ---- the parts of a merge
 
@@ -178,7 +174,10 @@ slot_read : (markers : MarkersReading) (vs : Versions) (s : Slot) → HaveUnits 
 slot_read markers vs s have picked = by s.choice picked
   where
     space : IsLineEnd (slot_space vs s)
-    space = or_blank_line (picked_has IsLineEnd (space_before vs.base s.base) (space_ends vs.ours s.ours have.ours) (space_ends vs.theirs s.theirs have.theirs))
+    space =
+        or_blank_line
+        (picked_has IsLineEnd (space_at vs.base s.base) (space_ends vs.ours s.ours have.ours)
+        (space_ends vs.theirs s.theirs have.theirs))
 
     by : (choice : Choice) → IsPicked choice
         → ArePartsRead (part_with (slot_space vs s) (is_text_slot vs s) (slot_text markers vs s choice)) (picked_content vs s choice)

@@ -1,13 +1,12 @@
 -- A merge that picks from each slot what one version has is the text of this version.
 use Rattle.std.proofs.Common.{◌≡◌, inl, inr, ℕ, zero, suc, ◌<◌, ◌^◌, arith, Bool, true, false, cond, List, [], ◌∷◌, ◌++◌, Option, Some, None, length, map, refl, sym, ap, ◌∙◌}
-use Rattle.std.specs.Prelude.{◌==◌, ◌||◌, ◌⊎◌, is_some, option_map, slice_get}
+use Rattle.std.specs.Prelude.{◌==◌, ◌||◌, ◌⊎◌, is_some, max, option_map, slice_get}
 use Rattle.std.specs.List.{AllByRecursion, flat_map, list_any}
-use Rattle.std.proofs.lemmas.Bool.{ne_eqb}
 use Rattle.std.proofs.lemmas.List.{length-map}
 use Rattle.edit_units.specs.Units.{AreUnits, UnitReading, UnitTexts, texts_from}
 use Rattle.edit_versions.proofs.IndexFacts.{names_lead_to_units}
 use Rattle.edit_versions.specs.Versions.{VersionReading, has_unit_named, named_index, own_name, texts_at, unique_names, version_names, version_texts, version_unit}
-use Rattle.edit_merge.specs.Merged.{MarkersReading, MergedPart, is_text_slot, merged_text, part_with, slot_parts, slot_space, slot_text, space_before, text_of_merge}
+use Rattle.edit_merge.specs.Merged.{MarkersReading, MergedPart, is_text_slot, merged_text, part_with, slot_parts, slot_space, slot_text, space_at, text_of_merge}
 use Rattle.edit_merge.specs.Picked.{Versions, order_by, order_choice, slot_of}
 use Rattle.edit_merge.proofs.SideFacts.{AreMadeFor, HasSpaceOf, IsNothing, parts_are_text, parts_made}
 
@@ -48,7 +47,7 @@ parts_of markers vs name = slot_parts markers vs (slot_of vs name)
 pub record IsPickedFrom (markers : MarkersReading) (vs : Versions) (v : VersionReading) (names : List (List ℕ)) : Type 0 where
   pub text : (name : List ℕ) → IsAmong name names
       → slot_text markers vs (slot_of vs name) (slot_of vs name).choice ≡ option_map (λ p. p.text) (texts_at v (named_index v name))
-  pub space : (name space : List ℕ) → space_before v (named_index v name) ≡ Some space → slot_space vs (slot_of vs name) ≡ space
+  pub space : (name space : List ℕ) → space_at v (named_index v name) ≡ Some space → slot_space vs (slot_of vs name) ≡ space
   pub blocks : (name : List ℕ) (u : UnitReading) → version_unit v (named_index v name) ≡ Some u
       → is_text_slot vs (slot_of vs name) ≡ true → (length u.blocks == 0) ≡ true
 
@@ -64,9 +63,10 @@ nothing_picked markers vs v names from = all_among (IsNothing (parts_of markers 
     (from.text name here ∙ ap (λ i. option_map (λ p. p.text) (texts_at v i)) (no_index (named_index v name) absent)))
 
 -- the white space before a unit after the first one
-later_space : (v : VersionReading) (i : ℕ) (t : UnitTexts) → slice_get (version_texts v) i ≡ Some t → 0 < i → space_before v (Some i) ≡ Some t.space
+later_space : (v : VersionReading) (i : ℕ) (t : UnitTexts) → slice_get (version_texts v) i ≡ Some t → 0 < i
+    → space_at v (Some i) ≡ Some t.space
 later_space v i t is later =
-    ap (λ b. cond b None (option_map (λ p. p.space) (slice_get (version_texts v) i))) (ne_eqb i 0 (λ same. omega (arith, same, later)))
+    ap (λ n. option_map (λ p. p.space) (slice_get (version_texts v) n)) (let same : max i 1 ≡ i = omega (arith, later) in same)
     ∙ ap (option_map (λ p. p.space)) is
 
 -- the part of each name of the version is that of its unit
@@ -84,7 +84,7 @@ each_made markers vs v fits from = λ i name u t named unit texts.
       is = record {
         text = refl;
         space = λ later. from.space name t.space
-            (ap (space_before v) index ∙ later_space v i t texts (omega (arith, later)));
+            (ap (space_at v) index ∙ later_space v i t texts (omega (arith, later)));
         blocks = λ is. from.blocks name u (ap (version_unit v) index ∙ unit) is;
       };
     }

@@ -10,7 +10,7 @@ use Rattle.edit_versions.proofs.TextFacts.{text_there}
 use Rattle.edit_versions.specs.Alike.{are_alike_in_layout, are_same_texts, is_alike, is_same}
 use Rattle.edit_versions.specs.Versions.{VersionReading, end_of, has_unit_named, indices_of, named_index, own_part, text_of_unit, texts_at, version_names, version_unit}
 use Rattle.edit_merge.specs.Clean.{IsPicked}
-use Rattle.edit_merge.specs.Merged.{MarkersReading, end_behind, has_no_block, is_same_space, picked_space, slot_text, space_before, start_of}
+use Rattle.edit_merge.specs.Merged.{MarkersReading, end_behind, is_without_blocks, is_same_space, picked_space, slot_text, space_at, start_of}
 use Rattle.edit_merge.specs.Picked.{Versions, are_equal_names, choice_at, choose, group_choice, is_alike_order, is_changed_group, is_changed_name, is_repeated_in, is_same_named, order_by, order_choice, slot_of, woven}
 use Rattle.edit_merge.specs.Unchanged.{IsMerge}
 use Rattle.edit_merge.specs.declared.slots.Slot.{Slot}
@@ -120,7 +120,8 @@ our_choice base side name =
     both_cases (is_repeated_in vs own) (group_choice vs own (named_index side name) (named_index base name))
     (choice_at vs (named_index base name) (named_index side name) (named_index base name)) Ours
     (ap (λ g. choose (not g) (not (is_changed_group side base own)) (is_same base b side o) false) (group_same base own))
-    (ap (λ s. choose s (is_same side o base b) (is_alike base b base b || is_alike base b side o) (is_alike side o base b)) (unit_same base b))
+    (ap (λ s. choose s (is_same side o base b) (is_alike base b base b || is_alike base b side o) (is_alike side o base b))
+    (unit_same base b))
 
 our_order : (base side : VersionReading) → order_choice (theirs_unchanged base side) ≡ Ours
 our_order base side =
@@ -137,17 +138,19 @@ ours_picked markers base side names =
     record {
       text = λ name here. ap (slot_text markers vs (slot_of vs name)) (our_choice base side name);
       space = λ name space is.
-          let other : Option (List ℕ) = space_before base (named_index base name) in
+          let other : Option (List ℕ) = space_at base (named_index base name) in
           ap (λ o. unwrap_or (picked_space other o other) (codes "\n\n")) is ∙ space_of_ours other space (codes "\n\n");
       blocks = λ name u unit is.
-          ap has_no_block (sym unit)
-          ∙ (and_parts (has_no_block (version_unit side (named_index side name))) (has_no_block (version_unit base (named_index base name))) is).0;
+          ap is_without_blocks (sym unit)
+          ∙ (and_parts (is_without_blocks (version_unit side (named_index side name)))
+          (is_without_blocks (version_unit base (named_index base name))) is).0;
     }
 
 our_space : (base side : VersionReading) → HasSpaceOf (theirs_unchanged base side) side
 our_space base side = record {
   start = λ space is. ap (λ o. unwrap_or (picked_space (start_of base) o (start_of base)) []) is ∙ space_of_ours (start_of base) space [];
-  end = λ space is. ap (λ o. unwrap_or (picked_space (end_behind base) o (end_behind base)) []) is ∙ space_of_ours (end_behind base) space [];
+  end = λ space is. ap (λ o. unwrap_or (picked_space (end_behind base) o (end_behind base)) []) is
+      ∙ space_of_ours (end_behind base) space [];
   blank = by (bytes_eq (end_of side) (end_of base)) refl;
 }
   where
@@ -164,7 +167,8 @@ unchanged_theirs_gives_ours markers base side are fits =
           (ap (λ c. flat_map (parts_of markers vs) (order_by vs c)) (our_order base side)
           ∙ woven_parts (parts_of markers vs) side base None (version_names side)
           (nothing_picked markers vs side (version_names base) (ours_picked markers base side (version_names base))));
-      clean = all_picked vs (order_by vs (order_choice vs)) (λ name. picked_by (slot_of vs name).choice Ours (our_choice base side name) tt);
+      clean = all_picked vs (order_by vs (order_choice vs)) (λ name. picked_by (slot_of vs name).choice Ours
+          (our_choice base side name) tt);
       ordered = picked_by (order_choice vs) Ours (our_order base side) tt;
     }
 
@@ -220,7 +224,8 @@ their_choice base side name = by (is_repeated_in vs own) refl
 
     single : choice_at vs (named_index base name) (named_index base name) (named_index side name) ≡ cond (is_same side t base b) Ours Theirs
     single =
-        ap (λ s. choose (is_same side t base b) s (is_alike side t base b || is_alike side t base b) (is_alike base b base b)) (unit_same base b)
+        ap (λ s. choose (is_same side t base b) s (is_alike side t base b || is_alike side t base b) (is_alike base b base b))
+        (unit_same base b)
 
     by : (repeated : Bool) → is_repeated_in vs own ≡ repeated → IsTheirChoice base side name
     by true is = record {
@@ -241,7 +246,8 @@ their_choice base side name = by (is_repeated_in vs own) refl
 -- the text of the slot of a name is that of their unit
 their_text : (markers : MarkersReading) (base side : VersionReading) (name : List ℕ)
     → IsAmong name (version_names side) ⊎ IsAmong name (version_names base)
-    → slot_text markers (ours_unchanged base side) (slot_of (ours_unchanged base side) name) (slot_of (ours_unchanged base side) name).choice
+    → slot_text markers (ours_unchanged base side) (slot_of (ours_unchanged base side) name)
+    (slot_of (ours_unchanged base side) name).choice
     ≡ option_map (λ p. p.text) (texts_at side (named_index side name))
 their_text markers base side name here = ap (slot_text markers vs s) picked.choice ∙ by picked.is_ours (λ ours. picked.same ours here)
   where
@@ -270,11 +276,12 @@ theirs_picked : (markers : MarkersReading) (base side : VersionReading) (names :
 theirs_picked markers base side names sides = record {
   text = λ name here. their_text markers base side name (sides name here);
   space = λ name space is.
-      let other : Option (List ℕ) = space_before base (named_index base name) in
+      let other : Option (List ℕ) = space_at base (named_index base name) in
       ap (λ t. unwrap_or (picked_space other other t) (codes "\n\n")) is ∙ space_of_theirs other space (codes "\n\n");
   blocks = λ name u unit is.
-      ap has_no_block (sym unit)
-      ∙ (and_parts (has_no_block (version_unit base (named_index base name))) (has_no_block (version_unit side (named_index side name))) is).1;
+      ap is_without_blocks (sym unit)
+      ∙ (and_parts (is_without_blocks (version_unit base (named_index base name)))
+      (is_without_blocks (version_unit side (named_index side name))) is).1;
 }
 
 their_space : (base side : VersionReading) → HasSpaceOf (ours_unchanged base side) side
@@ -301,14 +308,19 @@ their_order markers base side = by (are_equal_names (version_names side) (versio
         → flat_map (parts_of markers vs) (order_by vs (order_choice vs)) ≡ flat_map (parts_of markers vs) (version_names side)
     by true is =
         let equal : version_names side ≡ version_names base = same_names (version_names side) (version_names base) is in
-        ap (λ s. flat_map (parts_of markers vs) (order_by vs (choose s (are_equal_names (version_names base) (version_names base)) alike (is_alike_order base base)))) is
+        ap (λ s. flat_map (parts_of markers vs) (order_by vs (choose s (are_equal_names (version_names base) (version_names base)) alike
+        (is_alike_order base base)))) is
         ∙ woven_parts (parts_of markers vs) base side None (version_names base)
-        (subst (λ v. AllByRecursion (IsNothing (parts_of markers vs) (λ name. is_some (get (indices_of v) name))) (version_names side)) equal
-        (nothing_picked markers vs side (version_names side) (theirs_picked markers base side (version_names side) (λ name here. inl here))))
+        (subst (λ v. AllByRecursion (IsNothing (parts_of markers vs) (λ name. is_some (get (indices_of v) name)))
+        (version_names side)) equal
+        (nothing_picked markers vs side (version_names side) (theirs_picked markers base side (version_names side)
+        (λ name here. inl here))))
         ∙ ap (flat_map (parts_of markers vs)) (sym equal)
     by false is =
-        ap (λ s. flat_map (parts_of markers vs) (order_by vs (choose s (are_equal_names (version_names base) (version_names base)) alike (is_alike_order base base)))) is
-        ∙ ap (λ s. flat_map (parts_of markers vs) (order_by vs (choose false s alike (is_alike_order base base)))) (names_same (version_names base))
+        ap (λ s. flat_map (parts_of markers vs) (order_by vs (choose s (are_equal_names (version_names base) (version_names base)) alike
+        (is_alike_order base base)))) is
+        ∙ ap (λ s. flat_map (parts_of markers vs) (order_by vs (choose false s alike (is_alike_order base base))))
+        (names_same (version_names base))
         ∙ woven_parts (parts_of markers vs) side base None (version_names side)
         (nothing_picked markers vs side (version_names base) (theirs_picked markers base side (version_names base) (λ name here. inr here)))
 
@@ -320,7 +332,8 @@ their_order_picked : (base side : VersionReading) → IsPicked (order_choice (ou
 their_order_picked base side =
     let same : Bool = are_equal_names (version_names side) (version_names base) in
     picked_by (order_choice (ours_unchanged base side)) (cond same Ours Theirs)
-    (ap (λ s. choose same s (is_alike_order side base || is_alike_order side base) (is_alike_order base base)) (names_same (version_names base)))
+    (ap (λ s. choose same s (is_alike_order side base || is_alike_order side base) (is_alike_order base base))
+    (names_same (version_names base)))
     (either_picked same)
 
 pub unchanged_ours_gives_theirs : (markers : MarkersReading) (base side : VersionReading) → AreUnits side.text side.units
@@ -399,11 +412,12 @@ equal_picked markers base side names = record {
   text = λ name here.
       either_text markers base side name (slot_of (equal_sides base side) name).choice (equal_choice base side name);
   space = λ name space is.
-      let other : Option (List ℕ) = space_before base (named_index base name) in
+      let other : Option (List ℕ) = space_at base (named_index base name) in
       ap (λ o. unwrap_or (picked_space other o o) (codes "\n\n")) is ∙ space_of_both other space (codes "\n\n");
   blocks = λ name u unit is.
-      ap has_no_block (sym unit)
-      ∙ (and_parts (has_no_block (version_unit side (named_index side name))) (has_no_block (version_unit side (named_index side name))) is).0;
+      ap is_without_blocks (sym unit)
+      ∙ (and_parts (is_without_blocks (version_unit side (named_index side name)))
+      (is_without_blocks (version_unit side (named_index side name))) is).0;
 }
 
 equal_space : (base side : VersionReading) → HasSpaceOf (equal_sides base side) side
@@ -426,7 +440,8 @@ equal_order_choice base side =
     ∙ or_true (is_alike_order side base)))
     (chosen same same (is_alike_order side base))
 
-equal_order : (base side : VersionReading) (choice : Choice) → order_by (equal_sides base side) choice ≡ woven side side None (version_names side)
+equal_order : (base side : VersionReading) (choice : Choice) → order_by (equal_sides base side) choice ≡ woven side side None
+    (version_names side)
 equal_order base side Ours = refl
 equal_order base side Theirs = refl
 equal_order base side Conflict = refl

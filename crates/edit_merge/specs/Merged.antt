@@ -1,6 +1,6 @@
 -- Meaning: words of public contracts.
 -- The text of a merge: the picked units with white space between them. A conflict has the units of both sides between lines of markers.
-use Rattle.std.specs.Prelude.{◌==◌, ◌&&◌, ℕ, Bool, false, true, not, List, [], ◌∷◌, ◌++◌, Option, Some, None, bytes_eq, codes, cond, drop, length, option_map, unwrap_or}
+use Rattle.std.specs.Prelude.{◌==◌, ◌&&◌, ℕ, Bool, false, true, not, List, [], ◌∷◌, ◌++◌, Option, Some, None, bytes_eq, codes, cond, drop, length, max, option_map, unwrap_or}
 use Rattle.std.specs.List.{flat_map, list_any}
 use Rattle.bib_text.specs.Characters as char
 use Rattle.edit_units.specs.Units.{UnitReading, UnitTexts}
@@ -17,26 +17,25 @@ abbrev pub is_same_space : Option (List ℕ) → List ℕ → Bool
 is_same_space None space = false
 is_same_space (Some base) space = bytes_eq space base
 
--- White space of the base, of ours and of theirs, where each version that has some gives it. If both sides have some, it is that of the side
--- that changed it, or ours if both did.
+-- the white space of the side that changed it, or of ours if both did. If only one side has some, it is that one's
 abbrev pub picked_space : Option (List ℕ) → Option (List ℕ) → Option (List ℕ) → Option (List ℕ)
 picked_space b None t = t
 picked_space b (Some o) None = Some o
 picked_space b (Some o) (Some t) = Some (cond (is_same_space b o) t o)
 
--- whether an index, if there is one, is that of the first unit
-abbrev pub is_first : Option ℕ → Bool
-is_first None = false
-is_first (Some i) = i == 0
+-- the index of a unit with another unit before it: this one, or the second one in place of the first
+abbrev pub later_index : Option ℕ → Option ℕ
+later_index None = None
+later_index (Some i) = Some (max i 1)
 
--- the white space between the unit at an index and the unit before it, if there are both
-abbrev pub space_before : VersionReading → Option ℕ → Option (List ℕ)
-space_before v index = cond (is_first index) None (option_map (λ p. p.space) (texts_at v index))
+-- the white space before the unit at an index, or after it if it is the first unit; if there is another unit
+abbrev pub space_at : VersionReading → Option ℕ → Option (List ℕ)
+space_at v index = option_map (λ p. p.space) (texts_at v (later_index index))
 
 -- the white space before the units of a slot: a blank line if no version has some
 abbrev pub slot_space : Versions → Slot → List ℕ
 slot_space vs s =
-    unwrap_or (picked_space (space_before vs.base s.base) (space_before vs.ours s.ours) (space_before vs.theirs s.theirs)) (codes "\n\n")
+    unwrap_or (picked_space (space_at vs.base s.base) (space_at vs.ours s.ours) (space_at vs.theirs s.theirs)) (codes "\n\n")
 
 -- the white space before the first unit of a version, if it has units
 abbrev pub start_of : VersionReading → Option (List ℕ)
@@ -73,13 +72,13 @@ pub record MergedPart : Type 0 where
   pub is_text : Bool
 
 -- whether a unit has no block, or is absent
-abbrev pub has_no_block : Option UnitReading → Bool
-has_no_block None = true
-has_no_block (Some u) = length u.blocks == 0
+abbrev pub is_without_blocks : Option UnitReading → Bool
+is_without_blocks None = true
+is_without_blocks (Some u) = length u.blocks == 0
 
 -- whether the units of a slot have no block
 abbrev pub is_text_slot : Versions → Slot → Bool
-is_text_slot vs s = has_no_block (version_unit vs.ours s.ours) && has_no_block (version_unit vs.theirs s.theirs)
+is_text_slot vs s = is_without_blocks (version_unit vs.ours s.ours) && is_without_blocks (version_unit vs.theirs s.theirs)
 
 -- a text and a line feed, if it is there
 abbrev pub ended_text : Option UnitTexts → List ℕ

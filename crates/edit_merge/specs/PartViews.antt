@@ -7,8 +7,8 @@ use Rattle.edit_merge.specs.Merged.{MergedPart}
 use Rattle.edit_merge.specs.declared.merging.Part.{Part}
 
 -- a text, if it is there
-abbrev pub text_of : Option (Bor (List ℕ)) → Option (List ℕ)
-text_of found = option_map (λ text. text.now) found
+abbrev pub optional_text : Option (Bor (List ℕ)) → Option (List ℕ)
+optional_text found = option_map (λ text. text.now) found
 
 -- a part
 abbrev pub part_view : Part → MergedPart

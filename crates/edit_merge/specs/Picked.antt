@@ -3,7 +3,7 @@
 use Rattle.std.specs.Prelude.{◌&&◌, ◌||◌, ℕ, Bool, true, false, not, List, [], ◌∷◌, ◌++◌, Option, Some, None, bytes_eq, cond, drop, filter, map}
 use Rattle.std.specs.List.{before_first, list_any}
 use Rattle.edit_versions.specs.Alike.{is_alike, is_same}
-use Rattle.edit_versions.specs.Versions.{VersionReading, has_unit_named, is_repeated, named_index, own_part, version_names, version_unit}
+use Rattle.edit_versions.specs.Versions.{VersionReading, has_unit_named, is_repeated_name, named_index, own_part, version_names, version_unit}
 use Rattle.edit_merge.specs.declared.picking.Choice.{Choice}
 use Rattle.edit_merge.specs.declared.slots.Slot.{Slot}
 use Rattle.edit_merge.specs.declared.picking.Choice.TheVariants.{Ours, Theirs, Conflict}
@@ -45,7 +45,7 @@ is_changed_group v w own = list_any (is_changed_name v w own) (version_names v) 
 
 -- whether several units of a version have this own name
 abbrev pub is_repeated_in : Versions → List ℕ → Bool
-is_repeated_in vs own = is_repeated vs.base own || is_repeated vs.ours own || is_repeated vs.theirs own
+is_repeated_in vs own = is_repeated_name vs.base own || is_repeated_name vs.ours own || is_repeated_name vs.theirs own
 
 -- The choice for one of several units with an own name. They are chosen together: if one side changed none of them, those of the other side
 -- count. Otherwise each that differs between the sides is a conflict.
@@ -55,8 +55,8 @@ group_choice vs own ours theirs =
     (is_same vs.theirs (version_unit vs.theirs theirs) vs.ours (version_unit vs.ours ours)) false
 
 -- the choice for the units with a name, which are at these indices
-abbrev pub choice_of : Versions → List ℕ → Option ℕ → Option ℕ → Option ℕ → Choice
-choice_of vs name base ours theirs =
+abbrev pub slot_choice : Versions → List ℕ → Option ℕ → Option ℕ → Option ℕ → Choice
+slot_choice vs name base ours theirs =
     cond (is_repeated_in vs (own_part name)) (group_choice vs (own_part name) ours theirs) (choice_at vs base ours theirs)
 
 -- the place of the units with a name
@@ -65,7 +65,7 @@ slot_of vs name = record {
   base = named_index vs.base name;
   ours = named_index vs.ours name;
   theirs = named_index vs.theirs name;
-  choice = choice_of vs name (named_index vs.base name) (named_index vs.ours name) (named_index vs.theirs name);
+  choice = slot_choice vs name (named_index vs.base name) (named_index vs.ours name) (named_index vs.theirs name);
 }
 
 -- ---- the order

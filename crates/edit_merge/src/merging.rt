@@ -69,8 +69,8 @@ fn conflict_text(
 }
 
 // Returns whether a unit has no block, or is absent.
-fn has_no_block(version: &Version<'_>, index: Option<usize>) -> bool
-    ensures { result ≡ merged.has_no_block (versions.version_unit version.now index) }
+fn is_without_blocks(version: &Version<'_>, index: Option<usize>) -> bool
+    ensures { result ≡ merged.is_without_blocks (versions.version_unit version.now index) }
 {
     match version.unit_at(index) {
         Some(unit) => unit.blocks.is_empty(),
@@ -82,7 +82,7 @@ fn has_no_block(version: &Version<'_>, index: Option<usize>) -> bool
 fn is_text_slot(versions: Versions<'_, '_>, slot: Slot) -> bool
     ensures { result ≡ merged.is_text_slot (versions_of versions.entry) slot }
 {
-    has_no_block(versions.ours, slot.ours) && has_no_block(versions.theirs, slot.theirs)
+    is_without_blocks(versions.ours, slot.ours) && is_without_blocks(versions.theirs, slot.theirs)
 }
 
 // Returns a copy of the text of a unit, if it is there.

@@ -25,7 +25,7 @@ pub struct Slot {
 }
 
 // Returns the choice for the units with a name, which are at these indices.
-fn choice_of(
+fn slot_choice(
     alloc: Global,
     versions: Versions<'_, '_>,
     changes: &Changes,
@@ -35,7 +35,7 @@ fn choice_of(
     theirs: Option<usize>,
 ) -> Result<Choice, AllocError>
     requires { AreChanges (versions_of versions) changes.now }
-    ensures { IfOk result (λ choice. choice ≡ picked.choice_of (versions_of versions.entry) name.now base ours theirs) }
+    ensures { IfOk result (λ choice. choice ≡ picked.slot_choice (versions_of versions.entry) name.now base ours theirs) }
 {
     let own = own_part(name);
     if is_repeated_in(alloc, versions, own)? {
@@ -58,7 +58,7 @@ pub(crate) fn slot_of(
     let base = versions.base.index_of(name);
     let ours = versions.ours.index_of(name);
     let theirs = versions.theirs.index_of(name);
-    let choice = choice_of(alloc, versions, changes, name, base, ours, theirs)?;
+    let choice = slot_choice(alloc, versions, changes, name, base, ours, theirs)?;
     Ok(Slot {
         base,
         ours,

@@ -3,7 +3,7 @@
 ghost use Rattle.std.specs.Prelude.{◌≡◌, ◌++◌, OnOk, drop};
 ghost use Rattle.std.specs.String.{string_bytes};
 ghost use Rattle.edit_merge.specs.Merged as merged;
-ghost use Rattle.edit_merge.specs.PartViews.{text_of};
+ghost use Rattle.edit_merge.specs.PartViews.{optional_text};
 ghost use Rattle.edit_merge.specs.Views.{versions_of};
 
 use crate::picking::Versions;
@@ -13,7 +13,7 @@ use std::alloc::AllocError;
 
 // Returns whether white space is that of the base, if the base has some.
 fn is_same_space(base: Option<&str>, space: &str) -> bool
-    ensures { result ≡ merged.is_same_space (text_of base.entry) space.now }
+    ensures { result ≡ merged.is_same_space (optional_text base.entry) space.now }
 {
     match base {
         Some(base) => space == base,
@@ -27,7 +27,7 @@ fn picked_space<'s>(
     ours: Option<&'s str>,
     theirs: Option<&'s str>,
 ) -> Option<&'s str>
-    ensures { text_of result ≡ merged.picked_space (text_of base.entry) (text_of ours.entry) (text_of theirs.entry) }
+    ensures { optional_text result ≡ merged.picked_space (optional_text base.entry) (optional_text ours.entry) (optional_text theirs.entry) }
 {
     let Some(space) = ours else {
         return theirs;
@@ -39,14 +39,12 @@ fn picked_space<'s>(
     }
 }
 
-// Returns the white space between the unit at an index and the unit before it, if there are both.
-fn space_before<'s>(version: &Version<'s>, index: Option<usize>) -> Option<&'s str>
-    ensures { text_of result ≡ merged.space_before version.now index }
+// Returns the white space before the unit at an index, or after it if it is the first unit; if there is another unit.
+fn space_at<'s>(version: &Version<'s>, index: Option<usize>) -> Option<&'s str>
+    ensures { optional_text result ≡ merged.space_at version.now index }
 {
-    if index == Some(0) {
-        return None;
-    }
-    match version.texts_at(index) {
+    let later = index?.max(1);
+    match version.texts_at(Some(later)) {
         Some(texts) => Some(texts.space),
         None => None,
     }
@@ -56,15 +54,15 @@ fn space_before<'s>(version: &Version<'s>, index: Option<usize>) -> Option<&'s s
 pub(crate) fn slot_space<'s>(versions: Versions<'_, 's>, slot: Slot) -> &'s str
     ensures { result.now ≡ merged.slot_space (versions_of versions.entry) slot }
 {
-    let base = space_before(versions.base, slot.base);
-    let ours = space_before(versions.ours, slot.ours);
-    let theirs = space_before(versions.theirs, slot.theirs);
+    let base = space_at(versions.base, slot.base);
+    let ours = space_at(versions.ours, slot.ours);
+    let theirs = space_at(versions.theirs, slot.theirs);
     picked_space(base, ours, theirs).unwrap_or("\n\n")
 }
 
 // Returns the white space before the first unit, if there are units.
 fn start_of<'s>(version: &Version<'s>) -> Option<&'s str>
-    ensures { text_of result ≡ merged.start_of version.now }
+    ensures { optional_text result ≡ merged.start_of version.now }
 {
     match version.texts_at(Some(0)) {
         Some(texts) => Some(texts.space),
@@ -74,7 +72,7 @@ fn start_of<'s>(version: &Version<'s>) -> Option<&'s str>
 
 // Returns the white space after the last unit, if there are units.
 fn end_behind<'s>(version: &Version<'s>) -> Option<&'s str>
-    ensures { text_of result ≡ merged.end_behind version.now }
+    ensures { optional_text result ≡ merged.end_behind version.now }
 {
     match version.unit_at(Some(0)) {
         Some(_) => Some(version.end()),

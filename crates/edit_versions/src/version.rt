@@ -148,7 +148,7 @@ impl<'s> Version<'s> {
     }
     /// Returns whether several units have this own name (`own_part`). Returns an error only if out of memory.
     pub fn is_repeated(&self, alloc: Global, own: &str) -> Result<bool, AllocError>
-        ensures { IfOk result (λ repeated. repeated ≡ versions.is_repeated self.now own.now) }
+        ensures { IfOk result (λ repeated. repeated ≡ versions.is_repeated_name self.now own.now) }
     {
         let second = with_prefix(alloc, "1 ", own)?;
         Ok(self.index_of(second.as_str()).is_some())

@@ -19,8 +19,10 @@ names-preserved c = λ own.
     let name = c.name-item.result in
     let same : c.is_same.result ≡ is_same_named v w name =
     c.is_same.ensures
-    ∙ ap (λ i. is_same v (version_unit v i) w (version_unit w c.index_of-in-names.result)) (c.index_of.ensures ∙ ap (named_index v) c.as_str-name.ensures)
-    ∙ ap (λ i. is_same v (version_unit v (named_index v name)) w (version_unit w i)) (c.index_of-in-names.ensures ∙ ap (named_index w) c.as_str-name.ensures) in
+    ∙ ap (λ i. is_same v (version_unit v i) w (version_unit w c.index_of-in-names.result))
+    (c.index_of.ensures ∙ ap (named_index v) c.as_str-name.ensures)
+    ∙ ap (λ i. is_same v (version_unit v (named_index v name)) w (version_unit w i))
+    (c.index_of-in-names.ensures ∙ ap (named_index w) c.as_str-name.ensures) in
     elim c.if-not-is_same.branch [
       | then-not-is_same+in_ok-from_str+in_ok-insert r ↦
           let bytes : string_bytes r.in_ok-from_str.field-0 ≡ own_part name =
@@ -32,6 +34,7 @@ names-preserved c = λ own.
           ∙ ap (λ b. cond (bytes_eq b own) true (contains_text c.names.set own)) bytes)
       | else-not-is_same r ↦
           ap (λ s. contains_text s own) r.set-is
-          ∙ same_next v w names index name own (contains_text c.names.set own) (contains_text c.args.set.now own) c.names-test.true c.name-item.is
+          ∙ same_next v w names index name own (contains_text c.names.set own)
+          (contains_text c.args.set.now own) c.names-test.true c.name-item.is
           (sym same ∙ r.if-not-is_same.false) (c.names.invariant own)
     ]
