@@ -1,0 +1,5 @@
+mod ClosingFacts
+mod CountFacts
+mod EditsFacts
+mod NameFacts
+mod VersionFacts
