@@ -1,5 +1,6 @@
 mod ClosingFacts
 mod CountFacts
 mod EditsFacts
+mod MixedFacts
 mod NameFacts
 mod VersionFacts
