@@ -93,19 +93,13 @@ abbrev pub count_to_last : List FieldPick → ℕ
 count_to_last [] = 0
 count_to_last (p ∷ ps) = cond (list_any is_staying (p ∷ ps)) (suc (count_to_last ps)) 0
 
--- the names of conflicting fields among one field of ours, among one of theirs, and among those that only theirs has
-abbrev pub conflict_of : spec.Versions → FieldReading → List (List ℕ)
-conflict_of vs f = map (λ g. g.name.text) (filter (λ g. is_conflict vs g.name.text) (f ∷ []))
+-- the names of those of these fields that conflict
+abbrev pub conflicts_of : spec.Versions → List FieldReading → List (List ℕ)
+conflicts_of vs fields = map (λ f. f.name.text) (filter (λ f. is_conflict vs f.name.text) fields)
 
-abbrev pub other_conflict_of : spec.Versions → FieldReading → List (List ℕ)
-other_conflict_of vs f =
-    map (λ g. g.name.text)
-    (filter (λ g. is_conflict vs g.name.text) (filter (λ g. not (has_named g.name.text vs.ours)) (f ∷ [])))
-
-abbrev pub other_conflicts : spec.Versions → List (List ℕ)
-other_conflicts vs =
-    map (λ g. g.name.text)
-    (filter (λ g. is_conflict vs g.name.text) (filter (λ g. not (has_named g.name.text vs.ours)) vs.theirs.entry.fields))
+-- the names of those of these fields that conflict and that ours lacks
+abbrev pub other_conflicts_of : spec.Versions → List FieldReading → List (List ℕ)
+other_conflicts_of vs fields = conflicts_of vs (filter (λ f. not (has_named f.name.text vs.ours)) fields)
 
 -- ---- edits
 

@@ -1,9 +1,9 @@
 //! Which side a merge chooses.
 
-ghost use Rattle.std.specs.Prelude.{◌≡◌, ◌++◌, IfOk, OnOk};
+ghost use Rattle.std.specs.Prelude.{◌≡◌, ◌++◌, ◌∷◌, [], IfOk, OnOk, map};
 ghost use Rattle.bib_syntax.specs.Views.{field_of};
 ghost use Rattle.edit_entry_merge.specs.Choices as spec;
-ghost use Rattle.edit_entry_merge.specs.Working.{AreIndexed, conflict_of, lent_field, other_conflict_of, other_conflicts, versions_reading};
+ghost use Rattle.edit_entry_merge.specs.Working.{AreIndexed, conflicts_of, lent_field, other_conflicts_of, versions_reading};
 
 use crate::versions::Versions;
 use bib_queries::equal_values::are_equal_pieces;
@@ -116,7 +116,7 @@ impl<'a, 's> Versions<'a, 's> {
     ) -> Result<(), AllocError>
         requires { AreIndexed self.now }
         ensures { OnOk result (names.new.items ≡ names.old.items
-            ++ conflict_of (versions_reading self.now) (field_of field.now)) }
+            ++ conflicts_of (versions_reading self.now) (field_of field.now ∷ [])) }
     {
         if self.choice(alloc, field.key.v)?.is_none() {
             names.push(Text::from_str(alloc, field.key.v)?)?;
@@ -124,7 +124,7 @@ impl<'a, 's> Versions<'a, 's> {
         Ok(())
     }
 
-    // Appends the name of a field of theirs that ours lacks, if it conflicts.
+    // Appends the name of a field that ours lacks, if it conflicts.
     fn push_other_conflict(
         &self,
         names: &mut Vec<Text>,
@@ -133,7 +133,7 @@ impl<'a, 's> Versions<'a, 's> {
     ) -> Result<(), AllocError>
         requires { AreIndexed self.now }
         ensures { OnOk result (names.new.items ≡ names.old.items
-            ++ other_conflict_of (versions_reading self.now) (field_of field.now)) }
+            ++ other_conflicts_of (versions_reading self.now) (field_of field.now ∷ [])) }
     {
         if self.ours.field(alloc, field.key.v)?.is_none() {
             self.push_conflict(names, alloc, field)?;
@@ -141,16 +141,34 @@ impl<'a, 's> Versions<'a, 's> {
         Ok(())
     }
 
-    // Appends the names of the fields of theirs that ours lacks and that conflict.
+    // Appends the names of those of these fields that conflict.
+    fn push_conflicts(
+        &self,
+        names: &mut Vec<Text>,
+        alloc: Global,
+        fields: &[Pair<'_>],
+    ) -> Result<(), AllocError>
+        requires { AreIndexed self.now }
+        ensures { OnOk result (names.new.items ≡ names.old.items ++ conflicts_of (versions_reading self.now) (map field_of fields.now)) }
+    {
+        'fields: for field in fields {
+            self.push_conflict(names, alloc, field)?;
+        }
+        Ok(())
+    }
+
+    // Appends the names of those of these fields that conflict and that ours lacks.
     fn push_other_conflicts(
         &self,
         names: &mut Vec<Text>,
         alloc: Global,
+        fields: &[Pair<'_>],
     ) -> Result<(), AllocError>
         requires { AreIndexed self.now }
-        ensures { OnOk result (names.new.items ≡ names.old.items ++ other_conflicts (versions_reading self.now)) }
+        ensures { OnOk result (names.new.items ≡ names.old.items
+            ++ other_conflicts_of (versions_reading self.now) (map field_of fields.now)) }
     {
-        'fields: for field in &self.theirs.entry.v.fields {
+        'fields: for field in fields {
             self.push_other_conflict(names, alloc, field)?;
         }
         Ok(())
@@ -162,10 +180,8 @@ impl<'a, 's> Versions<'a, 's> {
         ensures { IfOk result (λ names. names.items ≡ spec.conflicts (versions_reading self.now)) }
     {
         let mut names = Vec::new(alloc);
-        'fields: for field in &self.ours.entry.v.fields {
-            self.push_conflict(&mut names, alloc, field)?;
-        }
-        self.push_other_conflicts(&mut names, alloc)?;
+        self.push_conflicts(&mut names, alloc, &self.ours.entry.v.fields)?;
+        self.push_other_conflicts(&mut names, alloc, &self.theirs.entry.v.fields)?;
         Ok(names)
     }
 }

@@ -71,8 +71,8 @@ fn push_last(
         (spec.last_changes texts.entry.main.now texts.entry.other.now (map field_of texts.entry.fields.now) f (pick_of pick.entry)
         following (added_fields added.now))) }
 {
-    if let [field] = fields && added.is_empty() {
-        return push_own(edits, alloc, texts, field, &[], pick);
+    if fields.len() == 1 && added.is_empty() {
+        return push_own(edits, alloc, texts, &fields[0], &[], pick);
     }
     push_closing(edits, alloc, texts, fields, pick, added)
 }
@@ -135,16 +135,17 @@ impl<'a, 's> Versions<'a, 's> {
         ensures { IfOk result (λ text. option_map string_bytes text ≡ merges.text_for (versions_reading self.now) main prefer) }
     {
         let version = self.at(main);
+        let other = self.at(main.other());
         let fields = version.entry.v.fields.as_slice();
         let picks = self.picks(alloc, main, prefer, fields)?;
-        let added = self.additions(alloc, main, prefer)?;
+        let added = self.additions(alloc, main, prefer, &other.entry.v.fields)?;
         if !can_write(alloc, version, &picks, &added)? {
             return Ok(None);
         }
         let texts = Texts {
             main: version.text,
             fields,
-            other: self.at(main.other()).text,
+            other: other.text,
         };
         let edits = entry_edits(alloc, texts, &picks, &added)?;
         Ok(Some(edited_all(alloc, version.text, &edits)?))

@@ -69,7 +69,7 @@ pub fn merge_entry(
         return Ok(EntryMerge::Whole);
     };
     let names = versions.conflicts(alloc)?;
-    if names.is_empty() {
+    if names.as_slice().is_empty() {
         return Ok(EntryMerge::Merged(our_text));
     }
     let Some(their_text) = versions.text_for(alloc, main, Side::Theirs)? else {

@@ -133,21 +133,20 @@ impl<'a, 's> Versions<'a, 's> {
         Ok(())
     }
 
-    // Returns the fields of the side other than `main` that are added, if conflicts are resolved to `prefer`.
+    // Returns those of these fields of the side other than `main` that are added, if conflicts are resolved to `prefer`.
     pub(crate) fn additions(
         &self,
         alloc: Global,
         main: Side,
         prefer: Side,
+        fields: &'a [Pair<'s>],
     ) -> Result<Vec<Addition<'a, 's>>, AllocError>
         requires { AreIndexed self.now }
         ensures { IfOk result (λ added. added_fields added.items
-            ≡ spec.additions (choices.takes_other (versions_reading self.now) main prefer)
-            (choices.version_at (versions_reading self.now) main)
-            (choices.version_at (versions_reading self.now) (choices.other_side main))) }
+            ≡ filter (spec.is_added (choices.takes_other (versions_reading self.now) main prefer)
+            (choices.version_at (versions_reading self.now) main)) (map field_of fields.now)) }
     {
         let mut added = Vec::new(alloc);
-        let fields = &self.at(main.other()).entry.v.fields;
         'fields: for field in fields {
             self.push_addition(&mut added, alloc, main, prefer, field)?;
         }
