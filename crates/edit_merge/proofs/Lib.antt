@@ -1,4 +1,5 @@
 pub mod CleanFacts
+pub mod EntryFacts
 pub mod GroupFacts
 pub mod OrderFacts
 pub mod PickedFacts

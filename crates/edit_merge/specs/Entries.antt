@@ -1,7 +1,7 @@
 -- Meaning: words of public contracts.
 -- Entries that both sides changed are merged by their fields, before the units of both sides are merged. Each side gets a text in which
 -- such an entry is the merged one. If fields conflict, it has the values of this side for them.
-use Rattle.std.specs.Prelude.{◌≡◌, ◌&&◌, not, ℕ, Bool, true, false, List, [], ◌∷◌, ◌++◌, Option, Some, None, if◌then◌else◌, option_map, zip, ⊤}
+use Rattle.std.specs.Prelude.{◌≡◌, ◌&&◌, not, ℕ, Bool, true, false, List, [], ◌∷◌, ◌++◌, Option, Some, None, option_map, zip, ⊤}
 use Rattle.edit_entries.specs.Documents.{Document, IsDocument}
 use Rattle.edit_entry_merge.specs.Merges.{MergeReading, entry_merge}
 use Rattle.edit_merge.specs.Picked.{Versions, is_repeated_in, slot_of}
@@ -42,11 +42,14 @@ IsMergeOf base (Some o) (Some t) m =
 abbrev pub may_merge : Versions → List ℕ → Slot → Bool
 may_merge vs name s = is_conflict s.choice && not (is_repeated_in vs (own_part name))
 
+-- the merge by fields at a place, if the units there may be merged so; otherwise there is none
+abbrev pub IsMergeIf : Bool → Versions → Slot → MergeReading → Type 0
+IsMergeIf true vs s m = IsMergeOf (bytes_at vs.base s.base) (bytes_at vs.ours s.ours) (bytes_at vs.theirs s.theirs) m
+IsMergeIf false vs s m = m ≡ MergeReading.whole
+
 -- the merge by fields at a place, for the units with a name
 abbrev pub IsSlotMerge : Versions → List ℕ → Slot → MergeReading → Type 0
-IsSlotMerge vs name s m =
-    if may_merge vs name s then IsMergeOf (bytes_at vs.base s.base) (bytes_at vs.ours s.ours) (bytes_at vs.theirs s.theirs) m
-    else (m ≡ MergeReading.whole)
+IsSlotMerge vs name s m = IsMergeIf (may_merge vs name s) vs s m
 
 -- the text of a unit after the merge by fields, on a side on which it has the text `own`
 abbrev pub text_on : Side → MergeReading → List ℕ → List ℕ
@@ -58,7 +61,7 @@ text_on Theirs (MergeReading.fields ours theirs names) own = theirs
 -- a text has these units of a side, with their names, after the merge by fields
 pub data HasMergedUnits (side : Side) (vs : Versions) : List (List ℕ × UnitTexts) → List ℕ → Type 0 where
   none : HasMergedUnits side vs [] []
-  some : {name : List ℕ} {u : UnitTexts} {m : MergeReading} {rest : List (List ℕ × UnitTexts)} {text : List ℕ}
+  some : {name : List ℕ} {u : UnitTexts} (m : MergeReading) {rest : List (List ℕ × UnitTexts)} {text : List ℕ}
       → IsSlotMerge vs name (slot_of vs name) m → HasMergedUnits side vs rest text
       → HasMergedUnits side vs ((name, u) ∷ rest) (u.space ++ (text_on side m u.text ++ text))
 

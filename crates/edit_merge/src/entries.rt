@@ -69,8 +69,8 @@ fn merge_units(
     versions: Versions<'_, '_>,
     slot: Slot,
 ) -> Result<EntryMerge, AllocError>
-    ensures { IfOk result (λ m. IsMergeOf (spec.bytes_at versions.base.now slot.base) (spec.bytes_at versions.ours.now slot.ours)
-        (spec.bytes_at versions.theirs.now slot.theirs) (merge_of m)) }
+    ensures { IfOk result (λ m. IsMergeOf (spec.bytes_at (versions_of versions.entry).base slot.base) (spec.bytes_at (versions_of versions.entry).ours slot.ours)
+        (spec.bytes_at (versions_of versions.entry).theirs slot.theirs) (merge_of m)) }
 {
     let Some(ours) = versions.ours.text_at(slot.ours) else {
         return Ok(EntryMerge::Whole);
@@ -108,7 +108,7 @@ fn push_unit(
     unit: UnitText<'_>,
 ) -> Result<(), AllocError>
     ensures { OnOk result (string_bytes text.new
-        ≡ string_bytes text.old ++ (unit.space.now ++ text_on side (merge_of merge.entry) unit.text.now)) }
+        ≡ string_bytes text.old ++ (unit.entry.space.now ++ text_on side (merge_of merge) unit.entry.text.now)) }
 {
     text.push_str(unit.space)?;
     match merge {
