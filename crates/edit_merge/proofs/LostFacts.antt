@@ -79,7 +79,8 @@ our_change_kept vs name is = by (is_repeated_in vs (own_part name)) is
         (choice_at vs (named_index vs.base name) (named_index vs.ours name) (named_index vs.theirs name))
         ≡ Theirs → is_alike_named vs.ours vs.base name ≡ true
     by true picked =
-        elim (theirs_because (not (is_changed_group vs.theirs vs.base (own_part name))) (not (is_changed_group vs.ours vs.base (own_part name)))
+        elim (theirs_because (not (is_changed_group vs.theirs vs.base (own_part name)))
+        (not (is_changed_group vs.ours vs.base (own_part name)))
         (is_same vs.theirs t vs.ours o) false picked) [
           | inl same ↦ group_alike vs.ours vs.base name same
           | inr alike ↦ absurd (cc)
@@ -109,7 +110,8 @@ their_change_kept vs name is = by (is_repeated_in vs (own_part name)) is
         (choice_at vs (named_index vs.base name) (named_index vs.ours name) (named_index vs.theirs name))
         ≡ Ours → (is_alike_named vs.theirs vs.base name ≡ true) ⊎ (is_alike_named vs.theirs vs.ours name ≡ true)
     by true picked =
-        elim (ours_because (not (is_changed_group vs.theirs vs.base (own_part name))) (not (is_changed_group vs.ours vs.base (own_part name)))
+        elim (ours_because (not (is_changed_group vs.theirs vs.base (own_part name)))
+        (not (is_changed_group vs.ours vs.base (own_part name)))
         (is_same vs.theirs t vs.ours o) false picked) [
           | inl same ↦ inl (group_alike vs.theirs vs.base name same)
           | inr alike ↦ inr (same_alike vs.theirs t vs.ours o alike)
