@@ -1,7 +1,9 @@
 pub mod CleanFacts
 pub mod EntryFacts
 pub mod GroupFacts
+pub mod LostFacts
 pub mod OrderFacts
 pub mod PickedFacts
 pub mod SideFacts
 pub mod UnchangedFacts
+pub mod WovenFacts

@@ -1,21 +1,16 @@
 -- A merge that picks from each slot what one version has is the text of this version.
-use Rattle.std.proofs.Common.{◌≡◌, inl, inr, ℕ, zero, suc, ◌<◌, ◌^◌, arith, Bool, true, false, cond, List, [], ◌∷◌, ◌++◌, Option, Some, None, length, map, refl, sym, ap, ◌∙◌}
-use Rattle.std.specs.Prelude.{◌==◌, ◌||◌, ◌⊎◌, is_some, max, option_map, slice_get}
+use Rattle.std.proofs.Common.{◌≡◌, inl, inr, ℕ, zero, suc, ◌<◌, ◌^◌, arith, Bool, true, false, List, [], ◌∷◌, ◌++◌, Option, Some, None, length, map, refl, sym, ap, ◌∙◌}
+use Rattle.std.specs.Prelude.{◌==◌, ◌||◌, is_some, max, option_map, slice_get}
 use Rattle.std.specs.List.{AllByRecursion, flat_map, list_any}
 use Rattle.std.proofs.lemmas.List.{length-map}
 use Rattle.edit_units.specs.Units.{AreUnits, UnitReading, UnitTexts, texts_from}
-use Rattle.edit_versions.proofs.IndexFacts.{names_lead_to_units}
+use Rattle.edit_versions.proofs.IndexFacts.{IsAmong, names_lead_to_units}
 use Rattle.edit_versions.specs.Versions.{VersionReading, has_unit_named, named_index, own_name, texts_at, unique_names, version_names, version_texts, version_unit}
 use Rattle.edit_merge.specs.Merged.{MarkersReading, MergedPart, is_text_slot, merged_text, part_with, slot_parts, slot_space, slot_text, space_at, text_of_merge}
 use Rattle.edit_merge.specs.Picked.{Versions, order_by, order_choice, slot_of}
 use Rattle.edit_merge.proofs.SideFacts.{AreMadeFor, HasSpaceOf, IsNothing, parts_are_text, parts_made}
 
 -- ---- lists of names
-
--- a name is one of these
-abbrev pub IsAmong : List ℕ → List (List ℕ) → Type 0
-IsAmong name [] = ⊥
-IsAmong name (n ∷ ns) = (name ≡ n) ⊎ IsAmong name ns
 
 among_at : (names : List (List ℕ)) (i : ℕ) (name : List ℕ) → slice_get names i ≡ Some name → IsAmong name names
 among_at [] i name is = absurd (cc)

@@ -6,6 +6,7 @@ use Rattle.std.specs.List.{AllByRecursion, flat_map, list_any}
 use Rattle.std.proofs.lemmas.Bool.{and_parts}
 use Rattle.std.proofs.lemmas.Slice.Eq.{bytes_eq-Decides}
 use Rattle.edit_units.specs.Units.{AreUnits, UnitReading}
+use Rattle.edit_versions.proofs.IndexFacts.{IsAmong}
 use Rattle.edit_versions.proofs.TextFacts.{text_there}
 use Rattle.edit_versions.specs.Alike.{are_alike_in_layout, are_same_texts, is_alike, is_same}
 use Rattle.edit_versions.specs.Versions.{VersionReading, end_of, has_unit_named, indices_of, named_index, own_part, text_of_unit, texts_at, version_names, version_unit}
@@ -16,7 +17,7 @@ use Rattle.edit_merge.specs.Unchanged.{IsMerge}
 use Rattle.edit_merge.specs.declared.slots.Slot.{Slot}
 use Rattle.edit_merge.specs.declared.picking.Choice.{Choice}
 use Rattle.edit_merge.specs.declared.picking.Choice.TheVariants.{Ours, Theirs, Conflict}
-use Rattle.edit_merge.proofs.PickedFacts.{IsAmong, IsPickedFrom, neither, none_among, nothing_picked, parts_of, picked_text}
+use Rattle.edit_merge.proofs.PickedFacts.{IsPickedFrom, neither, none_among, nothing_picked, parts_of, picked_text}
 use Rattle.edit_merge.proofs.SideFacts.{HasSpaceOf, IsNothing, woven_parts}
 
 -- ---- equal things
@@ -192,7 +193,7 @@ not_true true is = refl
 not_true false is = absurd (cc)
 
 -- if the units with the own name of a name are unchanged, so is the unit with the name
-named_same : (side base : VersionReading) (name : List ℕ) → is_changed_group side base (own_part name) ≡ false
+pub named_same : (side base : VersionReading) (name : List ℕ) → is_changed_group side base (own_part name) ≡ false
     → IsAmong name (version_names side) ⊎ IsAmong name (version_names base) → is_same_named side base name ≡ true
 named_same side base name none here =
     let test : List ℕ → Bool = is_changed_name side base (own_part name) in

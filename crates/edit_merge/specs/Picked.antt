@@ -35,6 +35,10 @@ choice_at vs base ours theirs =
 abbrev pub is_same_named : VersionReading → VersionReading → List ℕ → Bool
 is_same_named v w name = is_same v (version_unit v (named_index v name)) w (version_unit w (named_index w name))
 
+-- whether the units of two versions with a name are alike, or both have none
+abbrev pub is_alike_named : VersionReading → VersionReading → List ℕ → Bool
+is_alike_named v w name = is_alike v (version_unit v (named_index v name)) w (version_unit w (named_index w name))
+
 -- whether a name has this own name, and two versions have different units with the name
 abbrev pub is_changed_name : VersionReading → VersionReading → List ℕ → List ℕ → Bool
 is_changed_name v w own name = bytes_eq (own_part name) own && not (is_same_named v w name)
@@ -121,6 +125,10 @@ order_by vs Ours = woven vs.ours vs.theirs None (version_names vs.ours)
 order_by vs Theirs = woven vs.theirs vs.ours None (version_names vs.theirs)
 order_by vs Conflict = woven vs.ours vs.theirs None (version_names vs.ours)
 
+-- the names of all units of both sides, in the order of the merge
+abbrev pub merged_names : Versions → List (List ℕ)
+merged_names vs = order_by vs (order_choice vs)
+
 -- the places of all units of both sides, in the order of the merge
 abbrev pub slots : Versions → List Slot
-slots vs = map (slot_of vs) (order_by vs (order_choice vs))
+slots vs = map (slot_of vs) (merged_names vs)

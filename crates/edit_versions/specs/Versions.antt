@@ -31,8 +31,8 @@ abbrev pub up_to_colon : List ℕ → List ℕ
 up_to_colon text = cond (list_any is_colon text) (take (length text - suffix_len (λ b. not (is_colon b)) text) text) text
 
 -- the words of a text, each with a space after it. Words are separated by ASCII white space
-abbrev pub spaced_words : List ℕ → List ℕ
-spaced_words text = encode_utf8_all (with_single_spaces true (chars text ++ char.space ∷ []))
+abbrev pub words_with_spaces : List ℕ → List ℕ
+words_with_spaces text = encode_utf8_all (with_single_spaces true (chars text ++ char.space ∷ []))
 
 -- the bytes of a block
 abbrev pub text_of_block : List ℕ → Range ℕ → List ℕ
@@ -41,8 +41,8 @@ text_of_block text block = between (place text block.start) (place text block.en
 -- the name of a unit without entries, definitions and preambles: the words of the first line of its first block up to the last colon there,
 -- as `@comment{jabref-meta: grouping:`. Without blocks, the words of its text
 abbrev pub name_by_blocks : List ℕ → UnitReading → List (Range ℕ) → List ℕ
-name_by_blocks text u [] = codes "text " ++ spaced_words (text_of_unit text u)
-name_by_blocks text u (block ∷ blocks) = codes "comment " ++ spaced_words (up_to_colon (first_line (text_of_block text block)))
+name_by_blocks text u [] = codes "text " ++ words_with_spaces (text_of_unit text u)
+name_by_blocks text u (block ∷ blocks) = codes "comment " ++ words_with_spaces (up_to_colon (first_line (text_of_block text block)))
 
 -- the name of a unit without entries and definitions: `preamble` if it has a preamble
 abbrev pub name_by_preamble : List ℕ → UnitReading → List ℕ → List ℕ

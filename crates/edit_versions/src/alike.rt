@@ -112,7 +112,35 @@ fn single_entry<'a, 's>(unit: &'a Unit<'s>) -> Option<&'a Spanned<RawEntry<'s>>>
     }
 }
 
-// Returns whether the texts before and after two entries of units are equal.
+// Returns bytes without the ASCII white space at their start.
+fn without_start_space(bytes: &[u8]) -> &[u8]
+    ensures { result.now ≡ spec.without_start_space bytes.now }
+{
+    bytes.trim_ascii_start()
+}
+
+// Returns bytes without the ASCII white space at their end.
+fn without_end_space(bytes: &[u8]) -> &[u8]
+    ensures { result.now ≡ spec.without_end_space bytes.now }
+{
+    bytes.trim_ascii_end()
+}
+
+// Returns the bytes of a unit before its entry, without white space at their start.
+fn before_entry<'t>(text: &'t [u8], unit: &Unit<'_>, entry: &Spanned<RawEntry<'_>>) -> &'t [u8]
+    ensures { result.now ≡ spec.before_entry text.now (unit_reading_of unit.now) (entry_reading_of entry.now) }
+{
+    without_start_space(bytes_between(text, unit.span.start, entry.span.start))
+}
+
+// Returns the bytes of a unit after its entry, from the closing brace on, without white space at their end.
+fn behind_entry<'t>(text: &'t [u8], unit: &Unit<'_>, entry: &Spanned<RawEntry<'_>>) -> &'t [u8]
+    ensures { result.now ≡ spec.behind_entry text.now (unit_reading_of unit.now) (entry_reading_of entry.now) }
+{
+    without_end_space(bytes_between(text, entry.span.end, unit.span.end))
+}
+
+// Returns whether the texts before and after two entries of units are equal, except for white space around them.
 fn are_equal_around(
     text: &[u8],
     unit: &Unit<'_>,
@@ -126,14 +154,12 @@ fn are_equal_around(
         && bytes_eq (spec.behind_entry text.now (unit_reading_of unit.now) (entry_reading_of entry.now))
         (spec.behind_entry other.now (unit_reading_of second.now) (entry_reading_of found.now))) }
 {
-    bytes_between(text, unit.span.start, entry.span.start)
-        == bytes_between(other, second.span.start, found.span.start)
-        && bytes_between(text, entry.span.end, unit.span.end)
-            == bytes_between(other, found.span.end, second.span.end)
+    before_entry(text, unit, entry) == before_entry(other, second, found)
+        && behind_entry(text, unit, entry) == behind_entry(other, second, found)
 }
 
 // Returns whether two units with these entries are alike: the types are equal, in any ASCII case, the fields are alike, the text before and
-// after the entries is equal, and the rest is equal except for white space and commas.
+// after the entries is equal except for white space around it, and the rest is equal except for white space and commas.
 fn are_alike_entries(
     alloc: Global,
     text: &[u8],

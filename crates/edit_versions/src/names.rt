@@ -53,8 +53,8 @@ fn up_to_colon(text: &str) -> &str
 }
 
 // Returns the words of a text, each with a space after it. Words are separated by ASCII white space.
-fn spaced_words(alloc: Global, text: &str) -> Result<Text, AllocError>
-    ensures { IfOk result (λ words. words ≡ spec.spaced_words text.now) }
+fn words_with_spaces(alloc: Global, text: &str) -> Result<Text, AllocError>
+    ensures { IfOk result (λ words. words ≡ spec.words_with_spaces text.now) }
 {
     let mut words = Text::new(alloc);
     let mut is_after = true;
@@ -81,14 +81,14 @@ fn name_by_blocks(alloc: Global, text: &str, unit: &Unit<'_>) -> Result<Text, Al
 {
     match unit.blocks.first() {
         Some(block) => {
-            let words = spaced_words(
+            let words = words_with_spaces(
                 alloc,
                 up_to_colon(first_line(&text[block.start..block.end])),
             )?;
             with_prefix(alloc, "comment ", words.as_str())
         }
         None => {
-            let words = spaced_words(alloc, &text[unit.span.start..unit.span.end])?;
+            let words = words_with_spaces(alloc, &text[unit.span.start..unit.span.end])?;
             with_prefix(alloc, "text ", words.as_str())
         }
     }

@@ -30,7 +30,8 @@ names-preserved c = λ own.
           ap (λ s. contains_text s own) r.set-is
           ∙ changed_next v w names index name own (contains_text c.names.set own) (contains_text r.insert.new.self own)
           (contains_text c.args.set.now own) c.names-test.true c.name-item.is (sym same ∙ r.if-not-is_same.true) (c.names.invariant own)
-          (btree_set_updates_text (string_bytes r.in_ok-from_str.field-0) c.names.set r.insert.new.self true r.in_ok-insert.ensures.updates own
+          (btree_set_updates_text (string_bytes r.in_ok-from_str.field-0) c.names.set r.insert.new.self true
+          r.in_ok-insert.ensures.updates own
           ∙ ap (λ b. cond (bytes_eq b own) true (contains_text c.names.set own)) bytes)
       | else-not-is_same r ↦
           ap (λ s. contains_text s own) r.set-is
