@@ -1,7 +1,10 @@
 mod ClosingFacts
+mod CopiedFacts
+mod CopyFacts
 mod CountFacts
 mod EditsFacts
 mod MergeFacts
 mod MixedFacts
 mod NameFacts
+mod ReadFacts
 mod VersionFacts

@@ -12,7 +12,7 @@ pub mod choices;
 mod closing;
 mod edits;
 mod frames;
-
+pub mod laws;
 pub mod merging;
 mod picks;
 mod values;
