@@ -3,6 +3,7 @@ mod CopiedFacts
 mod CopyFacts
 mod CountFacts
 mod EditsFacts
+mod LineFacts
 mod MergeFacts
 mod MixedFacts
 mod NameFacts

@@ -10,6 +10,7 @@
 
 pub mod choices;
 mod closing;
+pub mod conflict_text;
 mod edits;
 mod frames;
 pub mod laws;
