@@ -1,7 +1,11 @@
 mod ClosingFacts
+mod CopiedFacts
+mod CopyFacts
 mod CountFacts
 mod EditsFacts
+mod LineFacts
 mod MergeFacts
 mod MixedFacts
 mod NameFacts
+mod ReadFacts
 mod VersionFacts

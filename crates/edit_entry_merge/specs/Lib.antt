@@ -1,5 +1,7 @@
 pub mod Choices
+pub mod ConflictTexts
 pub mod Frames
+pub mod Lines
 pub mod Merges
 pub mod Mixed
 pub mod Picks

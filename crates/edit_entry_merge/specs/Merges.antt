@@ -1,6 +1,6 @@
 -- Meaning: words of public contracts.
 -- The merge of three versions of an entry by its fields.
-use Rattle.std.specs.Prelude.{ℕ, List, [], ◌∷◌, Option, Some, None, option_map}
+use Rattle.std.specs.Prelude.{ℕ, Bool, List, [], ◌∷◌, Option, Some, None, option_map}
 use Rattle.std.specs.String.{string_bytes}
 use Rattle.bib_syntax.specs.Reading.{EntryReading, FileReading}
 use Rattle.edit_entries.specs.Changes.{IsReadPlaceless}
@@ -19,6 +19,11 @@ pub data MergeReading : Type 0 where
   whole : MergeReading
   merged : List ℕ → MergeReading
   fields : List ℕ → List ℕ → List (List ℕ) → MergeReading
+
+-- the reading of a file whose only entry is that of the main version, with the merged fields
+abbrev pub merged_reading : FileReading → (List ℕ → Bool) → Version → Version → FileReading
+merged_reading says takes main other =
+    record says { entries = (record main.entry { fields = merged_fields takes main other }) ∷ [] }
 
 -- the text of the side `main` with the fields that count, if conflicts are resolved to `prefer`
 abbrev pub text_for : Versions → Side → Side → Option (List ℕ)

@@ -3,11 +3,10 @@
 use Rattle.std.specs.Prelude.{◌==◌, ◌&&◌, ◌||◌, not, ℕ, Bool, true, false, cond, length, List, [], ◌∷◌, ◌++◌, Option, Some, None, bytes_eq, codes, map}
 use Rattle.std.specs.Char.{is_ascii_whitespace}
 use Rattle.std.specs.List.{list_all, list_any}
-use Rattle.std.specs.Str.{trim_end}
 use Rattle.bib_text.specs.Characters as char
+use Rattle.bib_text.specs.Places.{between, place}
 use Rattle.bib_syntax.specs.Reading.{FieldReading}
-use Rattle.edit_entries.specs.Changes.{EntryChange, FieldChange, NewField, NewValue, edits_of_entry}
-use Rattle.edit_entries.specs.Documents.{value_stretch}
+use Rattle.edit_entries.specs.Changes.{EntryChange, FieldChange, NewField, NewValue, edits_of_entry, value_end}
 use Rattle.edit_entries.specs.Edits.{edited_all}
 use Rattle.edit_entries.specs.Layouts.{after_equals, before_equals, sign_at}
 use Rattle.edit_entries.specs.Setting.{white_before}
@@ -19,7 +18,8 @@ use Rattle.edit_entry_merge.specs.Versions.{Version}
 
 -- the value of a field of a text as a new value: the same bytes, without the white space after them
 abbrev pub copied : List ℕ → FieldReading → NewValue
-copied text f = record { bytes = trim_end (value_stretch text f); pieces = f.value.pieces }
+copied text f =
+    record { bytes = between (place text f.value.start) (place text (value_end text f)); pieces = f.value.pieces }
 
 -- a field of a text as a new field
 abbrev pub copied_field : List ℕ → FieldReading → NewField

@@ -10,9 +10,10 @@
 
 pub mod choices;
 mod closing;
+pub mod conflict_text;
 mod edits;
 mod frames;
-
+pub mod laws;
 pub mod merging;
 mod picks;
 mod values;

@@ -11,6 +11,7 @@ ghost use Rattle.edit_entry_merge.specs.Mixed as spec;
 
 use bib_syntax::raw::Pair;
 use edit_entries::layout::sign_at;
+use edit_entries::values::value_end;
 use std::alloc::{AllocError, Global};
 
 // Returns the value of a field as it is written, without the white space after it.
@@ -18,7 +19,7 @@ pub(crate) fn value_text<'s>(text: &'s str, field: &Pair<'_>) -> &'s str
     requires { IsPlaced text.now (field_of field.now) }
     ensures { result.now ≡ (spec.copied text.now (field_of field.now)).bytes }
 {
-    text[field.value.span.start..field.value.span.end].trim_end()
+    &text[field.value.span.start..value_end(text, field)]
 }
 
 // Returns whether a text is ASCII white space.
