@@ -5,8 +5,8 @@
 //! layout.
 #![tactic(auto)]
 
-mod alike;
+pub mod alike;
 pub mod comparison;
 pub mod laws;
-mod names;
+pub mod names;
 pub mod version;

@@ -59,8 +59,8 @@ fn own_name(alloc: Global, text: &str, unit: &Unit<'_>) -> Result<Text, AllocErr
     name_by_blocks(alloc, &unit.blocks, unit_text)
 }
 
-// Returns an own name after the number of earlier units that have it.
-fn with_number(alloc: Global, number: usize, own: &Text) -> Result<Text, AllocError>
+/// Returns an own name after the number of earlier units that have it. Returns an error only if out of memory.
+pub fn with_number(alloc: Global, number: usize, own: &Text) -> Result<Text, AllocError>
     ensures { IfOk result (λ name. name ≡ decimal number ++ (codes " " ++ own.now)) }
 {
     let name = format!(in alloc; "{number} {}", own.as_str())?;
@@ -88,7 +88,7 @@ pub(crate) fn unit_names(
 }
 
 /// Returns the index of each name. Returns an error only if out of memory.
-pub(crate) fn indices_of(alloc: Global, names: &[Text]) -> Result<Claims, AllocError>
+pub fn indices_of(alloc: Global, names: &[Text]) -> Result<Claims, AllocError>
     ensures { IfOk result (λ indices. indices ≡ spec.indices_of names.now) }
 {
     let mut indices = Claims::new(alloc);

@@ -1,0 +1,7 @@
+pub mod Blocks
+pub mod Changes
+pub mod Contents
+pub mod Counts
+pub mod Fields
+pub mod Renames
+pub mod Views
