@@ -1,4 +1,7 @@
 pub mod AlikeFacts
 pub mod ApartFacts
+pub mod BlockFacts
+pub mod IndexFacts
 pub mod NameFacts
 pub mod TextFacts
+pub mod WordFacts

@@ -1,9 +1,6 @@
 -- The texts of units at an index.
 use Rattle.std.proofs.Common.{◌≡◌, ℕ, zero, suc, List, [], ◌∷◌, Option, Some, None, refl}
 use Rattle.std.specs.Prelude.{option_map, slice_get}
-use Rattle.std.specs.List.{AllByRecursion}
-use Rattle.edit_entries.specs.Cuts.{CanBeCut}
-use Rattle.edit_units.specs.Cuts.{AreUnitsCut}
 use Rattle.edit_units.specs.Units.{UnitReading, texts_from}
 use Rattle.edit_versions.specs.Versions.{VersionReading, text_of_unit, texts_at, version_unit}
 
@@ -19,9 +16,3 @@ pub text_there : (v : VersionReading) (index : Option ℕ)
     → option_map (λ t. t.text) (texts_at v index) ≡ option_map (text_of_unit v.text) (version_unit v index)
 text_there v None = refl
 text_there v (Some i) = texts_get v.text 0 v.units i
-
--- each unit may be cut out of the text
-pub each_cut : (text : List ℕ) (at : ℕ) (us : List UnitReading) → AreUnitsCut text at us
-    → AllByRecursion (λ u. CanBeCut text u.start u.end) us
-each_cut text at [] cuts = _
-each_cut text at (u ∷ us) cuts = (cuts.1, each_cut text u.end us cuts.2)

@@ -1,4 +1,5 @@
 pub mod Alike
+pub mod Blocks
 pub mod Distinct
 pub mod Kept
 pub mod Versions

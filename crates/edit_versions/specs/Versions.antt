@@ -1,16 +1,17 @@
 -- Meaning: words of public contracts.
 -- A version of a file, and the names by which its units are found in other versions.
-use Rattle.std.specs.Prelude.{◌==◌, ℕ, List, [], ◌∷◌, ◌++◌, Option, None, Some, Bool, bytes_eq, codes, count_by, drop, is_some, map, slice_get}
+use Rattle.std.specs.Prelude.{◌==◌, ◌-◌, ℕ, List, [], ◌∷◌, ◌++◌, Option, None, Some, Bool, bytes_eq, codes, cond, count_by, drop, encode_utf8_all, is_some, length, map, not, slice_get, take, true}
 use Rattle.std.specs.declared.ops.Range.{Range}
 use Rattle.std.specs.Fmt.{decimal}
 use Rattle.std.specs.FinMap.{empty, get}
-use Rattle.std.specs.List.{before_first, enumerate_from}
-use Rattle.std.specs.Str.{str_to_ascii_lowercase}
+use Rattle.std.specs.List.{before_first, enumerate_from, list_any, suffix_len}
+use Rattle.std.specs.Str.{chars, str_to_ascii_lowercase}
 use Rattle.bib_collections.specs.Names.{with_claims}
 use Rattle.bib_collections.specs.Sorted.{ByText}
 use Rattle.bib_text.specs.Characters as char
 use Rattle.bib_text.specs.Places.{between, place}
 use Rattle.bib_syntax.specs.Reading.{EntryReading, FieldReading}
+use Rattle.bib_queries.specs.EqualValues.{with_single_spaces}
 use Rattle.edit_units.specs.Units.{UnitReading, UnitTexts, end_of_units, texts_from}
 
 -- the bytes of a unit
@@ -21,25 +22,46 @@ text_of_unit text u = between (place text u.start) (place text u.end)
 abbrev pub first_line : List ℕ → List ℕ
 first_line text = before_first (λ b. b == char.line_feed) text
 
--- the name of a unit with some blocks, but no entry and no definition: its first line, as `@comment{jabref-meta: grouping:`. The name of a
--- unit without blocks is its text.
-abbrev pub name_by_blocks : List (Range ℕ) → List ℕ → List ℕ
-name_by_blocks [] text = codes "text " ++ text
-name_by_blocks (block ∷ blocks) text = codes "block " ++ first_line text
+-- whether a byte is a colon
+abbrev pub is_colon : ℕ → Bool
+is_colon b = b == char.colon
+
+-- a text up to its last colon, or all of it if it has none
+abbrev pub up_to_colon : List ℕ → List ℕ
+up_to_colon text = cond (list_any is_colon text) (take (length text - suffix_len (λ b. not (is_colon b)) text) text) text
+
+-- the words of a text, each with a space after it. Words are separated by ASCII white space
+abbrev pub words : List ℕ → List ℕ
+words text = encode_utf8_all (with_single_spaces true (chars text ++ char.space ∷ []))
+
+-- the bytes of a block
+abbrev pub text_of_block : List ℕ → Range ℕ → List ℕ
+text_of_block text block = between (place text block.start) (place text block.end)
+
+-- the name of a unit without entries, definitions and preambles: the words of the first line of its first block up to the last colon there,
+-- as `@comment{jabref-meta: grouping:`. Without blocks, the words of its text
+abbrev pub name_by_blocks : List ℕ → UnitReading → List (Range ℕ) → List ℕ
+name_by_blocks text u [] = codes "text " ++ words (text_of_unit text u)
+name_by_blocks text u (block ∷ blocks) = codes "comment " ++ words (up_to_colon (first_line (text_of_block text block)))
+
+-- the name of a unit without entries and definitions: `preamble` if it has a preamble
+abbrev pub name_by_preamble : List ℕ → UnitReading → List ℕ → List ℕ
+name_by_preamble text u [] = name_by_blocks text u u.blocks
+name_by_preamble text u (b ∷ bs) = codes "preamble"
 
 -- the name of a unit without entries: that of its first definition in ASCII lowercase, if it has one
-abbrev pub name_without_entry : List FieldReading → UnitReading → List ℕ → List ℕ
-name_without_entry [] u text = name_by_blocks u.blocks text
-name_without_entry (f ∷ fs) u text = codes "string " ++ str_to_ascii_lowercase f.name.text
+abbrev pub name_by_definitions : List ℕ → UnitReading → List FieldReading → List ℕ
+name_by_definitions text u [] = name_by_preamble text u u.says.preamble
+name_by_definitions text u (f ∷ fs) = codes "string " ++ str_to_ascii_lowercase f.name.text
 
--- the name of a unit: the key of its first entry, if it has one
-abbrev pub name_by : List EntryReading → UnitReading → List ℕ → List ℕ
-name_by [] u text = name_without_entry u.says.abbreviations u text
-name_by (e ∷ es) u text = codes "entry " ++ e.key.text
+-- the name of a unit: the key of its first entry, if it has one. Keys that differ in case are different names
+abbrev pub name_by_entries : List ℕ → UnitReading → List EntryReading → List ℕ
+name_by_entries text u [] = name_by_definitions text u u.says.abbreviations
+name_by_entries text u (e ∷ es) = codes "entry " ++ e.key.text
 
 -- the name of a unit, which other units of the file may have too
 abbrev pub own_name : List ℕ → UnitReading → List ℕ
-own_name text u = name_by u.says.entries u (text_of_unit text u)
+own_name text u = name_by_entries text u u.says.entries
 
 -- a name that no other unit of the file has: the number of earlier units with this own name, and this own name
 abbrev pub unique_name : List (List ℕ) → List ℕ → List ℕ
@@ -94,12 +116,3 @@ end_of v = drop (end_of_units 0 v.units) v.text
 abbrev pub texts_at : VersionReading → Option ℕ → Option UnitTexts
 texts_at v None = None
 texts_at v (Some i) = slice_get (version_texts v) i
-
--- the white space before the first unit, if there is one
-abbrev pub first_space : List UnitTexts → List ℕ
-first_space [] = []
-first_space (p ∷ ps) = p.space
-
--- the white space before the first unit of a version
-abbrev pub start_of : VersionReading → List ℕ
-start_of v = first_space (version_texts v)

@@ -5,10 +5,10 @@ ghost use Rattle.std.specs.Fmt.{decimal};
 ghost use Rattle.std.specs.List.{AllByRecursion};
 ghost use Rattle.edit_entries.specs.Cuts.{CanBeCut};
 ghost use Rattle.edit_units.specs.Views.{unit_reading_of};
+ghost use Rattle.edit_versions.specs.Blocks.{AreBlocksCut, IsUnitCut};
 ghost use Rattle.edit_versions.specs.Versions as spec;
 
 use bib_collections::claims::Claims;
-use bib_text::spanned::Span;
 use bib_text::text::Text;
 use edit_units::units::Unit;
 use std::alloc::{AllocError, Global};
@@ -32,20 +32,62 @@ fn first_line(text: &str) -> &str
     }
 }
 
-// Returns the name of a unit without entries and definitions, with these blocks and this text.
-fn name_by_blocks(alloc: Global, blocks: &[Span], text: &str) -> Result<Text, AllocError>
-    ensures { IfOk result (λ name. name ≡ spec.name_by_blocks blocks.now text.now) }
+// Returns a text up to its last colon, or all of it if it has none.
+fn up_to_colon(text: &str) -> &str
+    ensures { result.now ≡ spec.up_to_colon text.now }
 {
-    if blocks.is_empty() {
-        with_prefix(alloc, "text ", text)
-    } else {
-        with_prefix(alloc, "block ", first_line(text))
+    match text.rfind(':') {
+        Some(at) => &text[..at + 1],
+        None => text,
+    }
+}
+
+// Returns the words of a text, each with a space after it. Words are separated by ASCII white space.
+fn words(alloc: Global, text: &str) -> Result<Text, AllocError>
+    ensures { IfOk result (λ words. words ≡ spec.words text.now) }
+{
+    let mut words = Text::new(alloc);
+    let mut is_after = true;
+    'text: for c in text.chars() {
+        let is_white = c.is_ascii_whitespace();
+        if !is_white {
+            words.push(c)?;
+        } else if !is_after {
+            words.push(' ')?;
+        }
+        is_after = is_white;
+    }
+    if !is_after {
+        words.push(' ')?;
+    }
+    Ok(words)
+}
+
+// Returns the name of a unit without entries, definitions and preambles.
+fn name_by_blocks(alloc: Global, text: &str, unit: &Unit<'_>) -> Result<Text, AllocError>
+    requires unit { CanBeCut text.now unit.now.span.start unit.now.span.end }
+    requires blocks { AreBlocksCut text.now unit.now.blocks.items }
+    ensures { IfOk result (λ name. name ≡ spec.name_by_blocks text.now (unit_reading_of unit.now) unit.now.blocks.items) }
+{
+    match unit.blocks.first() {
+        Some(block) => {
+            let words = words(
+                alloc,
+                up_to_colon(first_line(&text[block.start..block.end])),
+            )?;
+            with_prefix(alloc, "comment ", words.as_str())
+        }
+        None => {
+            let words = words(alloc, &text[unit.span.start..unit.span.end])?;
+            with_prefix(alloc, "text ", words.as_str())
+        }
     }
 }
 
 // Returns the name of a unit, which other units of the file may have too.
 fn own_name(alloc: Global, text: &str, unit: &Unit<'_>) -> Result<Text, AllocError>
-    requires { CanBeCut text.now unit.now.span.start unit.now.span.end }
+    requires unit { CanBeCut text.now unit.now.span.start unit.now.span.end }
+    requires blocks { AreBlocksCut text.now unit.now.blocks.items }
     ensures { IfOk result (λ name. name ≡ spec.own_name text.now (unit_reading_of unit.now)) }
 {
     if let Some(entry) = unit.raw.entries.first() {
@@ -55,8 +97,10 @@ fn own_name(alloc: Global, text: &str, unit: &Unit<'_>) -> Result<Text, AllocErr
         let name = definition.key.v.to_ascii_lowercase(alloc)?;
         return with_prefix(alloc, "string ", name.as_str());
     }
-    let unit_text = &text[unit.span.start..unit.span.end];
-    name_by_blocks(alloc, &unit.blocks, unit_text)
+    if !unit.raw.preamble.is_empty() {
+        return Text::from_str(alloc, "preamble");
+    }
+    name_by_blocks(alloc, text, unit)
 }
 
 /// Returns an own name after the number of earlier units that have it. Returns an error only if out of memory.
@@ -73,7 +117,7 @@ pub(crate) fn unit_names(
     text: &str,
     units: &[Unit<'_>],
 ) -> Result<Vec<Text>, AllocError>
-    requires { AllByRecursion (λ u. CanBeCut text.now u.start u.end) (map unit_reading_of units.now) }
+    requires { AllByRecursion (IsUnitCut text.now) (map unit_reading_of units.now) }
     ensures { IfOk result (λ names. names.items ≡ spec.unit_names text.now (map unit_reading_of units.now)) }
 {
     let mut names = Vec::new(alloc);

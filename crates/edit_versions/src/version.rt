@@ -119,16 +119,6 @@ impl<'s> Version<'s> {
         }
     }
 
-    /// Returns the white space before the first unit, or an empty text if there is none.
-    pub fn start(&self) -> &'s str
-        ensures { result.now ≡ versions.start_of self.now }
-    {
-        match self.texts.first() {
-            Some(texts) => texts.space,
-            None => "",
-        }
-    }
-
     /// Returns the white space after the last unit.
     pub fn end(&self) -> &'s str
         ensures { result.now ≡ versions.end_of self.now }

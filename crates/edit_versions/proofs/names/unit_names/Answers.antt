@@ -2,8 +2,7 @@ use Rattle.std.proofs.Common.{◌≡◌, ◌+◌, ◌∷◌, ◌++◌, [], codes
 use Rattle.std.specs.FinMap.{get, insert}
 use Rattle.std.specs.Fmt.{decimal}
 use Rattle.std.specs.List.{AllByRecursion}
-use Rattle.edit_entries.specs.Cuts.{CanBeCut}
-use Rattle.edit_units.specs.Units.{UnitReading}
+use Rattle.edit_versions.specs.Blocks.{IsUnitCut}
 use Rattle.edit_units.specs.Views.{unit_reading_of}
 use Rattle.bib_queries.proofs.EqualValueFacts.{from_index}
 use Rattle.edit_versions.specs.Versions.{unique_names, own_name, unit_names}
@@ -38,7 +37,7 @@ units-preserved c =
     let whole = unit_names text (map unit_reading_of units) in
     record {
       cut =
-          (subst (λ l. AllByRecursion (λ (r : UnitReading). CanBeCut text r.start r.end) (map unit_reading_of l))
+          (subst (λ l. AllByRecursion (IsUnitCut text) (map unit_reading_of l))
           (from_index units index u c.units-test.true ∙ ap (λ x. x ∷ drop (index + 1) units) (sym c.unit-item.is)) c.units.invariant.cut).1;
       counted =
           subst (λ l. AreCounts l c.claim.new.self) (sym more)
