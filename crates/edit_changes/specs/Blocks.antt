@@ -57,6 +57,15 @@ single_block (span ∷ other ∷ spans) says = None
 abbrev pub block_of : UnitReading → Option BlockReading
 block_of u = single_block u.blocks u.says
 
+-- the fields of a block, or none
+abbrev pub block_fields : Option BlockReading → List FieldReading
+block_fields None = []
+block_fields (Some b) = b.fields
+
+-- the fields of a unit by whose indices changes name them: those of its only entry, or its definitions
+abbrev pub fields_of : UnitReading → List FieldReading
+fields_of u = block_fields (block_of u)
+
 -- the bytes from an offset to another one, outside of these fields, without white space and commas
 abbrev pub bytes_outside : List ℕ → ℕ → List FieldReading → ℕ → List ℕ
 bytes_outside text at fields end = filter is_no_layout (outside_fields text at fields end)

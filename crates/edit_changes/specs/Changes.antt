@@ -25,18 +25,18 @@ text_changes place text other = cond (are_equal_texts text other) [] (TextSet pl
 abbrev pub type_changes : Place → List ℕ → List ℕ → List Change
 type_changes place kind other = cond (is_word kind other) [] (TypeSet place ∷ [])
 
--- a change of comments, unless these texts are equal
-abbrev pub comment_changes : Place → List ℕ → List ℕ → List Change
-comment_changes place text other = cond (bytes_eq text other) [] (CommentsSet place ∷ [])
+-- a change of comments, unless they are the same
+abbrev pub comment_change : Place → Bool → List Change
+comment_change place is_same = cond is_same [] (CommentsSet place ∷ [])
 
--- the changes from a unit of a text to one of another text, given their blocks: of the type, of the fields and of the rest, or if one of
--- them has no such block, of the whole unit
+-- the changes from a unit of a text to one of another text, given their blocks: of the type, of comments and of fields, or if one of them
+-- has no such block, of the whole unit
 abbrev pub changes_by : Place → List ℕ → UnitReading → Option BlockReading → List ℕ → UnitReading → Option BlockReading → List Change
 changes_by place text u None other w c = text_changes place (text_of_unit text u) (text_of_unit other w)
 changes_by place text u (Some b) other w None = text_changes place (text_of_unit text u) (text_of_unit other w)
 changes_by place text u (Some b) other w (Some c) =
-    type_changes place b.kind c.kind ++ field_changes place b.fields c.fields
-    ++ comment_changes place (text_outside text u b) (text_outside other w c)
+    type_changes place b.kind c.kind ++ comment_change place (bytes_eq (text_outside text u b) (text_outside other w c))
+    ++ field_changes place b.fields c.fields
 
 -- the changes of the content of a unit, except for its key
 abbrev pub unit_changes : Place → VersionReading → Option UnitReading → VersionReading → Option UnitReading → List Change

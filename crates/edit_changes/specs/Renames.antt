@@ -1,30 +1,21 @@
 -- Meaning: words of public contracts.
 -- Renamed entries: those that are equal except for the key and the layout, and that no other entry is equal to.
-use Rattle.std.specs.Prelude.{◌==◌, ◌&&◌, ℕ, Bool, not, List, [], ◌∷◌, ◌++◌, Option, Some, None, bytes_eq, codes, cond, count_by, encode_utf8, length, map, option_and_then}
-use Rattle.std.specs.Char.{is_ascii_whitespace}
+use Rattle.std.specs.Prelude.{◌==◌, ◌&&◌, ℕ, Bool, not, List, [], ◌∷◌, ◌++◌, Option, Some, None, bytes_eq, codes, cond, count_by, length, map, option_and_then}
 use Rattle.std.specs.FinMap.{get}
 use Rattle.std.specs.List.{enumerate_from, flat_map}
-use Rattle.std.specs.Str.{chars, str_to_ascii_lowercase}
+use Rattle.std.specs.Str.{str_to_ascii_lowercase}
 use Rattle.bib_syntax.specs.Reading.{EntryReading, FieldReading, Piece}
 use Rattle.bib_syntax.specs.Reading.Piece.{abbreviation, literal}
 use Rattle.edit_units.specs.Units.{UnitReading}
 use Rattle.edit_versions.specs.Alike.{single_entry}
-use Rattle.edit_versions.specs.Versions.{VersionReading, has_unit_named, indices_of, version_names, version_unit}
+use Rattle.edit_versions.specs.Versions.{VersionReading, has_unit_named, indices_of, version_names, version_unit, words}
 
--- a character, or nothing for ASCII white space
-abbrev pub dense_character : ℕ → List ℕ
-dense_character c = cond (is_ascii_whitespace c) [] (encode_utf8 c)
-
--- a text without ASCII white space
-abbrev pub dense_text : List ℕ → List ℕ
-dense_text text = flat_map dense_character (chars text)
-
--- a piece as text, without ASCII white space. The sign before it says whether it is a literal
+-- a piece as text: its words, after a sign that says whether it is a literal
 abbrev pub piece_content : Piece → List ℕ
-piece_content (literal p) = codes " =" ++ dense_text p.text
-piece_content (abbreviation p) = codes " #" ++ dense_text p.text
+piece_content (literal p) = codes "=" ++ words p.text
+piece_content (abbreviation p) = codes "#" ++ words p.text
 
--- a field as text: its name in ASCII lowercase, and its pieces without ASCII white space
+-- a field as text: its name in ASCII lowercase, and the words of its pieces
 abbrev pub field_content : FieldReading → List ℕ
 field_content f = codes " " ++ (str_to_ascii_lowercase f.name.text ++ flat_map piece_content f.value.pieces)
 

@@ -110,6 +110,20 @@ fn push_type_change(
     Ok(())
 }
 
+// Appends a change of comments, unless they are the same.
+fn push_comment_change(
+    changes: &mut Vec<Change>,
+    place: Place,
+    is_same: bool,
+) -> Result<(), AllocError>
+    ensures { OnOk result (changes.new.items ≡ changes.old.items ++ spec.comment_change place is_same) }
+{
+    if !is_same {
+        changes.push(Change::CommentsSet(place))?;
+    }
+    Ok(())
+}
+
 // A unit, the text of its version, and its bytes.
 #[derive(Clone, Copy)]
 struct Side<'a, 's> {
@@ -118,7 +132,7 @@ struct Side<'a, 's> {
     bytes: &'a str,
 }
 
-// Appends the changes of the content of a unit, except for its key: of the type, of fields and of comments, or of the text.
+// Appends the changes of the content of a unit, except for its key: of the type, of comments and of fields, or of the text.
 fn push_unit_changes(
     alloc: Global,
     changes: &mut Vec<Change>,
@@ -139,11 +153,9 @@ fn push_unit_changes(
         return push_text_change(alloc, changes, place, old.bytes, new.bytes);
     };
     push_type_change(changes, place, block.kind, other.kind)?;
-    push_field_changes(alloc, changes, place, block.fields, other.fields)?;
-    if !is_same_outside(alloc, old.text, old.unit, &block, new.text, new.unit, &other)? {
-        changes.push(Change::CommentsSet(place))?;
-    }
-    Ok(())
+    let is_same = is_same_outside(alloc, old.text, old.unit, &block, new.text, new.unit, &other)?;
+    push_comment_change(changes, place, is_same)?;
+    push_field_changes(alloc, changes, place, block.fields, other.fields)
 }
 
 // Appends the changes of the content of the units at a place, except for their keys.

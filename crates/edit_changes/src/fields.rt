@@ -4,13 +4,17 @@ ghost use Rattle.std.specs.Prelude.{◌≡◌, ◌++◌, IfOk, OnOk, map, option
 ghost use Rattle.std.specs.List.{enumerate_from, flat_map};
 ghost use Rattle.std.specs.Str.{str_to_ascii_lowercase};
 ghost use Rattle.bib_syntax.specs.Views.{field_of};
+ghost use Rattle.edit_units.specs.Views.{unit_reading_of};
+ghost use Rattle.edit_changes.specs.Blocks.{fields_of};
 ghost use Rattle.edit_changes.specs.Fields as spec;
 
+use crate::blocks::block_of;
 use crate::changes::{Change, Place};
 use bib_collections::claims::Claims;
 use bib_queries::equal_values::are_equal_pieces;
 use bib_syntax::raw::Pair;
 use bib_text::text::Text;
+use edit_units::units::Unit;
 use edit_versions::names::{indices_of, with_number};
 use std::alloc::{AllocError, Global};
 
@@ -78,6 +82,14 @@ fn field_at<'f, 's>(fields: &'f [Pair<'s>], index: usize) -> Option<&'f Pair<'s>
     ensures { option_map (λ f. field_of f.now) result ≡ slice_get (map field_of fields.now) index }
 {
     fields.get(index)
+}
+
+/// Returns the field at an index of a unit, as a change names it: of its only entry, or of its definitions.
+pub fn unit_field<'u, 's>(unit: &'u Unit<'s>, index: usize) -> Option<&'u Pair<'s>>
+    ensures { option_map (λ f. field_of f.now) result ≡ slice_get (fields_of (unit_reading_of unit.now)) index }
+{
+    let block = block_of(unit)?;
+    field_at(block.fields, index)
 }
 
 // Appends the change from the field at an index of the old version, if there is one, to that at an index of the new version.

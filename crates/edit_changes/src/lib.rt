@@ -7,6 +7,6 @@
 
 mod blocks;
 pub mod changes;
-mod fields;
+pub mod fields;
 mod orders;
 mod renames;

@@ -13,65 +13,50 @@ use bib_text::spanned::Spanned;
 use bib_text::text::Text;
 use edit_units::units::Unit;
 use edit_versions::alike::single_entry;
-use edit_versions::names::indices_of;
+use edit_versions::names::{indices_of, words};
 use edit_versions::version::Version;
 use std::alloc::{AllocError, Global};
 use std::marker::Model;
 
-// Appends a character, unless it is ASCII white space.
-fn push_dense_character(content: &mut Text, c: char) -> Result<(), AllocError>
-    ensures { OnOk result (content.new ≡ content.old ++ spec.dense_character c) }
-{
-    if !c.is_ascii_whitespace() {
-        content.push(c)?;
-    }
-    Ok(())
-}
-
-// Appends a text without its ASCII white space.
-fn push_dense_text(content: &mut Text, text: &str) -> Result<(), AllocError>
-    ensures { OnOk result (content.new ≡ content.old ++ spec.dense_text text.now) }
-{
-    'characters: for c in text.chars() {
-        push_dense_character(content, c)?;
-    }
-    Ok(())
-}
-
-// Appends a piece without ASCII white space, after a sign that says whether it is a literal.
-fn push_piece(content: &mut Text, piece: &Spanned<RawChunk<'_>>) -> Result<(), AllocError>
+// Appends the words of a piece, after a sign that says whether it is a literal.
+fn push_piece(
+    alloc: Global,
+    content: &mut Text,
+    piece: &Spanned<RawChunk<'_>>,
+) -> Result<(), AllocError>
     ensures { OnOk result (content.new ≡ content.old ++ spec.piece_content (piece_of piece.now)) }
 {
-    match piece.v {
-        RawChunk::Normal(text) => {
-            content.push_str(" =")?;
-            push_dense_text(content, text)
-        }
-        RawChunk::Abbreviation(name) => {
-            content.push_str(" #")?;
-            push_dense_text(content, name)
-        }
-    }
+    let (sign, text) = match piece.v {
+        RawChunk::Normal(text) => ("=", text),
+        RawChunk::Abbreviation(name) => ("#", name),
+    };
+    let words = words(alloc, text)?;
+    content.push_str(sign)?;
+    content.push_str(words.as_str())
 }
 
-// Appends pieces without ASCII white space.
-fn push_pieces(content: &mut Text, pieces: &[Spanned<RawChunk<'_>>]) -> Result<(), AllocError>
+// Appends the words of pieces.
+fn push_pieces(
+    alloc: Global,
+    content: &mut Text,
+    pieces: &[Spanned<RawChunk<'_>>],
+) -> Result<(), AllocError>
     ensures { OnOk result (content.new ≡ content.old ++ flat_map spec.piece_content (map piece_of pieces.now)) }
 {
     'pieces: for piece in pieces {
-        push_piece(content, piece)?;
+        push_piece(alloc, content, piece)?;
     }
     Ok(())
 }
 
-// Appends the name of a field in ASCII lowercase, and its value without ASCII white space.
+// Appends the name of a field in ASCII lowercase, and the words of its value.
 fn push_field(alloc: Global, content: &mut Text, field: &Pair<'_>) -> Result<(), AllocError>
     ensures { OnOk result (content.new ≡ content.old ++ spec.field_content (field_of field.now)) }
 {
     let name = field.key.v.to_ascii_lowercase(alloc)?;
     content.push_str(" ")?;
     content.push_str(name.as_str())?;
-    push_pieces(content, &field.value.v)
+    push_pieces(alloc, content, &field.value.v)
 }
 
 // Returns the content of an entry without its key: its type in ASCII lowercase, and its fields.

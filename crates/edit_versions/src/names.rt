@@ -22,8 +22,8 @@ fn with_prefix(alloc: Global, prefix: &str, text: &str) -> Result<Text, AllocErr
     Ok(name)
 }
 
-// Returns the first line of a text.
-fn first_line(text: &str) -> &str
+/// Returns the first line of a text.
+pub fn first_line(text: &str) -> &str
     ensures { result.now ≡ spec.first_line text.now }
 {
     match text.split_once('\n') {
@@ -42,8 +42,8 @@ fn up_to_colon(text: &str) -> &str
     }
 }
 
-// Returns the words of a text, each with a space after it. Words are separated by ASCII white space.
-fn words(alloc: Global, text: &str) -> Result<Text, AllocError>
+/// Returns the words of a text, each with a space after it. Words are separated by ASCII white space. Returns an error only if out of memory.
+pub fn words(alloc: Global, text: &str) -> Result<Text, AllocError>
     ensures { IfOk result (λ words. words ≡ spec.words text.now) }
 {
     let mut words = Text::new(alloc);
