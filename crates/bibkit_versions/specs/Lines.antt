@@ -89,14 +89,18 @@ detail v w (TextSet place) = []
 detail v w (LayoutSet place) = []
 detail v w Reordered = codes "the order of the entries"
 
--- a text after two spaces, or an empty text
-abbrev pub after_gap : List ℕ → List ℕ
-after_gap text = cond (length text == 0) [] (codes "  " ++ text)
+-- two spaces before a text, or an empty text before an empty one
+abbrev pub gap_before : List ℕ → List ℕ
+gap_before text = cond (length text == 0) [] (codes "  ")
 
 -- the name of a unit, and a text after it
+abbrev pub after_label : List ℕ → List ℕ → List ℕ
+after_label label text = label ++ gap_before text ++ text
+
+-- the name of the unit that a line is about, and a text after it
 abbrev pub body : VersionReading → VersionReading → Subject → List ℕ → List ℕ
-body v w (Old i) text = label_at v i ++ after_gap text
-body v w (New i) text = label_at w i ++ after_gap text
+body v w (Old i) text = after_label (label_at v i) text
+body v w (New i) text = after_label (label_at w i) text
 body v w Whole text = text
 
 -- the unit whose name is in the line of a change: none for a new key, since the line has both keys
@@ -137,10 +141,8 @@ abbrev pub layout_line : ℕ → List ℕ
 layout_line count =
     cond (count == 0) [] (codes "  layout   of " ++ (decimal count ++ cond (count == 1) (codes " unit\n") (codes " units\n")))
 
--- the lines of changes
-abbrev pub change_lines : VersionReading → VersionReading → List Change → List ℕ
-change_lines v w changes = flat_map (change_line v w) changes ++ layout_line (count_by is_layout changes)
-
--- the changes of a file with this name: its name and their lines, or an empty text if there are none
+-- the changes of a file with this name: its name, their lines, and the line for those of the layout only; or an empty text if there are none
 abbrev pub changes_text : List ℕ → VersionReading → VersionReading → List Change → List ℕ
-changes_text name v w changes = cond (length changes == 0) [] (name ++ (codes "\n" ++ change_lines v w changes))
+changes_text name v w changes =
+    cond (length changes == 0) []
+    (name ++ codes "\n" ++ flat_map (change_line v w) changes ++ layout_line (count_by is_layout changes))

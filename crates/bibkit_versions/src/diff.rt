@@ -5,7 +5,7 @@ ghost use Rattle.std.specs.String.{string_bytes};
 ghost use Rattle.edit_changes.specs.Changes as list;
 ghost use Rattle.bibkit_versions.specs.Diff as spec;
 
-use crate::lines::{changes_text, is_layout};
+use crate::lines::{changes_text, layout_count};
 use crate::objects::changes_array;
 use edit_changes::changes::{Change, changes};
 use edit_versions::version::Version;
@@ -33,7 +33,7 @@ pub struct Difference {
 fn has_change(changes: &[Change]) -> bool
     ensures { result ≡ spec.has_change changes.now }
 {
-    !changes.iter().all(|change| is_layout(*change))
+    layout_count(changes) != changes.len()
 }
 
 /// Returns the changes from an old version of the file `name` to a new one in a format, and whether there is one other than of the layout.

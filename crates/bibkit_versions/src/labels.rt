@@ -1,6 +1,6 @@
 //! The names of units and the texts of values, as they are printed.
 
-ghost use Rattle.std.specs.Prelude.{◌≡◌, ◌++◌, IfOk, encode_utf8, length, map, option_map};
+ghost use Rattle.std.specs.Prelude.{◌≡◌, ◌++◌, IfOk, OnOk, length, map, option_map};
 ghost use Rattle.std.specs.String.{string_bytes};
 ghost use Rattle.std.specs.Str.{chars};
 ghost use Rattle.bib_syntax.specs.Views.{entry_reading_of, field_of, piece_of};
@@ -17,11 +17,15 @@ use std::alloc::{AllocError, Global};
 // The greatest number of characters of a text that are shown.
 const MOST_SHOWN: usize = 60;
 
-// Returns U+FFFD for a control character, and any other character itself.
-fn printable_character(c: char) -> char
-    ensures { encode_utf8 result ≡ spec.printable_character c }
+// Appends a character, or U+FFFD for a control character.
+fn push_printable(printed: &mut String, c: char) -> Result<(), AllocError>
+    ensures { OnOk result (string_bytes printed.new ≡ string_bytes printed.old ++ spec.printable_character c) }
 {
-    if c.is_control() { '\u{FFFD}' } else { c }
+    if c.is_control() {
+        printed.push('\u{FFFD}')
+    } else {
+        printed.push(c)
+    }
 }
 
 // Returns a text with U+FFFD for each control character.
@@ -30,7 +34,7 @@ fn printable(alloc: Global, text: &str) -> Result<String, AllocError>
 {
     let mut printed = String::new(alloc);
     'characters: for c in text.chars() {
-        printed.push(printable_character(c))?;
+        push_printable(&mut printed, c)?;
     }
     Ok(printed)
 }

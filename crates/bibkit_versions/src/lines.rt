@@ -69,8 +69,8 @@ fn verb(change: Change) -> &'static str
     }
 }
 
-/// Returns whether a change is one of the layout only.
-pub(crate) fn is_layout(change: Change) -> bool
+// Returns whether a change is one of the layout only.
+fn is_layout(change: Change) -> bool
     ensures { result ≡ spec.is_layout change }
 {
     matches!(change, Change::LayoutSet(_))
@@ -179,14 +179,24 @@ fn detail(
     }
 }
 
-// Returns two spaces before a text, or an empty text if it is empty.
+// Returns two spaces before a text, or an empty text before an empty one.
 fn gap_before(text: &str) -> &'static str
-    ensures { result.now ++ text.now ≡ spec.after_gap text.now }
+    ensures { result.now ≡ spec.gap_before text.now }
 {
     if text.is_empty() { "" } else { "  " }
 }
 
 // Returns the name of a unit, and a text after it.
+fn after_label(label: String, text: &str) -> Result<String, AllocError>
+    ensures { IfOk result (λ body. string_bytes body ≡ spec.after_label (string_bytes label) text.now) }
+{
+    let mut body = label;
+    body.push_str(gap_before(text))?;
+    body.push_str(text)?;
+    Ok(body)
+}
+
+// Returns the name of the unit that a line is about, and a text after it.
 fn body(
     alloc: Global,
     old: &Version<'_>,
@@ -196,12 +206,11 @@ fn body(
 ) -> Result<String, AllocError>
     ensures { IfOk result (λ body. string_bytes body ≡ spec.body old.now new.now subject (string_bytes text)) }
 {
-    let label = match subject {
-        Subject::Old(index) => label_at(alloc, old, index)?,
-        Subject::New(index) => label_at(alloc, new, index)?,
-        Subject::Whole => return Ok(text),
-    };
-    format!(in alloc; "{label}{}{text}", gap_before(&text))
+    match subject {
+        Subject::Old(index) => after_label(label_at(alloc, old, index)?, &text),
+        Subject::New(index) => after_label(label_at(alloc, new, index)?, &text),
+        Subject::Whole => Ok(text),
+    }
 }
 
 // Appends the line of a change, unless it is one of the layout only.
@@ -237,8 +246,8 @@ fn push_layout_line(alloc: Global, lines: &mut String, count: usize) -> Result<(
     lines.push_str(&line)
 }
 
-// Returns the number of changes of the layout only.
-fn layout_count(changes: &[Change]) -> usize
+/// Returns the number of changes of the layout only.
+pub(crate) fn layout_count(changes: &[Change]) -> usize
     ensures { result ≡ count_by spec.is_layout changes.now }
 {
     let mut count = 0usize;
@@ -276,12 +285,10 @@ pub(crate) fn changes_text(
 ) -> Result<String, AllocError>
     ensures { IfOk result (λ text. string_bytes text ≡ spec.changes_text name.now old.now new.now changes.now) }
 {
-    let mut text = String::new(alloc);
     if changes.is_empty() {
-        return Ok(text);
+        return Ok(String::new(alloc));
     }
-    text.push_str(name)?;
-    text.push_str("\n")?;
+    let mut text = format!(in alloc; "{name}\n")?;
     push_lines(alloc, &mut text, old, new, changes)?;
     push_layout_line(alloc, &mut text, layout_count(changes))?;
     Ok(text)

@@ -111,8 +111,10 @@ fn facts_members(alloc: Global, facts: &Facts) -> Result<String, AllocError>
 // The finders of positions in the two versions.
 #[derive(Drop)]
 struct BothPositions<'s> {
-    old: Positions<'s>,
-    new: Positions<'s>,
+    // In the text of the old version.
+    in_old: Positions<'s>,
+    // In the text of the new version.
+    in_new: Positions<'s>,
 }
 
 // Returns the members for the unit that a change is about.
@@ -123,15 +125,15 @@ fn subject_members(
     new: &Version<'_>,
     subject: Subject,
 ) -> Result<String, AllocError>
-    requires old { positions.old.old ≡ old.now.text }
-    requires new { positions.old.new ≡ new.now.text }
+    requires old { positions.old.in_old ≡ old.now.text }
+    requires new { positions.old.in_new ≡ new.now.text }
     ensures members { IfOk result (λ text. string_bytes text ≡ spec.subject_members old.now new.now subject) }
-    ensures old_same { positions.new.old ≡ positions.old.old }
-    ensures new_same { positions.new.new ≡ positions.old.new }
+    ensures old_same { positions.new.in_old ≡ positions.old.in_old }
+    ensures new_same { positions.new.in_new ≡ positions.old.in_new }
 {
     match subject {
-        Subject::Old(index) => unit_members(alloc, &mut positions.old, old, index),
-        Subject::New(index) => unit_members(alloc, &mut positions.new, new, index),
+        Subject::Old(index) => unit_members(alloc, &mut positions.in_old, old, index),
+        Subject::New(index) => unit_members(alloc, &mut positions.in_new, new, index),
         Subject::Whole => Ok(String::new(alloc)),
     }
 }
@@ -144,11 +146,11 @@ fn change_object(
     new: &Version<'_>,
     change: Change,
 ) -> Result<String, AllocError>
-    requires old { positions.old.old ≡ old.now.text }
-    requires new { positions.old.new ≡ new.now.text }
+    requires old { positions.old.in_old ≡ old.now.text }
+    requires new { positions.old.in_new ≡ new.now.text }
     ensures object { IfOk result (λ text. string_bytes text ≡ spec.change_object old.now new.now change) }
-    ensures old_same { positions.new.old ≡ positions.old.old }
-    ensures new_same { positions.new.new ≡ positions.old.new }
+    ensures old_same { positions.new.in_old ≡ positions.old.in_old }
+    ensures new_same { positions.new.in_new ≡ positions.old.in_new }
 {
     let unit = subject_members(alloc, positions, old, new, Subject::of(change))?;
     let facts = facts_of(alloc, old, new, change)?;
@@ -178,8 +180,8 @@ fn push_objects(
         ≡ string_bytes text.old ++ flat_map (spec.array_element old.now new.now) (enumerate_from 0 changes.now)) }
 {
     let mut positions = BothPositions {
-        old: Positions::new(old.text()),
-        new: Positions::new(new.text()),
+        in_old: Positions::new(old.text()),
+        in_new: Positions::new(new.text()),
     };
     'changes: for (index, change) in changes.iter().enumerate() {
         let object = change_object(alloc, &mut positions, old, new, *change)?;

@@ -8,7 +8,9 @@ use Rattle.bibkit_versions.specs.Labels.{printable_character}
 use Rattle.bibkit_versions.proofs.labels.printable.Goals as goal
 
 pub characters-preserved : goal.characters-preserved
-characters-preserved c = ?
+characters-preserved c =
+    c.in_ok-push_printable.ensures ∙ ap (λ t. t ++ printable_character c.in-Some.c) c.characters.invariant
+    ∙ flat_map_more printable_character [] c.characters.yielded c.in-Some.c
 
 pub returns : goal.returns
 returns c =

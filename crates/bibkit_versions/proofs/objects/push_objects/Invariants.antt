@@ -10,6 +10,6 @@ invariant-changes l = record {
   written :
       string_bytes l.text ++ flat_map (array_element l.old l.new) (enumerate_from l.index (drop l.index l.changes))
       ≡ string_bytes l.initial.text ++ flat_map (array_element l.old l.new) (enumerate_from 0 l.changes);
-  old : l.positions.old ≡ l.old.text;
-  new : l.positions.new ≡ l.new.text;
+  old : l.positions.in_old ≡ l.old.text;
+  new : l.positions.in_new ≡ l.new.text;
 }
