@@ -1,9 +1,10 @@
 -- Meaning: words of public contracts.
 -- The output of `diff`.
 use Rattle.std.specs.Prelude.{◌==◌, ℕ, Bool, not, List, count_by, length}
+use Rattle.edit_changes.specs.Changes.{is_layout}
 use Rattle.edit_changes.specs.declared.changes.Change.{Change}
 use Rattle.edit_versions.specs.Versions.{VersionReading}
-use Rattle.bibkit_versions.specs.Lines.{changes_text, is_layout}
+use Rattle.bibkit_versions.specs.Lines.{changes_text}
 use Rattle.bibkit_versions.specs.Objects.{changes_array}
 use Rattle.bibkit_versions.specs.declared.diff.Format.{Format}
 use Rattle.bibkit_versions.specs.declared.diff.Format.TheVariants.{Text, Json}

@@ -4,6 +4,7 @@ use Rattle.std.specs.Prelude.{◌==◌, ℕ, Bool, false, true, List, [], ◌∷
 use Rattle.std.specs.Fmt.{decimal}
 use Rattle.std.specs.List.{flat_map}
 use Rattle.bib_syntax.specs.Reading.{EntryReading}
+use Rattle.edit_changes.specs.Changes.{is_layout}
 use Rattle.edit_changes.specs.declared.changes.Change.{Change}
 use Rattle.edit_changes.specs.declared.changes.Change.TheVariants.{Added, CommentsSet, FieldAdded, FieldRemoved, FieldSet, LayoutSet, Removed, Renamed, Reordered, TextSet, TypeSet}
 use Rattle.edit_units.specs.Units.{UnitReading}
@@ -116,20 +117,6 @@ line_subject (CommentsSet place) = New place.new
 line_subject (TextSet place) = New place.new
 line_subject (LayoutSet place) = New place.new
 line_subject Reordered = Whole
-
--- whether a change is one of the layout only
-abbrev pub is_layout : Change → Bool
-is_layout (LayoutSet place) = true
-is_layout (Removed old) = false
-is_layout (Added new) = false
-is_layout (Renamed place) = false
-is_layout (TypeSet place) = false
-is_layout (FieldRemoved place old) = false
-is_layout (FieldAdded place new) = false
-is_layout (FieldSet place old new) = false
-is_layout (CommentsSet place) = false
-is_layout (TextSet place) = false
-is_layout Reordered = false
 
 -- the line of a change, or an empty text for one of the layout only
 abbrev pub change_line : VersionReading → VersionReading → Change → List ℕ

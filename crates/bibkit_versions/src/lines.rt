@@ -4,6 +4,7 @@ ghost use Rattle.std.specs.Prelude.{◌≡◌, ◌++◌, IfOk, OnOk, count_by, m
 ghost use Rattle.std.specs.List.{flat_map};
 ghost use Rattle.std.specs.String.{string_bytes};
 ghost use Rattle.bib_syntax.specs.Views.{entry_reading_of};
+ghost use Rattle.edit_changes.specs.Changes.{is_layout};
 ghost use Rattle.bibkit_versions.specs.FactViews.{facts_view};
 ghost use Rattle.bibkit_versions.specs.Lines as spec;
 
@@ -67,13 +68,6 @@ fn verb(change: Change) -> &'static str
         Change::Renamed(_) => "renamed  ",
         _ => "changed  ",
     }
-}
-
-// Returns whether a change is one of the layout only.
-fn is_layout(change: Change) -> bool
-    ensures { result ≡ spec.is_layout change }
-{
-    matches!(change, Change::LayoutSet(_))
 }
 
 // Returns the old and the new text, with an arrow between them if there are both.
@@ -223,7 +217,7 @@ fn push_line(
 ) -> Result<(), AllocError>
     ensures { OnOk result (string_bytes lines.new ≡ string_bytes lines.old ++ spec.change_line old.now new.now change) }
 {
-    if is_layout(change) {
+    if change.is_layout() {
         return Ok(());
     }
     let detail = detail(alloc, old, new, change)?;
@@ -248,11 +242,11 @@ fn push_layout_line(alloc: Global, lines: &mut String, count: usize) -> Result<(
 
 /// Returns the number of changes of the layout only.
 pub(crate) fn layout_count(changes: &[Change]) -> usize
-    ensures { result ≡ count_by spec.is_layout changes.now }
+    ensures { result ≡ count_by is_layout changes.now }
 {
     let mut count = 0usize;
     'changes: for change in changes {
-        if is_layout(*change) {
+        if change.is_layout() {
             count += 1;
         }
     }

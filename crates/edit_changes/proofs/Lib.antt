@@ -1,2 +1,3 @@
 pub mod FieldFacts
+pub mod LawFacts
 pub mod ListFacts

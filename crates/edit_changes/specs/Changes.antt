@@ -1,6 +1,6 @@
 -- Meaning: words of public contracts.
 -- The changes from one version of a file to another one.
-use Rattle.std.specs.Prelude.{◌||◌, ℕ, Bool, List, [], ◌∷◌, ◌++◌, Option, Some, None, bytes_eq, cond, filter, is_some, slice_get}
+use Rattle.std.specs.Prelude.{◌||◌, ℕ, Bool, true, false, List, [], ◌∷◌, ◌++◌, Option, Some, None, bytes_eq, cond, filter, is_some, slice_get}
 use Rattle.std.specs.Cmp.Lexicographic.{pointwise}
 use Rattle.std.specs.List.{enumerate_from, flat_map}
 use Rattle.bib_queries.specs.EqualValues.{are_equal_texts}
@@ -12,8 +12,22 @@ use Rattle.edit_changes.specs.Blocks.{BlockReading, block_of, text_outside}
 use Rattle.edit_changes.specs.Fields.{field_changes}
 use Rattle.edit_changes.specs.Renames.{lone_contents, renamed_index}
 use Rattle.edit_changes.specs.declared.changes.Change.{Change}
-use Rattle.edit_changes.specs.declared.changes.Change.TheVariants.{Added, CommentsSet, LayoutSet, Removed, Renamed, Reordered, TextSet, TypeSet}
+use Rattle.edit_changes.specs.declared.changes.Change.TheVariants.{Added, CommentsSet, FieldAdded, FieldRemoved, FieldSet, LayoutSet, Removed, Renamed, Reordered, TextSet, TypeSet}
 use Rattle.edit_changes.specs.declared.changes.Place.{Place}
+
+-- whether a change is one of the layout only
+abbrev pub is_layout : Change → Bool
+is_layout (LayoutSet place) = true
+is_layout (Removed old) = false
+is_layout (Added new) = false
+is_layout (Renamed place) = false
+is_layout (TypeSet place) = false
+is_layout (FieldRemoved place old) = false
+is_layout (FieldAdded place new) = false
+is_layout (FieldSet place old new) = false
+is_layout (CommentsSet place) = false
+is_layout (TextSet place) = false
+is_layout Reordered = false
 
 -- ---- the content of one unit
 

@@ -4,4 +4,5 @@ pub mod Contents
 pub mod Counts
 pub mod Fields
 pub mod Renames
+pub mod Same
 pub mod Views

@@ -79,6 +79,15 @@ pub enum Change {
     Reordered,
 }
 
+impl Change {
+    /// Returns whether only the layout of a unit has changed.
+    pub fn is_layout(self) -> bool
+        ensures { result ≡ spec.is_layout self }
+    {
+        matches!(self, Change::LayoutSet(_))
+    }
+}
+
 // Appends a change of a text, unless both texts are the same if each run of ASCII white space is one space.
 fn push_text_change(
     alloc: Global,

@@ -8,5 +8,6 @@
 mod blocks;
 pub mod changes;
 pub mod fields;
+pub mod laws;
 mod orders;
 mod renames;

@@ -1,6 +1,6 @@
 use Rattle.std.proofs.Common.{◌≡◌, take}
 use Rattle.std.specs.List.{count_by}
-use Rattle.bibkit_versions.specs.Lines.{is_layout}
+use Rattle.edit_changes.specs.Changes.{is_layout}
 use Rattle.bibkit_versions.proofs.lines.layout_count.Given as goal
 
 abbrev pub invariant-changes : goal.invariant-changes
