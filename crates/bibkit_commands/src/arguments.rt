@@ -13,6 +13,7 @@ ghost use Rattle.bibkit_commands.specs.EditsAsked.{IsEditingOf};
 
 use crate::argument_values::{given_texts, has_flag, number, number_in, text, texts, value};
 use crate::converting::Converting;
+use crate::differing::Diffing;
 use crate::edit_arguments::edits_of;
 use crate::edits::{Editing, Mode};
 use crate::importing::Source;
@@ -26,6 +27,7 @@ use bibkit_core::request::{Cited, Request};
 use bibkit_settings::commands::{command, is_editing};
 use bibkit_settings::settings::Settings;
 use bibkit_settings::style_settings::{StyleSettings, delimiters_named, width_of};
+use bibkit_versions::diff::Format;
 use clap::{ArgMatches, Error};
 use edit_format::style::Delimiters;
 use edit_orders::order::{Order, OrderError};
@@ -96,6 +98,8 @@ pub enum Asked<'a> {
         /// The keys of the entries to print. If it is `None`, the keys of all selected entries are printed.
         keys: Option<Vec<&'a str>>,
     },
+    /// Prints the changes from one version of a file to another one.
+    Diff(Diffing),
     /// Runs another request.
     Other(Request<'a>),
     /// Reports that the command line is wrong, for this reason.
@@ -372,6 +376,16 @@ fn get_asked<'a>(alloc: Global, matches: &ArgMatches<'a>) -> Result<Asked<'a>, A
     })
 }
 
+// Returns the format of changes with this name, or lines for any other name and for a missing one.
+fn change_format(name: Option<&str>) -> Format
+    ensures { result ≡ spec.change_format (option_map (λ name. name.now) name.entry) }
+{
+    match name {
+        Some("json") => Format::Json,
+        _ => Format::Text,
+    }
+}
+
 // Returns the request of the command `name`, which reads files.
 fn request_of<'a>(
     alloc: Global,
@@ -406,6 +420,12 @@ fn request_of<'a>(
             }));
         }
         "stats" => Request::Stats,
+        "diff" => {
+            return Ok(Asked::Diff(Diffing {
+                format: change_format(value(matches, "format")),
+                is_git: has_flag(matches, "git"),
+            }));
+        }
         _ => return keys_asked(alloc, matches),
     };
     Ok(Asked::Other(request))

@@ -7,6 +7,7 @@
 mod argument_values;
 mod arguments;
 mod converting;
+mod differing;
 mod document;
 mod edit_arguments;
 mod edits;

@@ -38,8 +38,8 @@ fn push_without_layout(kept: &mut Vec<u8>, bytes: &[u8]) -> Result<(), AllocErro
     Ok(())
 }
 
-// Appends the bytes from `start` to `end` that are outside of these fields, without layout.
-fn push_outside_fields(
+/// Appends the bytes from `start` to `end` that are outside of these fields, without layout. Returns an error only if out of memory.
+pub fn push_outside_fields(
     kept: &mut Vec<u8>,
     text: &[u8],
     start: usize,
@@ -99,8 +99,8 @@ fn are_alike_fields(alloc: Global, one: &[Pair<'_>], other: &[Pair<'_>]) -> Resu
     Ok(true)
 }
 
-// Returns the entry of a unit whose only block is that entry.
-fn single_entry<'a, 's>(unit: &'a Unit<'s>) -> Option<&'a Spanned<RawEntry<'s>>>
+/// Returns the entry of a unit whose only block is that entry.
+pub fn single_entry<'a, 's>(unit: &'a Unit<'s>) -> Option<&'a Spanned<RawEntry<'s>>>
     ensures { option_map (λ entry. entry_reading_of entry.now) result ≡ spec.single_entry (unit_reading_of unit.now) }
 {
     if unit.blocks.len() != 1 {

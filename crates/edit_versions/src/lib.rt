@@ -5,7 +5,7 @@
 //! layout.
 #![tactic(auto)]
 
-mod alike;
+pub mod alike;
 pub mod comparison;
 pub mod laws;
 pub mod names;

@@ -32,8 +32,8 @@ pub fn own_part(name: &str) -> &str
     }
 }
 
-// Returns the first line of a text.
-fn first_line(text: &str) -> &str
+/// Returns the first line of a text.
+pub fn first_line(text: &str) -> &str
     ensures { result.now ≡ spec.first_line text.now }
 {
     match text.split_once('\n') {
@@ -52,8 +52,8 @@ fn up_to_colon(text: &str) -> &str
     }
 }
 
-// Returns the words of a text, each with a space after it. Words are separated by ASCII white space.
-fn words_with_spaces(alloc: Global, text: &str) -> Result<Text, AllocError>
+/// Returns the words of a text, each with a space after it. Words are separated by ASCII white space. Returns an error only if out of memory.
+pub fn words_with_spaces(alloc: Global, text: &str) -> Result<Text, AllocError>
     ensures { IfOk result (λ words. words ≡ spec.words_with_spaces text.now) }
 {
     let mut words = Text::new(alloc);
@@ -113,8 +113,8 @@ fn own_name(alloc: Global, text: &str, unit: &Unit<'_>) -> Result<Text, AllocErr
     name_by_blocks(alloc, text, unit)
 }
 
-// Returns an own name after the number of earlier units that have it.
-fn with_number(alloc: Global, number: usize, own: &Text) -> Result<Text, AllocError>
+/// Returns an own name after the number of earlier units that have it. Returns an error only if out of memory.
+pub fn with_number(alloc: Global, number: usize, own: &Text) -> Result<Text, AllocError>
     ensures { IfOk result (λ name. name ≡ decimal number ++ (codes " " ++ own.now)) }
 {
     let name = format!(in alloc; "{number} {}", own.as_str())?;
@@ -142,7 +142,7 @@ pub(crate) fn unit_names(
 }
 
 /// Returns the index of each name. Returns an error only if out of memory.
-pub(crate) fn indices_of(alloc: Global, names: &[Text]) -> Result<Claims, AllocError>
+pub fn indices_of(alloc: Global, names: &[Text]) -> Result<Claims, AllocError>
     ensures { IfOk result (λ indices. indices ≡ spec.indices_of names.now) }
 {
     let mut indices = Claims::new(alloc);

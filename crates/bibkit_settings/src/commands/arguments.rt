@@ -79,6 +79,8 @@ pub enum Choice {
     Target,
     /// The formats to convert from.
     Source,
+    /// The formats of changes.
+    Changes,
 }
 
 /// How a flag depends on other options.
@@ -150,6 +152,9 @@ static TARGETS: [&str; 5] = ["csl", "json", "ris", "biblatex", "bibtex"];
 
 // The values of `--from` of `convert`.
 static SOURCES: [&str; 4] = ["bib", "csl", "ris", "json"];
+
+// The values of `--format` of `diff`.
+static CHANGES: [&str; 2] = ["text", "json"];
 
 /// Returns the argument for the files that a command reads.
 pub fn files<'a>(alloc: Global) -> Arg<'a> {
@@ -232,6 +237,7 @@ fn choice_argument<'a>(alloc: Global, row: &'static Argument, choice: Choice) ->
             .value_parser(TARGETS.as_slice())
             .required(true),
         Choice::Source => value(alloc, row, "FORMAT").value_parser(SOURCES.as_slice()),
+        Choice::Changes => value(alloc, row, "FORMAT").value_parser(CHANGES.as_slice()),
     }
 }
 

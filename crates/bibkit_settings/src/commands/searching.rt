@@ -168,8 +168,34 @@ const CITED: [Argument; 1] = [Argument {
     help: "The .aux or .bcf file that LaTeX wrote for the document",
 }];
 
+// The text at the end of the help of `diff`.
+const DIFF_HELP: &str = "\
+Takes two files, the old and the new version. Compares entries by their keys and fields by their names. Prints the entries, definitions and
+comments that were added, removed or changed, and entries with another key. White space, the delimiters of values and the order of fields
+don't count.
+
+Examples:
+  bibkit diff old.bib new.bib
+  git config diff.bibtex.command 'bibkit diff --git'
+
+Status: 0 no change other than of the layout, or --git, 1 changes, 2 wrong usage, or a file has an error or failed, 3 out of memory";
+
+// The arguments of `diff`.
+const DIFF: [Argument; 2] = [
+    Argument {
+        name: "format",
+        takes: Takes::Choice(Choice::Changes),
+        help: "The format of changes [default: text]",
+    },
+    Argument {
+        name: "git",
+        takes: Takes::Flag(Flag::Against(&["format"])),
+        help: "Take the arguments that git passes to an external diff command",
+    },
+];
+
 /// The commands, in the order of help.
-pub static SEARCHING: [Row; 7] = [
+pub static SEARCHING: [Row; 8] = [
     Row {
         name: "lint",
         about: "Report errors and likely mistakes in files",
@@ -211,5 +237,11 @@ pub static SEARCHING: [Row; 7] = [
         about: "Count entries by type and year, fields by name, and findings by code",
         help: "Example:\n  bibkit stats refs.bib",
         arguments: &[],
+    },
+    Row {
+        name: "diff",
+        about: "Print the changes from one version of a file to another one",
+        help: DIFF_HELP,
+        arguments: &DIFF,
     },
 ];

@@ -1,0 +1,6 @@
+pub mod Diff
+pub mod FactViews
+pub mod Facts
+pub mod Labels
+pub mod Lines
+pub mod Objects
