@@ -15,6 +15,7 @@ pub data FileCommand : Type 0 where
   select_command : FileCommand
   stats_command : FileCommand
   diff_command : FileCommand
+  merge_command : FileCommand
   keys_command : FileCommand
 
 -- the commands that read files by their names, except `keys`
@@ -22,7 +23,8 @@ abbrev pub commands : List (List ℕ × FileCommand)
 commands =
     (codes "lint", lint_command) ∷ (codes "fmt", fmt_command) ∷ (codes "convert", convert_command) ∷ (codes "resolve", resolve_command)
     ∷ (codes "get", get_command) ∷ (codes "grep", grep_command) ∷ (codes "cited", cited_command)
-    ∷ (codes "select", select_command) ∷ (codes "stats", stats_command) ∷ (codes "diff", diff_command) ∷ []
+    ∷ (codes "select", select_command) ∷ (codes "stats", stats_command) ∷ (codes "diff", diff_command)
+    ∷ (codes "merge", merge_command) ∷ []
 
 -- the command with this name; any other name is that of `keys`
 unfoldable pub reading_command_named : List ℕ → FileCommand

@@ -6,7 +6,7 @@ ghost use Rattle.bibkit_settings.specs.StyleSettings as style;
 ghost use Rattle.bibkit_commands.specs.Arguments.{arguments_of, argument_number, argument_value};
 ghost use Rattle.bibkit_commands.specs.Asked as spec;
 ghost use Rattle.bibkit_commands.specs.Asked.{AreStyleSettingsOf, IsAskedBy, IsConversionOf, IsConvertOf, IsFormatOf, IsGetOf, IsKeysOf};
-ghost use Rattle.bibkit_commands.specs.Asked.{IsSortOf, IsSortRefused, dialect_for, files_of, mode_asked, source_for, target_for, wrong_formats};
+ghost use Rattle.bibkit_commands.specs.Asked.{IsMergingOf, IsSortOf, IsSortRefused, dialect_for, files_of, mode_asked, source_for, target_for, wrong_formats};
 ghost use Rattle.bibkit_commands.specs.CommandLine.{IsCommandLineOf, IsCommandOf};
 ghost use Rattle.bibkit_commands.specs.Commands.{reading_command_named};
 ghost use Rattle.bibkit_commands.specs.EditsAsked.{IsEditingOf};
@@ -18,6 +18,7 @@ use crate::edit_arguments::edits_of;
 use crate::edits::{Editing, Mode};
 use crate::importing::Source;
 use crate::lint_arguments::lint_asked;
+use crate::merging::Merging;
 use crate::selecting::{Printed, Selecting};
 use bib_csl::sentence_items::TitleCase;
 use bib_queries::request::{Request as Excerpts, Search};
@@ -100,6 +101,8 @@ pub enum Asked<'a> {
     },
     /// Prints the changes from one version of a file to another one.
     Diff(Diffing),
+    /// Merges three versions of a file.
+    Merge(Merging<'a>),
     /// Runs another request.
     Other(Request<'a>),
     /// Reports that the command line is wrong, for this reason.
@@ -386,6 +389,18 @@ fn change_format(name: Option<&str>) -> Format
     }
 }
 
+// Returns the request of `merge`.
+fn merging_asked<'a>(matches: &ArgMatches<'a>) -> Merging<'a>
+    ensures { IsMergingOf (arguments_of matches.now) result }
+{
+    Merging {
+        path: value(matches, "path"),
+        marker_size: number(matches, "marker-size").unwrap_or(7),
+        is_written: has_flag(matches, "write"),
+        is_install: has_flag(matches, "install"),
+    }
+}
+
 // Returns the request of the command `name`, which reads files.
 fn request_of<'a>(
     alloc: Global,
@@ -426,6 +441,7 @@ fn request_of<'a>(
                 is_git: has_flag(matches, "git"),
             }));
         }
+        "merge" => return Ok(Asked::Merge(merging_asked(matches))),
         _ => return keys_asked(alloc, matches),
     };
     Ok(Asked::Other(request))

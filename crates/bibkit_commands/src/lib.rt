@@ -18,6 +18,7 @@ mod formatting;
 mod importing;
 mod joining;
 mod lint_arguments;
+mod merging;
 mod misspellings;
 mod readable;
 mod recoding;

@@ -3,4 +3,5 @@ pub mod FactViews
 pub mod Facts
 pub mod Labels
 pub mod Lines
+pub mod Merging
 pub mod Objects

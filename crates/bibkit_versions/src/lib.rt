@@ -8,4 +8,5 @@ pub mod diff;
 mod facts;
 mod labels;
 mod lines;
+pub mod merging;
 mod objects;

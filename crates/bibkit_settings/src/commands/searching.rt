@@ -180,6 +180,42 @@ Examples:
 
 Status: 0 no change other than of the layout, or --git, 1 changes, 2 wrong usage, or a file has an error or failed, 3 out of memory";
 
+// The text at the end of the help of `merge`.
+const MERGE_HELP: &str = "\
+Takes three files: the common base, our version and their version. Finds entries by their keys, and merges an entry that both sides changed by
+its fields. A conflict has marker lines around the lines in which both sides differ, and a message on standard error. `merge --install`
+prints the commands that make `bibkit merge` the merge driver of a git repository.
+
+Examples:
+  bibkit merge base.bib ours.bib theirs.bib
+  bibkit merge --install | sh
+
+Status: 0 merged, 1 conflicts, 2 wrong usage, or a file has an error or a conflict marker, or a file or the output failed, 3 out of memory";
+
+// The arguments of `merge`.
+const MERGE: [Argument; 4] = [
+    Argument {
+        name: "path",
+        takes: Takes::FileName,
+        help: "The name of the file in messages [default: that of our version]",
+    },
+    Argument {
+        name: "marker-size",
+        takes: Takes::MarkerSize,
+        help: "The number of signs in the marker lines of a conflict [default: 7]",
+    },
+    Argument {
+        name: "write",
+        takes: Takes::Flag(Flag::Plain),
+        help: "Replace the file with our version instead of printing the text",
+    },
+    Argument {
+        name: "install",
+        takes: Takes::Flag(Flag::Against(&["path", "marker-size", "write"])),
+        help: "Print the commands that install the merge driver in the git repository of this folder",
+    },
+];
+
 // The arguments of `diff`.
 const DIFF: [Argument; 2] = [
     Argument {
@@ -195,7 +231,7 @@ const DIFF: [Argument; 2] = [
 ];
 
 /// The commands, in the order of help.
-pub static SEARCHING: [Row; 8] = [
+pub static SEARCHING: [Row; 9] = [
     Row {
         name: "lint",
         about: "Report errors and likely mistakes in files",
@@ -243,5 +279,11 @@ pub static SEARCHING: [Row; 8] = [
         about: "Print the changes from one version of a file to another one",
         help: DIFF_HELP,
         arguments: &DIFF,
+    },
+    Row {
+        name: "merge",
+        about: "Merge three versions of a file",
+        help: MERGE_HELP,
+        arguments: &MERGE,
     },
 ];
