@@ -6,6 +6,7 @@ ghost use Rattle.std.specs.String.{string_bytes};
 ghost use Rattle.bibkit_versions.specs.Merging as spec;
 ghost use Rattle.bibkit_versions.specs.Merging.{IsMergeOf};
 ghost use Rattle.edit_merge.specs.Entries.{is_conflict};
+ghost use Rattle.edit_merge.specs.Merged.{merged_text};
 ghost use Rattle.edit_merge.specs.Views.{markers_of, versions_of};
 ghost use Rattle.edit_units.specs.Units.{AreUnits};
 
@@ -156,6 +157,26 @@ fn output_of(
     })
 }
 
+// Returns the output for a merge of these versions by units.
+fn output_by_units<'v, 's>(
+    alloc: Global,
+    file: &str,
+    marker: &str,
+    base: &'v Version<'s>,
+    ours: &'v Version<'s>,
+    theirs: &'v Version<'s>,
+    markers: Markers<'_>,
+) -> Result<Output, AllocError>
+    ensures text { IfOk result (λ o. string_bytes o.text ≡ merged_text (markers_of markers.entry)
+        (record { base = base.now; ours = ours.now; theirs = theirs.now })) }
+    ensures conflict { IfOk result (λ o. o.has_conflict
+        ≡ spec.has_conflict (record { base = base.now; ours = ours.now; theirs = theirs.now })) }
+{
+    let versions = Versions { base, ours, theirs };
+    let merged = merge(alloc, versions, markers)?;
+    output_of(alloc, file, marker, versions, merged)
+}
+
 // Returns the output for a merge in which entries that both sides changed are merged by their fields, or `None` if the text of a side with
 // these entries has a syntax error.
 fn output_by_fields(
@@ -176,13 +197,8 @@ fn output_by_fields(
     let Some(theirs) = version_of(alloc, &their_text)? else {
         return Ok(None);
     };
-    let versions = Versions {
-        base: versions.base,
-        ours: &ours,
-        theirs: &theirs,
-    };
-    let merged = merge(alloc, versions, markers)?;
-    Ok(Some(output_of(alloc, file, marker, versions, merged)?))
+    let output = output_by_units(alloc, file, marker, versions.base, &ours, &theirs, markers)?;
+    Ok(Some(output))
 }
 
 /// Merges three versions of the file `file`. The units of the file are merged one by one. An entry that both sides changed is merged by its
