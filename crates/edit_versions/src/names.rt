@@ -53,7 +53,7 @@ fn up_to_colon(text: &str) -> &str
 }
 
 // Returns the words of a text, each with a space after it. Words are separated by ASCII white space.
-fn words_with_spaces(alloc: Global, text: &str) -> Result<Text, AllocError>
+pub(crate) fn words_with_spaces(alloc: Global, text: &str) -> Result<Text, AllocError>
     ensures { IfOk result (λ words. words ≡ spec.words_with_spaces text.now) }
 {
     let mut words = Text::new(alloc);
