@@ -120,5 +120,6 @@ orders_conflict_alike vs is =
     exchanged_conflict (are_equal_names (version_names vs.theirs) (version_names vs.base))
     (are_equal_names (version_names vs.ours) (version_names vs.base)) (is_alike_order vs.theirs vs.base)
     (is_alike_order vs.theirs vs.ours) (is_alike_order vs.ours vs.base) (is_alike_order vs.ours vs.theirs)
-    (names_symmetric (filter (has_unit_named vs.ours) (version_names vs.theirs)) (filter (has_unit_named vs.theirs) (version_names vs.ours)))
+    (names_symmetric (filter (has_unit_named vs.ours) (version_names vs.theirs))
+    (filter (has_unit_named vs.theirs) (version_names vs.ours)))
     is
