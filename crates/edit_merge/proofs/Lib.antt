@@ -1,5 +1,6 @@
 pub mod CleanFacts
 pub mod EntryFacts
+pub mod ExchangedFacts
 pub mod GroupFacts
 pub mod LostFacts
 pub mod OrderFacts

@@ -3,7 +3,7 @@ use Rattle.std.proofs.Common.{◌≡◌, inl, inr, ℕ, Bool, true, false, cond,
 use Rattle.std.specs.Prelude.{◌||◌, ◌⊎◌, not}
 use Rattle.edit_units.specs.Units.{UnitReading}
 use Rattle.edit_versions.proofs.IndexFacts.{AmongOrNone, among_or_none}
-use Rattle.edit_versions.specs.Alike.{are_alike_in_layout, is_alike, is_same}
+use Rattle.edit_versions.specs.Alike.{are_alike_in_layout, have_same_words, is_alike, is_same}
 use Rattle.edit_versions.specs.Versions.{VersionReading, named_index, own_part, version_unit}
 use Rattle.edit_merge.specs.Picked.{Versions, choice_at, choose, group_choice, is_alike_named, is_changed_group, is_repeated_in, slot_of}
 use Rattle.edit_merge.specs.declared.picking.Choice.TheVariants.{Ours, Theirs}
@@ -38,7 +38,7 @@ same_alike : (v : VersionReading) (u : Option UnitReading) (w : VersionReading) 
 same_alike v None w None is = refl
 same_alike v None w (Some x) is = absurd (cc)
 same_alike v (Some u) w None is = absurd (cc)
-same_alike v (Some u) w (Some x) is = ap (λ b. b || are_alike_in_layout v.text u w.text x) is
+same_alike v (Some u) w (Some x) is = ap (λ b. b || are_alike_in_layout v.text u w.text x || have_same_words v.text u w.text x) is
 
 not_false : (b : Bool) → not b ≡ true → b ≡ false
 not_false false is = refl

@@ -8,7 +8,7 @@ use Rattle.std.proofs.lemmas.Slice.Eq.{bytes_eq-Decides}
 use Rattle.edit_units.specs.Units.{AreUnits, UnitReading}
 use Rattle.edit_versions.proofs.IndexFacts.{IsAmong}
 use Rattle.edit_versions.proofs.TextFacts.{text_there}
-use Rattle.edit_versions.specs.Alike.{are_alike_in_layout, are_same_texts, is_alike, is_same}
+use Rattle.edit_versions.specs.Alike.{are_alike_in_layout, are_same_texts, have_same_words, is_alike, is_same}
 use Rattle.edit_versions.specs.Versions.{VersionReading, end_of, has_unit_named, indices_of, named_index, own_part, text_of_unit, texts_at, version_names, version_unit}
 use Rattle.edit_merge.specs.Clean.{IsPicked}
 use Rattle.edit_merge.specs.Merged.{MarkersReading, end_behind, is_without_blocks, is_same_space, picked_space, slot_text, space_at, start_of}
@@ -40,7 +40,8 @@ unit_same v u = texts_same (option_map (text_of_unit v.text) u)
 
 unit_alike : (v : VersionReading) (u : Option UnitReading) → is_alike v u v u ≡ true
 unit_alike v None = refl
-unit_alike v (Some u) = ap (λ b. b || are_alike_in_layout v.text u v.text u) (bytes_same (text_of_unit v.text u))
+unit_alike v (Some u) =
+    ap (λ b. b || are_alike_in_layout v.text u v.text u || have_same_words v.text u v.text u) (bytes_same (text_of_unit v.text u))
 
 names_same : (names : List (List ℕ)) → are_equal_names names names ≡ true
 names_same [] = refl

@@ -11,7 +11,7 @@ use Rattle.bib_syntax.specs.Grammar.{is_word}
 use Rattle.bib_syntax.specs.Reading.{EntryReading, FieldReading}
 use Rattle.bib_queries.specs.EqualValues.{are_equal_pieces}
 use Rattle.edit_units.specs.Units.{UnitReading}
-use Rattle.edit_versions.specs.Versions.{VersionReading, text_of_unit}
+use Rattle.edit_versions.specs.Versions.{VersionReading, text_of_unit, words_with_spaces}
 
 -- whether a byte isn't ASCII white space or a comma, which are the layout of an entry outside of its values
 abbrev pub is_no_layout : ℕ → Bool
@@ -86,9 +86,17 @@ are_alike_in_layout text u other v =
     not (has_comment_sign (text_of_unit text u)) && not (has_comment_sign (text_of_unit other v))
     && are_alike_by text u (single_entry u) other v (single_entry v)
 
--- whether two units of two texts are alike: they are equal, or each is an entry without comments and they differ in layout only
+-- whether two units of two texts have no blocks, and the same words
+abbrev pub have_same_words : List ℕ → UnitReading → List ℕ → UnitReading → Bool
+have_same_words text u other v =
+    length u.blocks == 0 && length v.blocks == 0
+    && bytes_eq (words_with_spaces (text_of_unit text u)) (words_with_spaces (text_of_unit other v))
+
+-- whether two units of two texts are alike: they are equal, or they differ in layout only, and each is an entry without comments, or a text
+-- without blocks
 abbrev pub are_alike : List ℕ → UnitReading → List ℕ → UnitReading → Bool
-are_alike text u other v = bytes_eq (text_of_unit text u) (text_of_unit other v) || are_alike_in_layout text u other v
+are_alike text u other v =
+    bytes_eq (text_of_unit text u) (text_of_unit other v) || are_alike_in_layout text u other v || have_same_words text u other v
 
 -- whether two texts are equal, or both are absent
 abbrev pub are_same_texts : Option (List ℕ) → Option (List ℕ) → Bool

@@ -5,9 +5,10 @@ ghost use Rattle.bib_text.specs.Places.{between, place};
 ghost use Rattle.bib_syntax.specs.Views.{entry_reading_of, field_of};
 ghost use Rattle.edit_units.specs.Views.{unit_reading_of};
 ghost use Rattle.edit_versions.specs.Alike as spec;
-ghost use Rattle.edit_versions.specs.Versions.{text_of_unit};
+ghost use Rattle.edit_versions.specs.Versions.{text_of_unit, words_with_spaces};
 ghost use Rattle.edit_versions.specs.Alike.{is_no_layout, outside_fields};
 
+use crate::names::words_with_spaces;
 use bib_queries::equal_values::are_equal_pieces;
 use bib_syntax::raw::{Pair, RawEntry, is_word};
 use bib_text::spanned::Spanned;
@@ -213,6 +214,36 @@ fn has_comment_sign(text: &str) -> bool
     text.as_bytes().contains(&b'%')
 }
 
+// Returns whether two units have no percent sign, and are alike by their entries. `own` and `other_own` are the bytes of the units.
+fn are_alike_in_layout(
+    alloc: Global,
+    text: &str,
+    unit: &Unit<'_>,
+    own: &str,
+    other: &str,
+    second: &Unit<'_>,
+    other_own: &str,
+) -> Result<bool, AllocError>
+    requires own { own.now ≡ text_of_unit text.now (unit_reading_of unit.now) }
+    requires other_own { other_own.now ≡ text_of_unit other.now (unit_reading_of second.now) }
+    ensures { IfOk result (λ alike. alike ≡
+        spec.are_alike_in_layout text.now (unit_reading_of unit.now) other.now (unit_reading_of second.now)) }
+{
+    if has_comment_sign(own) || has_comment_sign(other_own) {
+        return Ok(false);
+    }
+    are_alike_by(alloc, text.as_bytes(), unit, other.as_bytes(), second)
+}
+
+// Returns whether two texts have the same words.
+fn are_equal_words(alloc: Global, text: &str, other: &str) -> Result<bool, AllocError>
+    ensures { IfOk result (λ equal. equal ≡ bytes_eq (words_with_spaces text.now) (words_with_spaces other.now)) }
+{
+    let words = words_with_spaces(alloc, text)?;
+    let others = words_with_spaces(alloc, other)?;
+    Ok(words.as_str() == others.as_str())
+}
+
 // Returns whether two units of two texts are alike. `own` and `other_own` are the bytes of the units. Returns an error only if out of memory.
 pub(crate) fn are_alike(
     alloc: Global,
@@ -230,8 +261,11 @@ pub(crate) fn are_alike(
     if own == other_own {
         return Ok(true);
     }
-    if has_comment_sign(own) || has_comment_sign(other_own) {
-        return Ok(false);
+    if are_alike_in_layout(alloc, text, unit, own, other, second, other_own)? {
+        return Ok(true);
     }
-    are_alike_by(alloc, text.as_bytes(), unit, other.as_bytes(), second)
+    if unit.blocks.is_empty() && second.blocks.is_empty() {
+        return are_equal_words(alloc, own, other_own);
+    }
+    Ok(false)
 }
