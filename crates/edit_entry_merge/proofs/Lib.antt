@@ -8,4 +8,5 @@ mod MergeFacts
 mod MixedFacts
 mod NameFacts
 mod ReadFacts
+mod UnchangedFacts
 mod VersionFacts

@@ -4,9 +4,9 @@ use Rattle.std.specs.Prelude.{bytes_eq, ◌==◌, not, IfOk, Result, Ok, Err}
 use Rattle.std.specs.Borrow.{Bor}
 use Rattle.std.specs.List.{slice_split, onto_first}
 use Rattle.std.proofs.lemmas.Bool.Decides.{nat_tests}
-use Rattle.std.proofs.lemmas.List.{drop-map, drop_more, length-map, length-take-le, map-append, reverse-append, take-append-drop, take-map, take_more}
+use Rattle.std.proofs.lemmas.List.{append_cancel_left, append_cancel_right, drop-map, drop_more, length-map, length-take-le, map-append, reverse-append, take-append-drop, take-map, take_more}
 use Rattle.std.proofs.lemmas.Slice.Eq.{bytes_eq-Decides}
-use Rattle.edit_entry_merge.specs.ConflictTexts.{AreConflictParts, ConflictParts, IsMarkedText, MarkersReading, begin_alike, end_alike, joined, lines, marked_lines}
+use Rattle.edit_entry_merge.specs.ConflictTexts.{AreConflictParts, ConflictParts, IsConflictText, IsMarkedText, MarkersReading, begin_alike, between_markers, end_alike, joined, lines, marked_lines}
 use Rattle.edit_entry_merge.specs.Lines.{texts}
 
 -- ---- lines that two lists share
@@ -165,3 +165,27 @@ pub marked : {S E : Type 0} (bytes : S → List ℕ) (r : Result S E) (m : Marke
     → IfOk r (λ text. IsMarkedText m ours theirs (bytes text))
 marked bytes (Ok text) m ours theirs all p is lines are = record { parts = p; are = are; is = is ∙ ap joined lines }
 marked bytes (Err e) m ours theirs all p is lines are = tt
+
+-- the differing lines of equal lists are none
+pub none_differ : (ls : List (List ℕ)) (p : ConflictParts) → AreConflictParts ls ls p → (p.ours ≡ []) × (p.theirs ≡ [])
+none_differ ls p are =
+    let same : p.ours ≡ p.theirs =
+    append_cancel_right p.ours p.theirs p.end
+    (append_cancel_left p.start (p.ours ++ p.end) (p.theirs ++ p.end) (sym are.our_lines ∙ are.their_lines)) in
+    let none : p.theirs ≡ [] =
+    empty p.theirs (ap (λ l. begin_alike l p.theirs) (sym same) ∙ are.start_is_longest) in
+    (same ∙ none, none)
+  where
+    empty : (ms : List (List ℕ)) → begin_alike ms ms ≡ false → ms ≡ []
+    empty [] other = refl
+    empty (m ∷ ms) other = absurd (let clash : true ≡ false = sym ((bytes_eq-Decides m m).1 refl) ∙ other in cc)
+
+pub equal_marked : (m : MarkersReading) (text new : List ℕ) → IsConflictText m text text new → new ≡ text
+equal_marked m text new marked =
+    let p = marked.parts in
+    let none = none_differ (lines text) p marked.are in
+    marked.is
+    ∙ ap (λ l. joined (p.start ++ (between_markers m l p.theirs ++ p.end))) none.0
+    ∙ ap (λ l. joined (p.start ++ (between_markers m [] l ++ p.end))) none.1
+    ∙ sym (ap (λ l. joined (p.start ++ (l ++ p.end))) none.0)
+    ∙ ap joined (sym marked.are.our_lines) ∙ lines_joined text

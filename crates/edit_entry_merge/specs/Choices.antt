@@ -1,6 +1,6 @@
 -- Meaning: words of public contracts.
 -- Which side a merge chooses. A part of an entry has a value in the base and in each of the two sides; its absence is a value, too.
-use Rattle.std.specs.Prelude.{ℕ, Bool, true, false, not, ◌&&◌, cond, is_some, List, ◌++◌, filter, map, Option, Some, None, unwrap_or}
+use Rattle.std.specs.Prelude.{◌≡◌, ℕ, Bool, true, false, not, ◌&&◌, cond, is_some, List, ◌++◌, filter, map, Option, Some, None, unwrap_or}
 use Rattle.bib_queries.specs.EqualValues.{are_equal_pieces}
 use Rattle.bib_syntax.specs.Reading.{FieldReading}
 use Rattle.edit_entry_merge.specs.Versions.{Version, Versions, base_named, named}
@@ -26,6 +26,10 @@ choice vs name =
     choose (are_equal_fields (named name vs.theirs) (base_named name vs.base))
     (are_equal_fields (named name vs.ours) (base_named name vs.base))
     (are_equal_fields (named name vs.theirs) (named name vs.ours))
+
+-- two versions have equal values for each name, or both have none
+abbrev pub AreSameFields : Version → Version → Type 0
+AreSameFields v w = (name : List ℕ) → are_equal_fields (named name v) (named name w) ≡ true
 
 -- whether both sides changed the field with a name, and differently
 abbrev pub is_conflict : Versions → List ℕ → Bool
