@@ -1,10 +1,9 @@
 -- The edits of the last field that stays, and of the fields after it.
-use Rattle.std.proofs.Common.{◌≡◌, ℕ, suc, ◌-◌, ◌<◌, ◌+◌, List, [], ◌∷◌, ◌++◌, length, get_or, map, refl, sym, ap, ◌∙◌, arith, append_assoc, append-nil}
-use Rattle.std.specs.Prelude.{◌==◌, true, false}
+use Rattle.std.proofs.Common.{◌≡◌, ℕ, suc, ◌-◌, List, [], ◌∷◌, ◌++◌, length, get_or, map, refl, sym, ap, ◌∙◌, arith, append_assoc, append-nil}
+use Rattle.std.specs.Prelude.{◌==◌, true}
 use Rattle.std.proofs.lemmas.Bool.Decides.{nat_tests}
 use Rattle.bib_syntax.specs.Reading.{FieldReading}
 use Rattle.edit_entries.specs.Changes.{FieldChange, edits_of_field, edits_of_fields, removal_edits}
-use Rattle.edit_entries.specs.Edits.{Edit}
 use Rattle.edit_entry_merge.specs.Mixed.{closing_changes, last_changes, own_change}
 use Rattle.edit_entry_merge.specs.Picks.{FieldPick}
 use Rattle.edit_entry_merge.specs.Working.{all_removed}

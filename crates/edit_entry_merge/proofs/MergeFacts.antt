@@ -1,5 +1,5 @@
 -- The merge of three documents, step by step.
-use Rattle.std.proofs.Common.{◌≡◌, ℕ, true, false, List, [], ◌∷◌, length, refl, sym, ap, ◌∙◌, Option, Some, None}
+use Rattle.std.proofs.Common.{◌≡◌, ℕ, true, false, List, [], ◌∷◌, length, refl, ap, ◌∙◌, Option, Some, None}
 use Rattle.std.specs.Prelude.{◌==◌}
 use Rattle.edit_entries.specs.Documents.{Document}
 use Rattle.edit_entry_merge.specs.Choices.{conflicts}

@@ -1,5 +1,5 @@
 -- The fields of the main version and their picks may be cut out of their texts, and the edits are in order.
-use Rattle.std.proofs.Common.{◌≡◌, ℕ, Bool, true, false, cond, List, [], ◌∷◌, ◌++◌, filter, map, append-nil, refl, sym, ap, ◌∙◌, subst, Option, Some, None}
+use Rattle.std.proofs.Common.{◌≡◌, ℕ, Bool, true, false, cond, List, [], ◌∷◌, filter, map, append-nil, refl, ap, ◌∙◌, subst, Option, Some, None}
 use Rattle.std.specs.List.{AllByRecursion}
 use Rattle.bib_queries.specs.EqualValues.{are_equal_pieces}
 use Rattle.bib_text.proofs.ListFacts.{found_has}
@@ -8,11 +8,11 @@ use Rattle.edit_entries.specs.Changes.{EntryChange, edits_of_entries, edits_of_e
 use Rattle.edit_entries.specs.Documents.{Document, has_name}
 use Rattle.edit_entries.specs.EditList.{AreEditsInOrder}
 use Rattle.edit_entries.specs.Placed.{IsPlaced}
-use Rattle.edit_entries.proofs.AllFacts.{OfFields, all_placed}
+use Rattle.edit_entries.proofs.AllFacts.{all_placed}
 use Rattle.edit_entries.proofs.ChangesFacts.{changes_in_order}
 use Rattle.edit_entries.proofs.PartFacts.{AreEntriesIn, file_in}
 use Rattle.edit_entries.proofs.SetFacts.{names_in, signs_in}
-use Rattle.edit_entry_merge.specs.Picks.{FieldPick, additions, is_added, pick, pick_instead}
+use Rattle.edit_entry_merge.specs.Picks.{FieldPick, pick, pick_instead}
 use Rattle.edit_entry_merge.specs.Versions.{Version, named}
 use Rattle.edit_entry_merge.specs.Working.{AreEditable, IsPickPlaced, IsRead}
 

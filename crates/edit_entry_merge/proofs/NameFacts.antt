@@ -1,15 +1,14 @@
 -- Fields by their names: a map with the first field of each name, and fields whose names differ.
-use Rattle.std.proofs.Common.{◌≡◌, ℕ, Bool, true, false, cond, not, List, [], ◌∷◌, ◌++◌, map, refl, sym, ap, ◌∙◌, subst, is_some, Option, Some, None}
+use Rattle.std.proofs.Common.{◌≡◌, ℕ, Bool, true, false, cond, not, List, [], ◌∷◌, ◌++◌, refl, sym, ap, ◌∙◌, is_some, Option, Some, None}
 use Rattle.std.specs.Prelude.{String, ◌&&◌, ◌||◌, bytes_eq}
 use Rattle.std.specs.Borrow.{Bor}
 use Rattle.std.specs.BTreeMap.{BTreeMap, get_by_text}
 use Rattle.std.specs.List.{find, list_any}
-use Rattle.std.specs.Option.{option_map, option_or}
+use Rattle.std.specs.Option.{option_or}
 use Rattle.std.specs.Str.{str_to_ascii_lowercase}
 use Rattle.std.proofs.lemmas.List.Folds.{find-append}
 use Rattle.std.proofs.lemmas.Slice.Eq.{bytes_eq-Decides}
 use Rattle.bib_text.proofs.OptionFacts.{some_mapped, mapped_cond, or_none}
-use Rattle.bib_syntax.specs.Grammar.{is_word}
 use Rattle.bib_syntax.specs.Reading.{FieldReading}
 use Rattle.bib_syntax.specs.Views.{field_of}
 use Rattle.bib_syntax.specs.declared.raw.Pair.{Pair}

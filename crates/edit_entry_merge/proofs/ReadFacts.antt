@@ -1,14 +1,13 @@
 -- The text with the fields that count parses to the merged fields.
-use Rattle.std.proofs.Common.{◌≡◌, ℕ, ◌≤◌, Bool, true, false, cond, List, [], ◌∷◌, ◌++◌, filter, map, length, refl, sym, ap, ◌∙◌, subst, arith, append-nil, append_assoc, Option, Some, None}
+use Rattle.std.proofs.Common.{◌≡◌, ℕ, Bool, true, false, cond, List, [], ◌∷◌, ◌++◌, map, refl, sym, ap, ◌∙◌, subst, append-nil, append_assoc, Option, Some, None}
 use Rattle.std.specs.Prelude.{◌&&◌, ◌||◌, not}
 use Rattle.std.specs.List.{AllByRecursion, flat_map, list_all, list_any}
-use Rattle.std.specs.Str.{IsCharBoundary, IsUtf8}
 use Rattle.std.proofs.lemmas.Bool.{and_parts}
 use Rattle.std.proofs.lemmas.List.{map-append}
 use Rattle.bib_queries.specs.EqualValues.{are_equal_pieces}
-use Rattle.bib_text.proofs.ListFacts.{all_weaker, found_has}
+use Rattle.bib_text.proofs.ListFacts.{found_has}
 use Rattle.bib_syntax.specs.Grammar.{IsRawReading}
-use Rattle.bib_syntax.specs.Reading.{EntryReading, FieldReading, FileReading}
+use Rattle.bib_syntax.specs.Reading.{FieldReading, FileReading}
 use Rattle.edit_entries.specs.Changes.{EntryChange, FieldChange, IsReadPlaceless, edits_of_entry, entry_changed, field_changed, field_reading, fields_changed, file_changed, text_changed}
 use Rattle.edit_entries.specs.Documents.{Document, has_name}
 use Rattle.edit_entries.specs.Edits.{edited_all, moved_entry, moved_field, placeless}
@@ -20,11 +19,11 @@ use Rattle.edit_entries.proofs.NewValueFacts.{CanBeRead}
 use Rattle.edit_entries.proofs.WhiteBeforeFacts.{before_white}
 use Rattle.edit_entry_merge.specs.Merges.{merged_reading}
 use Rattle.edit_entry_merge.specs.Mixed.{can_write, closing_changes, copied, copied_field, field_changes, field_written, has_inner_comment, has_none, last_changes, mixed_change, mixed_text, own_change, sign_for}
-use Rattle.edit_entry_merge.specs.Picks.{FieldPick, additions, field_merged, is_added, is_staying, merged_fields, pick, pick_instead, picks}
+use Rattle.edit_entry_merge.specs.Picks.{FieldPick, additions, field_merged, is_added, is_staying, pick, pick_instead, picks}
 use Rattle.edit_entry_merge.specs.Versions.{Version, named}
 use Rattle.edit_entry_merge.specs.Working.{IsRead}
 use Rattle.edit_entry_merge.proofs.CopyFacts.{fields_can, signs_for}
-use Rattle.edit_entry_merge.proofs.MixedFacts.{document_edits, document_of, editable, filtered, only_has}
+use Rattle.edit_entry_merge.proofs.MixedFacts.{document_edits, document_of, editable, filtered}
 
 -- a field without byte offsets
 abbrev bare : FieldReading → FieldReading

@@ -1,5 +1,5 @@
 -- The merge if theirs changed nothing.
-use Rattle.std.proofs.Common.{◌≡◌, ℕ, Bool, true, false, cond, not, List, [], ◌∷◌, ◌++◌, filter, map, refl, sym, ap, ◌∙◌, subst, Option, Some, None}
+use Rattle.std.proofs.Common.{◌≡◌, ℕ, Bool, true, false, cond, not, List, [], ◌∷◌, filter, map, refl, sym, ap, ◌∙◌, Option, Some, None}
 use Rattle.std.specs.Prelude.{◌&&◌, ◌||◌, is_some, option_and_then, option_map, unwrap_or}
 use Rattle.std.specs.List.{list_all, list_any}
 use Rattle.bib_text.proofs.ListFacts.{some_same}
@@ -7,12 +7,12 @@ use Rattle.bib_syntax.specs.Reading.{EntryReading, FieldReading}
 use Rattle.edit_entries.specs.Changes.{FieldChange, edits_of_fields}
 use Rattle.edit_entries.specs.Documents.{Document}
 use Rattle.edit_entries.specs.Edits.{edited_all}
-use Rattle.edit_entry_merge.specs.Choices.{AreSameFields, are_different_sides, are_equal_fields, choice, choose, conflicts, has_named, is_conflict, all_fields, takes_other}
+use Rattle.edit_entry_merge.specs.Choices.{AreSameFields, are_different_sides, are_equal_fields, choice, choose, has_named, is_conflict, all_fields, takes_other}
 use Rattle.edit_entry_merge.specs.Frames.{are_alike_frames, are_same_frames, frame_choice}
-use Rattle.edit_entry_merge.specs.Merges.{MergeReading, entry_merge, merge_by, merge_in, merge_versions, text_for}
-use Rattle.edit_entry_merge.specs.Mixed.{can_write, field_changes, has_inner_comment, has_none, last_changes, mixed_text, own_change}
+use Rattle.edit_entry_merge.specs.Merges.{MergeReading, entry_merge, text_for}
+use Rattle.edit_entry_merge.specs.Mixed.{can_write, field_changes, has_inner_comment, last_changes, mixed_text, own_change}
 use Rattle.edit_entry_merge.specs.Picks.{FieldPick, additions, is_added, is_staying, pick, pick_instead, picks}
-use Rattle.edit_entry_merge.specs.Versions.{Version, Versions, are_found_by_name, base_named, named, version_by, version_of, versions_of}
+use Rattle.edit_entry_merge.specs.Versions.{Version, Versions, are_found_by_name, named, version_by, version_of}
 use Rattle.edit_entry_merge.specs.declared.choices.Side.{Side}
 use Rattle.edit_entry_merge.specs.declared.choices.Side.TheVariants.{Ours, Theirs}
 use Rattle.edit_entry_merge.proofs.MergeFacts.{merge_is}

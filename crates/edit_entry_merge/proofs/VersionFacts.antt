@@ -1,5 +1,5 @@
 -- The version that a document is.
-use Rattle.std.proofs.Common.{◌≡◌, ℕ, ◌+◌, ◌<◌, Bool, true, false, cond, List, [], ◌∷◌, length, get_or, refl, sym, ap, ◌∙◌, subst, arith, Option, Some, None}
+use Rattle.std.proofs.Common.{◌≡◌, ℕ, Bool, true, false, cond, List, [], ◌∷◌, length, get_or, refl, sym, ap, ◌∙◌, subst, arith, Some, None}
 use Rattle.std.specs.Prelude.{◌==◌}
 use Rattle.bib_syntax.specs.Reading.{EntryReading, FieldReading}
 use Rattle.std.specs.Str.{IsUtf8}

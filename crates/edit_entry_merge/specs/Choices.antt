@@ -1,6 +1,6 @@
 -- Meaning: words of public contracts.
 -- Which side a merge chooses. A part of an entry has a value in the base and in each of the two sides; its absence is a value, too.
-use Rattle.std.specs.Prelude.{◌≡◌, ℕ, Bool, true, false, not, ◌&&◌, cond, is_some, List, ◌++◌, filter, map, Option, Some, None, unwrap_or}
+use Rattle.std.specs.Prelude.{◌≡◌, ℕ, Bool, true, false, not, cond, is_some, List, ◌++◌, filter, map, Option, Some, None, unwrap_or}
 use Rattle.bib_queries.specs.EqualValues.{are_equal_pieces}
 use Rattle.bib_syntax.specs.Reading.{FieldReading}
 use Rattle.edit_entry_merge.specs.Versions.{Version, Versions, base_named, named}

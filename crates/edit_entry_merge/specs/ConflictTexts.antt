@@ -1,6 +1,6 @@
 -- Meaning: words of public contracts.
 -- Two texts as one, with marker lines around the lines in which they differ.
-use Rattle.std.specs.Prelude.{◌≡◌, ◌==◌, ℕ, Bool, true, false, List, [], ◌∷◌, ◌++◌, bytes_eq, reverse}
+use Rattle.std.specs.Prelude.{◌≡◌, ◌==◌, ℕ, Bool, false, List, [], ◌∷◌, ◌++◌, bytes_eq, reverse}
 use Rattle.std.specs.List.{slice_split}
 use Rattle.bib_text.specs.Characters as char
 use Rattle.edit_entry_merge.specs.declared.conflict_text.Markers.{Markers}

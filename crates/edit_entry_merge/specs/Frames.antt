@@ -6,7 +6,7 @@ use Rattle.std.specs.Char.{is_ascii_whitespace}
 use Rattle.bib_text.specs.Characters as char
 use Rattle.bib_text.specs.Places.{between, place}
 use Rattle.bib_syntax.specs.Grammar.{is_word}
-use Rattle.bib_syntax.specs.Reading.{EntryReading, FieldReading}
+use Rattle.bib_syntax.specs.Reading.{FieldReading}
 use Rattle.edit_entry_merge.specs.Choices.{choose}
 use Rattle.edit_entry_merge.specs.Versions.{Version, Versions}
 use Rattle.edit_entry_merge.specs.declared.choices.Side.{Side}

@@ -1,9 +1,7 @@
 -- Meaning: words of public contracts.
 -- The merge of three versions of an entry by its fields.
-use Rattle.std.specs.Prelude.{ℕ, Bool, List, [], ◌∷◌, Option, Some, None, option_map}
-use Rattle.std.specs.String.{string_bytes}
-use Rattle.bib_syntax.specs.Reading.{EntryReading, FileReading}
-use Rattle.edit_entries.specs.Changes.{IsReadPlaceless}
+use Rattle.std.specs.Prelude.{ℕ, Bool, List, [], ◌∷◌, Option, Some, None}
+use Rattle.bib_syntax.specs.Reading.{FileReading}
 use Rattle.edit_entries.specs.Documents.{Document}
 use Rattle.edit_entry_merge.specs.Choices.{conflicts, other_side, takes_other, version_at}
 use Rattle.edit_entry_merge.specs.Frames.{frame_choice}

@@ -98,9 +98,23 @@ fn entry_edits(
     let fields = texts.fields;
     'fields: for index in 0..last {
         let following = &fields[index + 1..];
-        push_own(&mut edits, alloc, texts, &fields[index], following, picks[index])?;
+        push_own(
+            &mut edits,
+            alloc,
+            texts,
+            &fields[index],
+            following,
+            picks[index],
+        )?;
     }
-    push_last(&mut edits, alloc, texts, &fields[last..], picks[last], added)?;
+    push_last(
+        &mut edits,
+        alloc,
+        texts,
+        &fields[last..],
+        picks[last],
+        added,
+    )?;
     Ok(edits)
 }
 

@@ -43,7 +43,11 @@ fn without_layout(alloc: Global, bytes: &[u8]) -> Result<Vec<u8>, AllocError>
         if in_comment || !is_layout {
             kept.push(*byte)?;
         }
-        in_comment = if in_comment { *byte != b'\n' } else { *byte == b'%' };
+        in_comment = if in_comment {
+            *byte != b'\n'
+        } else {
+            *byte == b'%'
+        };
     }
     Ok(kept)
 }

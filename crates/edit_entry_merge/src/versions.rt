@@ -65,7 +65,11 @@ fn fields_by_name<'a, 's>(
         let is_new = insert_field(&mut names, alloc, field)?;
         are_distinct = are_distinct && is_new;
     }
-    if are_distinct { Ok(Some(names)) } else { Ok(None) }
+    if are_distinct {
+        Ok(Some(names))
+    } else {
+        Ok(None)
+    }
 }
 
 impl<'a, 's> Version<'a, 's> {

@@ -1,4 +1,4 @@
-use Rattle.std.proofs.Common.{◌≡◌, ◌++◌, ◌∙◌, ◌-◌, ℕ, List, ap, append_assoc, arith, drop, length, map, subst, sym, take, false}
+use Rattle.std.proofs.Common.{◌≡◌, ◌++◌, ◌∙◌, ◌-◌, ℕ, List, ap, append_assoc, drop, length, sym, take, false}
 use Rattle.std.specs.Borrow.{Bor}
 use Rattle.std.specs.String.{string_bytes}
 use Rattle.std.proofs.lemmas.List.{drop-map, take-map}
@@ -22,8 +22,8 @@ returns c =
     let our_rest : texts rs ≡ drop s (texts xs) = ap texts (take_to_end xs s) ∙ sym (drop-map (λ l. l.now) s xs) in
     let their_rest : texts qs ≡ drop s (texts ys) = ap texts (take_to_end ys s) ∙ sym (drop-map (λ l. l.now) s ys) in
     let lines : texts c.deref.result.now
-        ≡ marked_lines m
-        (record { start = take s (texts xs); ours = take k (texts rs); theirs = take j (texts qs); end = drop k (texts rs) }) =
+    ≡ marked_lines m
+    (record { start = take s (texts xs); ours = take k (texts rs); theirs = take j (texts qs); end = drop k (texts rs) }) =
     ap texts c.deref.ensures.value ∙ c.in_ok-push_lines-2.ensures
     ∙ ap (λ l. l ++ texts (take (length rs - k) (drop k rs))) (c.in_ok-push_marked.ensures
     ∙ ap (λ l. l ++ between_markers m (texts (take k rs)) (texts (take j qs)))

@@ -1,4 +1,4 @@
-use Rattle.std.proofs.Common.{◌≡◌, ◌+◌, ◌-◌, ◌∙◌, ℕ, ap, arith, drop, length, subst, sym, take, false}
+use Rattle.std.proofs.Common.{◌≡◌, ◌+◌, ◌-◌, ◌∙◌, ap, arith, drop, length, subst, sym, take, false}
 use Rattle.edit_entry_merge.specs.ConflictTexts.{end_alike}
 use Rattle.edit_entry_merge.specs.Lines.{texts}
 use Rattle.edit_entry_merge.proofs.LineFacts.{differ_up_to, not_false, not_true, same_from}

@@ -1,12 +1,10 @@
-use Rattle.std.proofs.Common.{◌≡◌, ◌∙◌, ◌<◌, Bool, List, ap, arith, length, map, not, sym, true, false, cond}
-use Rattle.std.specs.Prelude.{◌==◌, ◌&&◌, ◌||◌}
+use Rattle.std.proofs.Common.{◌≡◌, ◌∙◌, ap, arith, map, not, sym, true, false}
+use Rattle.std.specs.Prelude.{◌&&◌, ◌||◌}
 use Rattle.std.specs.List.{list_all, list_any}
-use Rattle.std.proofs.lemmas.Bool.Decides.{nat_tests}
-use Rattle.std.proofs.lemmas.List.{length-map}
 use Rattle.bib_syntax.specs.Views.{field_of}
 use Rattle.edit_entry_merge.specs.Mixed.{has_inner_comment, has_none}
 use Rattle.edit_entry_merge.specs.Picks.{is_staying}
-use Rattle.edit_entry_merge.specs.Working.{added_fields, count_to_last, pick_of, version_reading}
+use Rattle.edit_entry_merge.specs.Working.{added_fields, pick_of, version_reading}
 use Rattle.edit_entry_merge.proofs.CountFacts.{none_is, none_stays, one_stays}
 use Rattle.edit_entry_merge.proofs.edits.can_write.Goals as goal
 use Rattle.edit_entry_merge.proofs.edits.can_write.Goals.{else-are_staying-via-then-are_staying+else-is_empty, else-are_staying-via-else-are_staying}

@@ -1,6 +1,6 @@
 use Rattle.std.proofs.Common.{◌≡◌, ◌++◌, ◌∷◌, ◌∙◌, ◌+◌, ◌-◌, ◌<◌, ℕ, List, ap, append_assoc, arith, drop, length, map, subst, sym, true, false}
 use Rattle.std.specs.List.{AllByRecursion, list_any}
-use Rattle.std.proofs.lemmas.List.{length-map, length-drop}
+use Rattle.std.proofs.lemmas.List.{length-map}
 use Rattle.bib_text.proofs.ListFacts.{drop_is, take_to_end}
 use Rattle.bib_syntax.specs.Reading.{FieldReading}
 use Rattle.bib_syntax.specs.Views.{field_of}
@@ -67,7 +67,7 @@ fields-preserved c =
     let now : List Edit = map edit_of c.push_own.new.edits.items in
     let later : List Edit = edits_of_fields main fs (field_changes main other all added ps fs) in
     let own : map edit_of c.push_own.new.edits.items
-        ≡ map edit_of c.fields.edits.items ++ edits_of_field main f fs (own_change other p) =
+    ≡ map edit_of c.fields.edits.items ++ edits_of_field main f fs (own_change other p) =
     c.in_ok-push_own.ensures
     ∙ ap (λ l. map edit_of c.fields.edits.items ++ edits_of_field main f (map field_of l) (own_change other p)) (take_to_end xs (i + 1)) in
     record {

@@ -1,8 +1,7 @@
-use Rattle.std.proofs.Common.{◌≡◌, ◌∙◌, ℕ, List, ap, length, sym, false, Option, Some, None}
+use Rattle.std.proofs.Common.{◌≡◌, ◌∙◌, ap, length, sym, false, Option, Some, None}
 use Rattle.std.specs.Prelude.{◌==◌, option_map}
 use Rattle.std.specs.String.{string_bytes}
 use Rattle.edit_entries.specs.Documents.{Document}
-use Rattle.edit_entry_merge.specs.Choices.{conflicts}
 use Rattle.edit_entry_merge.specs.Frames.{frame_choice}
 use Rattle.edit_entry_merge.specs.Merges.{text_for}
 use Rattle.edit_entry_merge.specs.Versions.{Versions, versions_of}

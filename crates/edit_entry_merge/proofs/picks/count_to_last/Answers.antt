@@ -1,4 +1,4 @@
-use Rattle.std.proofs.Common.{◌≡◌, ◌++◌, ◌∷◌, [], suc, ◌∙◌, ap, arith, cond, length, map, sym, take, ◌+◌, ℕ, List}
+use Rattle.std.proofs.Common.{◌≡◌, suc, ◌∙◌, ap, arith, cond, length, map, sym, take, ◌+◌, List}
 use Rattle.std.proofs.lemmas.List.{length-map, length-take-le}
 use Rattle.bib_text.proofs.ListFacts.{mapped_more}
 use Rattle.edit_entry_merge.specs.Picks.{FieldPick, is_staying}

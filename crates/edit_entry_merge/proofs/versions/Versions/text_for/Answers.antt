@@ -1,15 +1,13 @@
-use Rattle.std.proofs.Common.{◌≡◌, ◌∙◌, ℕ, Bool, List, ap, cond, filter, map, subst, sym, true, false, Option, Some, None}
+use Rattle.std.proofs.Common.{◌≡◌, ◌∙◌, ℕ, Bool, List, ap, filter, map, subst, sym, None}
 use Rattle.std.specs.List.{AllByRecursion}
-use Rattle.std.specs.String.{string_bytes}
 use Rattle.bib_syntax.specs.Reading.{FieldReading}
-use Rattle.bib_syntax.specs.Views.{entry_reading_of, field_of}
+use Rattle.bib_syntax.specs.Views.{field_of}
 use Rattle.edit_entries.specs.Changes.{EntryChange, edits_of_entry, edits_of_fields}
 use Rattle.edit_entries.specs.EditList.{AreEditsInOrder, edit_of}
-use Rattle.edit_entries.specs.Edits.{Edit, edited_all}
 use Rattle.edit_entries.specs.Placed.{IsPlaced}
 use Rattle.edit_entry_merge.specs.Choices.{other_side, takes_other, version_at}
-use Rattle.edit_entry_merge.specs.Mixed.{can_write, field_changes, mixed_change, mixed_text}
-use Rattle.edit_entry_merge.specs.Picks.{FieldPick, additions, is_added, pick, picks}
+use Rattle.edit_entry_merge.specs.Mixed.{field_changes}
+use Rattle.edit_entry_merge.specs.Picks.{is_added, pick}
 use Rattle.edit_entry_merge.specs.Versions.{Version, Versions}
 use Rattle.edit_entry_merge.specs.Working.{AreEditable, IsPickPlaced, added_fields, pick_of, version_reading, versions_reading}
 use Rattle.edit_entry_merge.proofs.MixedFacts.{all_values, editable, filtered, in_order, picks_placed}
