@@ -192,7 +192,8 @@ elements_copied {a} {v} {z} {u} {v'} {w} (elements.last {v = x} {e = e} first wh
           (record { run = run_append run over.run; stops = over.stops }) no_hash;
       alike = ap (λ p. p ∷ []) (piece_placeless move e);
     }
-elements_copied {a} {v} {z} {u} {v'} {w} (elements.more {v = x} {w = y} {x = p} {y = q} {e = e} {es = es} first white sign white' later) end same within s
+elements_copied {a} {v} {z} {u} {v'} {w}
+    (elements.more {v = x} {w = y} {x = p} {y = q} {e = e} {es = es} first white sign white' later) end same within s
     ending over no_hash =
     let to_x = ahead_element first in
     let to_y = ahead_run white.run in

@@ -26,7 +26,7 @@ use Rattle.edit_entries.proofs.ValueFacts.{field_placed}
 use Rattle.edit_entries.proofs.WhiteBeforeFacts.{white_ascii}
 use Rattle.edit_entry_merge.specs.Mixed.{copied_field, has_plain_sign, own_sign, sign_for}
 use Rattle.edit_entry_merge.specs.Versions.{Version}
-use Rattle.edit_entry_merge.specs.Working.{IsRead}
+use Rattle.edit_entry_merge.specs.Working.{IsReadVersion}
 use Rattle.edit_entry_merge.proofs.CopiedFacts.{copied_read, run_copied}
 use Rattle.edit_entry_merge.proofs.MixedFacts.{document_of, only_has}
 
@@ -70,7 +70,7 @@ field_can field =
 -- ---- fields
 
 -- each field of a version can be copied
-pub fields_can : (v : Version) → IsRead v → AllByRecursion (λ f. CanBePut (copied_field v.text f)) v.entry.fields
+pub fields_can : (v : Version) → IsReadVersion v → AllByRecursion (λ f. CanBePut (copied_field v.text f)) v.entry.fields
 fields_can v r =
     let d : Document = document_of v r in
     only_has (λ e. AllByRecursion (λ f. CanBePut (copied_field v.text f)) e.fields) v r

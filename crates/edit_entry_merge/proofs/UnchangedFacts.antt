@@ -7,12 +7,12 @@ use Rattle.bib_syntax.specs.Reading.{EntryReading, FieldReading}
 use Rattle.edit_entries.specs.Changes.{FieldChange, edits_of_fields}
 use Rattle.edit_entries.specs.Documents.{Document}
 use Rattle.edit_entries.specs.Edits.{edited_all}
-use Rattle.edit_entry_merge.specs.Choices.{AreSameFields, are_different_sides, are_equal_fields, choice, choose, has_named, is_conflict, all_fields, takes_other}
+use Rattle.edit_entry_merge.specs.Choices.{AreSameByName, are_different_sides, are_equal_fields, choice, counting_side, has_field_named, is_conflict, fields_of_sides, takes_other}
 use Rattle.edit_entry_merge.specs.Frames.{are_alike_frames, are_same_frames, frame_choice}
 use Rattle.edit_entry_merge.specs.Merges.{MergeReading, entry_merge, text_for}
-use Rattle.edit_entry_merge.specs.Mixed.{can_write, field_changes, has_inner_comment, last_changes, mixed_text, own_change}
+use Rattle.edit_entry_merge.specs.Mixed.{can_write, mixed_field_changes, has_inner_comment, last_changes, mixed_text, picked_change}
 use Rattle.edit_entry_merge.specs.Picks.{FieldPick, additions, is_added, is_staying, pick, pick_instead, picks}
-use Rattle.edit_entry_merge.specs.Versions.{Version, Versions, are_found_by_name, named, version_by, version_of}
+use Rattle.edit_entry_merge.specs.Versions.{Version, EntryVersions, are_found_by_name, named, version_by, version_of}
 use Rattle.edit_entry_merge.specs.declared.choices.Side.{Side}
 use Rattle.edit_entry_merge.specs.declared.choices.Side.TheVariants.{Ours, Theirs}
 use Rattle.edit_entry_merge.proofs.MergeFacts.{merge_is}
@@ -26,26 +26,27 @@ module _ (takes : List ℕ → Bool) (main other : Version) (none : (name : List
   no_additions : (gs : List FieldReading) → filter (is_added takes main) gs ≡ []
   no_additions [] = refl
   no_additions (g ∷ gs) =
-      ap (λ b. cond (b && not (has_named g.name.text main)) (g ∷ filter (is_added takes main) gs) (filter (is_added takes main) gs))
+      ap (λ b. cond (b && not (has_field_named g.name.text main)) (g ∷ filter (is_added takes main) gs) (filter (is_added takes main) gs))
       (none g.name.text)
       ∙ no_additions gs
 
   no_edits : (text others : List ℕ) (all : List FieldReading) (fs : List FieldReading)
-      → edits_of_fields text fs (field_changes text others all [] (map (pick takes other) fs) fs) ≡ []
+      → edits_of_fields text fs (mixed_field_changes text others all [] (map (pick takes other) fs) fs) ≡ []
   no_edits text others all [] = refl
   no_edits text others all (f ∷ fs) =
       ap
       (λ p.
       edits_of_fields text (f ∷ fs)
       (cond (list_any is_staying (map (pick takes other) fs))
-      (own_change others p ∷ field_changes text others all [] (map (pick takes other) fs) fs)
+      (picked_change others p ∷ mixed_field_changes text others all [] (map (pick takes other) fs) fs)
       (last_changes text others all f p fs []))) (pick_keeps f)
       ∙ by_rest fs (no_edits text others all fs)
     where
-      by_rest : (gs : List FieldReading) → edits_of_fields text gs (field_changes text others all [] (map (pick takes other) gs) gs) ≡ []
+      by_rest : (gs : List FieldReading)
+          → edits_of_fields text gs (mixed_field_changes text others all [] (map (pick takes other) gs) gs) ≡ []
           → edits_of_fields text (f ∷ gs)
           (cond (list_any is_staying (map (pick takes other) gs))
-          (FieldChange.kept ∷ field_changes text others all [] (map (pick takes other) gs) gs)
+          (FieldChange.kept ∷ mixed_field_changes text others all [] (map (pick takes other) gs) gs)
           (last_changes text others all f FieldPick.keep gs []))
           ≡ []
       by_rest [] rest = refl
@@ -54,7 +55,7 @@ module _ (takes : List ℕ → Bool) (main other : Version) (none : (name : List
           (λ p.
           edits_of_fields text (f ∷ g ∷ gs)
           (cond (is_staying p || list_any is_staying (map (pick takes other) gs))
-          (FieldChange.kept ∷ field_changes text others all [] (map (pick takes other) (g ∷ gs)) (g ∷ gs))
+          (FieldChange.kept ∷ mixed_field_changes text others all [] (map (pick takes other) (g ∷ gs)) (g ∷ gs))
           (last_changes text others all f FieldPick.keep (g ∷ gs) []))) (pick_keeps g)
           ∙ rest
 
@@ -74,7 +75,7 @@ module _ (takes : List ℕ → Bool) (main other : Version) (none : (name : List
       let fs : List FieldReading = main.entry.fields in
       let new : List FieldReading → List ℕ =
       λ (l : List FieldReading).
-      edited_all (edits_of_fields main.text fs (field_changes main.text other.text fs l (picks takes main other) fs)) main.text in
+      edited_all (edits_of_fields main.text fs (mixed_field_changes main.text other.text fs l (picks takes main other) fs)) main.text in
       ap (λ l. cond (can_write main (picks takes main other) l) (Some (new l)) None) added
       ∙ ap (λ b. cond (b && ((list_all is_staying (picks takes main other) && true) || not (has_inner_comment main))) (Some (new [])) None)
       (one_stays fs found)
@@ -83,12 +84,12 @@ module _ (takes : List ℕ → Bool) (main other : Version) (none : (name : List
 
 -- ---- theirs is the base
 
-module _ (b o t : Version) (same : AreSameFields t b) where
+module _ (b o t : Version) (same : AreSameByName t b) where
   ours_counts : (name : List ℕ) → choice (record { base = Some b; ours = o; theirs = t }) name ≡ Some Ours
   ours_counts name =
       ap
       (λ is.
-      choose is (are_equal_fields (named name o) (named name b)) (are_equal_fields (named name t) (named name o))) (same name)
+      counting_side is (are_equal_fields (named name o) (named name b)) (are_equal_fields (named name t) (named name o))) (same name)
 
   nothing_taken : (prefer : Side) (name : List ℕ) → takes_other (record { base = Some b; ours = o; theirs = t }) Ours prefer name ≡ false
   nothing_taken prefer name = ap (λ c. are_different_sides Ours (unwrap_or c prefer)) (ours_counts name)
@@ -106,18 +107,21 @@ module _ (b o t : Version) (same : AreSameFields t b) where
       ∙ no_conflicts fs
 
 versions_are : (x y z : Option Version) (b o t : Version) → x ≡ Some b → y ≡ Some o → z ≡ Some t
-    → option_and_then (λ c. option_and_then (λ p. option_map (λ q. let vs : Versions = record { base = c; ours = p; theirs = q } in vs) z) y)
+    → option_and_then (λ c.
+    option_and_then (λ p. option_map (λ q. let vs : EntryVersions = record { base = c; ours = p; theirs = q } in vs) z) y)
     (option_map Some x)
     ≡ Some (record { base = Some b; ours = o; theirs = t })
 versions_are x y z b o t is_b is_o is_t =
     ap
     (λ l.
-    option_and_then (λ c. option_and_then (λ p. option_map (λ q. let vs : Versions = record { base = c; ours = p; theirs = q } in vs) z) y)
+    option_and_then (λ c. option_and_then (λ p.
+    option_map (λ q. let vs : EntryVersions = record { base = c; ours = p; theirs = q } in vs) z) y)
     (option_map Some l)) is_b
-    ∙ ap (option_and_then (λ p. option_map (λ q. let vs : Versions = record { base = Some b; ours = p; theirs = q } in vs) z)) is_o
-    ∙ ap (option_map (λ q. let vs : Versions = record { base = Some b; ours = o; theirs = q } in vs)) is_t
+    ∙ ap (option_and_then (λ p. option_map (λ q. let vs : EntryVersions = record { base = Some b; ours = p; theirs = q } in vs) z)) is_o
+    ∙ ap (option_map (λ q. let vs : EntryVersions = record { base = Some b; ours = o; theirs = q } in vs)) is_t
 
-found_by : (text : List ℕ) (v : Version) (es : List EntryReading) → version_by text es ≡ Some v → (are_found_by_name v.entry.fields ≡ true) × (v.text ≡ text)
+found_by : (text : List ℕ) (v : Version) (es : List EntryReading) → version_by text es ≡ Some v
+    → (are_found_by_name v.entry.fields ≡ true) × (v.text ≡ text)
 found_by text v [] is = absurd (cc)
 found_by text v (e ∷ []) is = by_case (are_found_by_name e.fields) refl is
   where
@@ -131,20 +135,21 @@ found_by text v (e ∷ other ∷ es) is = absurd (cc)
 
 -- the merge is ours, if theirs has the values and the frame of the base
 pub unchanged : (base ours theirs : Document) (b o t : Version) → version_of base ≡ Some b → version_of ours ≡ Some o
-    → version_of theirs ≡ Some t → AreSameFields t b → are_same_frames t b ≡ true
+    → version_of theirs ≡ Some t → AreSameByName t b → are_same_frames t b ≡ true
     → entry_merge (Some base) ours theirs ≡ MergeReading.merged ours.text
 unchanged base ours theirs b o t is_b is_o is_t same frame =
-    let vs : Versions = record { base = Some b; ours = o; theirs = t } in
+    let vs : EntryVersions = record { base = Some b; ours = o; theirs = t } in
     let found = found_by ours.text o ours.says.entries is_o in
     let counts : Some Ours ≡ frame_choice vs =
     sym
     (ap
     (λ x.
     cond x (Some Ours)
-    (cond (are_same_frames o b) (Some Theirs) (choose (are_alike_frames t b) (are_alike_frames o b) (are_alike_frames t o)))) frame) in
+    (cond (are_same_frames o b) (Some Theirs)
+    (counting_side (are_alike_frames t b) (are_alike_frames o b) (are_alike_frames t o)))) frame) in
     sym
     (merge_is (Some base) ours theirs vs Ours (Some o.text) (text_for vs Ours Theirs) []
     (sym (versions_are (version_of base) (version_of ours) (version_of theirs) b o t is_b is_o is_t)) counts
     (sym (text_stays (takes_other vs Ours Ours) o t (nothing_taken b o t same Ours) found.0)) refl
-    (sym (no_conflicts b o t same (all_fields vs))))
+    (sym (no_conflicts b o t same (fields_of_sides vs))))
     ∙ ap MergeReading.merged found.1

@@ -4,11 +4,11 @@ ghost use Rattle.std.specs.Prelude.{◌≡◌, ◌++◌, ℕ, Bool, List, Some, 
 ghost use Rattle.std.specs.Str.{IsUtf8};
 ghost use Rattle.edit_entries.specs.Changes.{IsReadPlaceless};
 ghost use Rattle.edit_entries.specs.Documents.{Document, IsDocument};
-ghost use Rattle.edit_entry_merge.specs.ConflictTexts.{AreConflictParts, ConflictParts, IsConflictText, MarkersReading, joined, lines};
+ghost use Rattle.edit_entry_merge.specs.ConflictTexts.{AreConflictParts, ConflictParts, IsConflictText, MarkerLines, lines_as_text, lines};
 ghost use Rattle.edit_entry_merge.specs.Frames.{are_same_frames};
 ghost use Rattle.edit_entry_merge.specs.Merges.{MergeReading, entry_merge, merged_reading};
 ghost use Rattle.edit_entry_merge.specs.Mixed.{mixed_text};
-ghost use Rattle.edit_entry_merge.specs.Choices.{AreSameFields};
+ghost use Rattle.edit_entry_merge.specs.Choices.{AreSameByName};
 ghost use Rattle.edit_entry_merge.specs.Versions.{Version, version_of};
 
 /// States that the text of a version with the fields that count parses to the entry with the merged fields, except for byte offsets.
@@ -21,17 +21,17 @@ pub fn mixed_texts_are_read()
 /// States that the merge is the text of ours, byte for byte, if theirs has the values and the frame of the base.
 pub fn unchanged_theirs_gives_ours()
     ensures { (base ours theirs : Document) (b o t : Version) → version_of base ≡ Some b → version_of ours ≡ Some o →
-        version_of theirs ≡ Some t → AreSameFields t b → are_same_frames t b ≡ true →
+        version_of theirs ≡ Some t → AreSameByName t b → are_same_frames t b ≡ true →
         entry_merge (Some base) ours theirs ≡ MergeReading.merged ours.text }
 {}
 
 /// States that the lines of the parts of a conflict, with the part of one side, are the text of this side.
 pub fn conflict_parts_are_the_texts()
     ensures { (ours theirs : List ℕ) (p : ConflictParts) → AreConflictParts (lines ours) (lines theirs) p →
-        (joined (p.start ++ (p.ours ++ p.end)) ≡ ours) × (joined (p.start ++ (p.theirs ++ p.end)) ≡ theirs) }
+        (lines_as_text (p.start ++ (p.ours ++ p.end)) ≡ ours) × (lines_as_text (p.start ++ (p.theirs ++ p.end)) ≡ theirs) }
 {}
 
 /// States that two equal texts have no markers.
 pub fn equal_texts_have_no_markers()
-    ensures { (m : MarkersReading) (text new : List ℕ) → IsConflictText m text text new → new ≡ text }
+    ensures { (m : MarkerLines) (text new : List ℕ) → IsConflictText m text text new → new ≡ text }
 {}
