@@ -1,3 +1,4 @@
+mod ChosenFacts
 mod ClosingFacts
 mod CopiedFacts
 mod CopyFacts
