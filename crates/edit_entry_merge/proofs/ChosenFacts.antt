@@ -1,5 +1,5 @@
 -- The field with a name in the merged entry is that of the side that counts.
-use Rattle.std.proofs.Common.{◌≡◌, ℕ, Bool, true, false, cond, not, List, [], ◌∷◌, ◌++◌, filter, map, refl, sym, ap, ◌∙◌, subst, Option, Some, None}
+use Rattle.std.proofs.Common.{◌≡◌, ℕ, Bool, true, false, cond, not, List, [], ◌∷◌, filter, refl, sym, ap, ◌∙◌, subst, Option, Some, None}
 use Rattle.std.specs.Prelude.{◌&&◌, ◌||◌, bytes_eq, is_some, unwrap_or}
 use Rattle.std.specs.List.{find, flat_map, list_any}
 use Rattle.std.specs.Option.{option_or}
@@ -55,7 +55,8 @@ none_found : (name : List ℕ) (fs : List FieldReading) → list_any (has_name n
 none_found name [] none = refl
 none_found name (f ∷ fs) none = by_case (has_name name f) none (none_found name fs)
   where
-    by_case : (b : Bool) → (b || list_any (has_name name) fs) ≡ false → (list_any (has_name name) fs ≡ false → find (has_name name) fs ≡ None)
+    by_case : (b : Bool) → (b || list_any (has_name name) fs) ≡ false
+        → (list_any (has_name name) fs ≡ false → find (has_name name) fs ≡ None)
         → cond b (Some f) (find (has_name name) fs) ≡ None
     by_case true none rest = absurd (cc)
     by_case false none rest = rest none
@@ -78,12 +79,14 @@ others_lack name f fs distinct named = by_list fs (first (list_any (λ g. has_na
             → (b || list_any (has_name name) gs) ≡ false
         by_case true same rest =
             let is : has_name g.name.text f ≡ true =
-            (bytes_eq-Decides (lower f.name.text) (lower g.name.text)).1 (lowers f.name.text name named ∙ sym (lowers g.name.text name same)) in
+            (bytes_eq-Decides (lower f.name.text) (lower g.name.text)).1 (lowers f.name.text name named
+            ∙ sym (lowers g.name.text name same)) in
             let clash : true ≡ false = ap (λ b. b || list_any (λ h. has_name h.name.text f) gs) (sym is) ∙ none in
             cc
         by_case false same rest = rest (rests (has_name g.name.text f) none)
           where
-            rests : (b : Bool) → (b || list_any (λ h. has_name h.name.text f) gs) ≡ false → list_any (λ h. has_name h.name.text f) gs ≡ false
+            rests : (b : Bool) → (b || list_any (λ h. has_name h.name.text f) gs) ≡ false
+                → list_any (λ h. has_name h.name.text f) gs ≡ false
             rests true none = absurd (cc)
             rests false none = none
 
@@ -115,7 +118,8 @@ module _ (takes : List ℕ → Bool) (main other : Version) (name : List ℕ)
   or_nothing (Some f) p is = refl
   or_nothing None p is = is
 
-  main_found : (fs : List FieldReading) → have_distinct_names fs ≡ true → find (has_name name) (merged fs) ≡ becomes (find (has_name name) fs)
+  main_found : (fs : List FieldReading) → have_distinct_names fs ≡ true → find (has_name name) (merged fs)
+      ≡ becomes (find (has_name name) fs)
   main_found [] distinct = refl
   main_found (f ∷ fs) distinct =
       find-append (has_name name) (field_merged f (pick takes other f)) (merged fs)
@@ -167,7 +171,8 @@ module _ (takes : List ℕ → Bool) (main other : Version) (name : List ℕ)
 
   -- the field with the name is that of the version that counts
   pub field_is : have_distinct_names main.entry.fields ≡ true
-      → are_equal_fields (find (has_name name) (merged_fields takes main other)) (cond (takes name) (named name other) (named name main)) ≡ true
+      → are_equal_fields (find (has_name name) (merged_fields takes main other))
+      (cond (takes name) (named name other) (named name main)) ≡ true
   field_is distinct =
       ap (λ o. are_equal_fields o (cond (takes name) (named name other) (named name main)))
       (find-append (has_name name) (merged main.entry.fields) (additions takes main other)
@@ -176,7 +181,8 @@ module _ (takes : List ℕ → Bool) (main other : Version) (name : List ℕ)
       ∙ by_main (named name main) refl (takes name) refl
     where
       by_main : (m : Option FieldReading) → named name main ≡ m → (b : Bool) → takes name ≡ b
-          → are_equal_fields (option_or (becomes m) (cond (b && not (is_some m)) (named name other) None)) (cond b (named name other) m) ≡ true
+          → are_equal_fields (option_or (becomes m) (cond (b && not (is_some m)) (named name other) None))
+          (cond b (named name other) m) ≡ true
       by_main None is true takes' = same_fields (named name other)
       by_main None is false takes' = refl
       by_main (Some f) is b takes' =

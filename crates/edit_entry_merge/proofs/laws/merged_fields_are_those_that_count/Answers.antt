@@ -1,10 +1,10 @@
-use Rattle.std.proofs.Common.{◌≡◌, ◌∙◌, ℕ, Bool, List, ap, cond, refl, sym, true, Option, Some, None}
+use Rattle.std.proofs.Common.{◌≡◌, ◌∙◌, ℕ, Bool, List, ap, cond, refl, sym}
 use Rattle.std.specs.Prelude.{unwrap_or}
 use Rattle.std.specs.List.{find}
 use Rattle.edit_entries.specs.Documents.{has_name}
 use Rattle.edit_entry_merge.specs.Choices.{are_different_sides, are_equal_fields, choice, other_side, takes_other, version_at}
 use Rattle.edit_entry_merge.specs.Picks.{merged_fields}
-use Rattle.edit_entry_merge.specs.Versions.{EntryVersions, Version, named}
+use Rattle.edit_entry_merge.specs.Versions.{EntryVersions, named}
 use Rattle.edit_entry_merge.specs.declared.choices.Side.{Side}
 use Rattle.edit_entry_merge.specs.declared.choices.Side.TheVariants.{Ours, Theirs}
 use Rattle.edit_entry_merge.proofs.ChosenFacts.{field_is, found_distinct, takes_same}
