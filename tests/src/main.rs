@@ -13,6 +13,7 @@ mod contents;
 mod conversions;
 mod documents;
 mod entries;
+mod entry_merges;
 mod excerpts;
 mod exports;
 mod formats;
@@ -48,6 +49,7 @@ fn rows(alloc: Global, layer: &str, input: &str) -> Result<String, AllocError> {
         "values" => answered::<values::Values>(alloc, input),
         "documents" => answered::<documents::Documents>(alloc, input),
         "conversions" => answered::<conversions::Conversions>(alloc, input),
+        "entry_merges" => answered::<entry_merges::EntryMerges>(alloc, input),
         "excerpts" => answered::<excerpts::Excerpts>(alloc, input),
         "exports" => answered::<exports::Exports>(alloc, input),
         "formats" => answered::<formats::Formats>(alloc, input),

@@ -1,11 +1,10 @@
 -- The edits of the last field that stays, and of the fields after it.
-use Rattle.std.proofs.Common.{◌≡◌, ℕ, suc, ◌-◌, ◌<◌, ◌+◌, List, [], ◌∷◌, ◌++◌, length, get_or, map, refl, sym, ap, ◌∙◌, arith, append_assoc, append-nil}
-use Rattle.std.specs.Prelude.{◌==◌, true, false}
+use Rattle.std.proofs.Common.{◌≡◌, ℕ, suc, ◌-◌, List, [], ◌∷◌, ◌++◌, length, get_or, map, refl, sym, ap, ◌∙◌, arith, append_assoc, append-nil}
+use Rattle.std.specs.Prelude.{◌==◌, true}
 use Rattle.std.proofs.lemmas.Bool.Decides.{nat_tests}
 use Rattle.bib_syntax.specs.Reading.{FieldReading}
 use Rattle.edit_entries.specs.Changes.{FieldChange, edits_of_field, edits_of_fields, removal_edits}
-use Rattle.edit_entries.specs.Edits.{Edit}
-use Rattle.edit_entry_merge.specs.Mixed.{closing_changes, last_changes, own_change}
+use Rattle.edit_entry_merge.specs.Mixed.{closing_changes, last_changes, picked_change}
 use Rattle.edit_entry_merge.specs.Picks.{FieldPick}
 use Rattle.edit_entry_merge.specs.Working.{all_removed}
 
@@ -56,8 +55,9 @@ closing_is text other all f p (h ∷ following) added some = refl
 
 pub own_is : (text other : List ℕ) (all : List FieldReading) (f : FieldReading) (p : FieldPick) (following added : List FieldReading)
     → length following ≡ 0 → length added ≡ 0
-    → edits_of_fields text (f ∷ following) (last_changes text other all f p following added) ≡ edits_of_field text f [] (own_change other p)
-own_is text other all f p [] [] none last = append-nil (edits_of_field text f [] (own_change other p))
+    → edits_of_fields text (f ∷ following) (last_changes text other all f p following added)
+    ≡ edits_of_field text f [] (picked_change other p)
+own_is text other all f p [] [] none last = append-nil (edits_of_field text f [] (picked_change other p))
 own_is text other all f p [] (g ∷ added) none last = absurd (omega (arith, last))
 own_is text other all f p (h ∷ following) added none last = absurd (omega (arith, none))
 

@@ -1,7 +1,7 @@
 -- The value of a field that is copied into another text parses to the same pieces there.
 use Rattle.std.proofs.Common.{◌≡◌, ◌⊎◌, inl, inr, ℕ, ◌+◌, ◌-◌, ◌<◌, ◌≤◌, Bool, true, false, not, List, [], ◌∷◌, ◌++◌, length, take, drop, map, refl, sym, ap, ◌∙◌, subst, arith}
 use Rattle.std.specs.Prelude.{encode_utf8, ◌&&◌, ◌==◌}
-use Rattle.std.specs.Char.{is_whitespace, is_ascii_digit, is_control}
+use Rattle.std.specs.Char.{is_whitespace, is_control}
 use Rattle.std.proofs.lemmas.Bool.{and_right, cases_lt}
 use Rattle.std.proofs.lemmas.Str.{len_utf8_bounds}
 use Rattle.bib_text.specs.Places.{Place, place, CharAt, Run, Stops, Longest, between}
@@ -18,13 +18,13 @@ use Rattle.bib_syntax.specs.Grammar.{Element as element}
 use Rattle.bib_syntax.specs.Grammar.{Elements as elements}
 use Rattle.bib_syntax.proofs.FieldFacts.{ahead_element, ahead_elements, ahead_identifier, ahead_quoted_parts}
 use Rattle.bib_syntax.proofs.LawFacts.{start_not_white}
-use Rattle.edit_entries.specs.Changes.{IsTrimmed, value_end}
+use Rattle.edit_entries.specs.Changes.{IsTrimmed}
 use Rattle.edit_entries.specs.Edits.{moved_piece}
 use Rattle.edit_entries.proofs.ElementFacts.{Ending, char_parted, parted}
 use Rattle.edit_entries.proofs.ElementStandsFacts.{element_stands}
 use Rattle.edit_entries.proofs.NewFieldFacts.{piece_placeless}
 use Rattle.edit_entries.proofs.NewValueFacts.{AreRead, CanBeRead, run_ending}
-use Rattle.edit_entries.proofs.StandsFacts.{Stands, between_stands, char_stands, first_part, last_part, nothing, past, stands_char}
+use Rattle.edit_entries.proofs.StandsFacts.{Stands, char_stands, first_part, last_part, nothing}
 use Rattle.edit_entries.proofs.ValueFacts.{elements_opens}
 use Rattle.edit_entry_merge.specs.Mixed.{copied}
 
@@ -192,7 +192,8 @@ elements_copied {a} {v} {z} {u} {v'} {w} (elements.last {v = x} {e = e} first wh
           (record { run = run_append run over.run; stops = over.stops }) no_hash;
       alike = ap (λ p. p ∷ []) (piece_placeless move e);
     }
-elements_copied {a} {v} {z} {u} {v'} {w} (elements.more {v = x} {w = y} {x = p} {y = q} {e = e} {es = es} first white sign white' later) end same within s
+elements_copied {a} {v} {z} {u} {v'} {w}
+    (elements.more {v = x} {w = y} {x = p} {y = q} {e = e} {es = es} first white sign white' later) end same within s
     ending over no_hash =
     let to_x = ahead_element first in
     let to_y = ahead_run white.run in

@@ -1,20 +1,19 @@
 -- The fields of a document can be copied: their names and values.
-use Rattle.std.proofs.Common.{◌≡◌, ℕ, ◌≤◌, Bool, true, false, cond, List, [], ◌∷◌, ◌++◌, codes, length, drop, refl, sym, ap, ◌∙◌, subst, arith, append-nil, Some}
-use Rattle.std.specs.Prelude.{encode_utf8, slice_get, bytes_eq, ◌&&◌}
+use Rattle.std.proofs.Common.{◌≡◌, ℕ, ◌≤◌, Bool, true, false, cond, List, [], ◌∷◌, ◌++◌, codes, length, drop, refl, sym, ap, ◌∙◌, subst, arith, append-nil}
+use Rattle.std.specs.Prelude.{encode_utf8, bytes_eq}
 use Rattle.std.specs.Char.{is_ascii_whitespace}
 use Rattle.std.specs.List.{AllByRecursion, list_all}
 use Rattle.std.proofs.lemmas.Bool.{and_parts}
 use Rattle.std.proofs.lemmas.List.{drop_all}
 use Rattle.bib_text.specs.Places.{Place, place, between}
-use Rattle.bib_text.proofs.ListFacts.{all_weaker}
 use Rattle.bib_text.proofs.PlaceFacts.{ahead_char, ahead_run, ahead_then, char_left, char_within, stops_at_end}
 use Rattle.bib_syntax.specs.Characters.{is_id_continue}
 use Rattle.bib_syntax.specs.Grammar.{Field, Identifier, longest}
 use Rattle.bib_syntax.specs.Reading.{FieldReading, Part, part}
 use Rattle.bib_syntax.proofs.FieldFacts.{ahead_field, ahead_identifier}
-use Rattle.edit_entries.specs.Documents.{CanBeName, Document, IsDocument}
+use Rattle.edit_entries.specs.Documents.{CanBeName, Document}
 use Rattle.edit_entries.specs.Layouts.{after_equals, before_equals, sign_at}
-use Rattle.edit_entries.proofs.AllFacts.{OfFields, all_found}
+use Rattle.edit_entries.proofs.AllFacts.{all_found}
 use Rattle.edit_entries.proofs.ElementFacts.{char_parted}
 use Rattle.edit_entries.proofs.EntryFacts.{ahead_to_field}
 use Rattle.edit_entries.proofs.LayoutFacts.{signs_at}
@@ -27,7 +26,7 @@ use Rattle.edit_entries.proofs.ValueFacts.{field_placed}
 use Rattle.edit_entries.proofs.WhiteBeforeFacts.{white_ascii}
 use Rattle.edit_entry_merge.specs.Mixed.{copied_field, has_plain_sign, own_sign, sign_for}
 use Rattle.edit_entry_merge.specs.Versions.{Version}
-use Rattle.edit_entry_merge.specs.Working.{IsRead}
+use Rattle.edit_entry_merge.specs.Working.{IsReadVersion}
 use Rattle.edit_entry_merge.proofs.CopiedFacts.{copied_read, run_copied}
 use Rattle.edit_entry_merge.proofs.MixedFacts.{document_of, only_has}
 
@@ -71,7 +70,7 @@ field_can field =
 -- ---- fields
 
 -- each field of a version can be copied
-pub fields_can : (v : Version) → IsRead v → AllByRecursion (λ f. CanBePut (copied_field v.text f)) v.entry.fields
+pub fields_can : (v : Version) → IsReadVersion v → AllByRecursion (λ f. CanBePut (copied_field v.text f)) v.entry.fields
 fields_can v r =
     let d : Document = document_of v r in
     only_has (λ e. AllByRecursion (λ f. CanBePut (copied_field v.text f)) e.fields) v r

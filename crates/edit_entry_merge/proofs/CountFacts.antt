@@ -1,7 +1,7 @@
 -- The number of fields up to the last one that stays.
-use Rattle.std.proofs.Common.{◌≡◌, ℕ, suc, ◌+◌, ◌<◌, ◌≤◌, Bool, true, false, cond, List, [], ◌∷◌, ◌++◌, length, refl, sym, ap, ◌∙◌, arith}
+use Rattle.std.proofs.Common.{◌≡◌, ℕ, suc, ◌<◌, ◌≤◌, Bool, true, false, cond, List, [], ◌∷◌, ◌++◌, length, refl, sym, ap, ◌∙◌, arith}
 use Rattle.std.specs.Prelude.{◌||◌, ◌==◌, map}
-use Rattle.edit_entry_merge.specs.Mixed.{has_none}
+use Rattle.edit_entry_merge.specs.Mixed.{is_empty_list}
 use Rattle.std.specs.List.{list_any}
 use Rattle.std.proofs.lemmas.Bool.Decides.{nat_tests}
 use Rattle.edit_entry_merge.specs.Picks.{FieldPick, is_staying}
@@ -72,7 +72,7 @@ count_within (p ∷ ps) = by_case (list_any is_staying (p ∷ ps)) (count_within
     by_case false small = omega arith
 
 -- whether a mapped list is empty is whether its length is 0
-pub none_is : {A B : Type 0} (view : A → B) (xs : List A) {b : Bool} → (length xs == 0) ≡ b → has_none (map view xs) ≡ b
+pub none_is : {A B : Type 0} (view : A → B) (xs : List A) {b : Bool} → (length xs == 0) ≡ b → is_empty_list (map view xs) ≡ b
 none_is view [] is = is
 none_is view (x ∷ xs) is = let some : (length (x ∷ xs) == 0) ≡ false = grind (arith, nat_tests) in sym some ∙ is
 

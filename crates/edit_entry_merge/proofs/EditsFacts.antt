@@ -1,28 +1,30 @@
 -- The edits of the fields of an entry, field by field.
-use Rattle.std.proofs.Common.{◌≡◌, ℕ, zero, suc, ◌+◌, ◌<◌, Bool, true, false, cond, List, [], ◌∷◌, ◌++◌, drop, length, refl, sym, ap, ◌∙◌, arith}
+use Rattle.std.proofs.Common.{◌≡◌, ℕ, zero, suc, ◌+◌, ◌<◌, true, false, cond, List, [], ◌∷◌, ◌++◌, drop, length, refl, sym, ap, ◌∙◌, arith}
 use Rattle.std.specs.List.{list_any}
 use Rattle.bib_syntax.specs.Reading.{FieldReading}
 use Rattle.edit_entries.specs.Changes.{edits_of_field, edits_of_fields}
-use Rattle.edit_entry_merge.specs.Mixed.{field_changes, last_changes, own_change}
+use Rattle.edit_entry_merge.specs.Mixed.{mixed_field_changes, last_changes, picked_change}
 use Rattle.edit_entry_merge.specs.Picks.{FieldPick, is_staying}
 use Rattle.edit_entry_merge.specs.Working.{AreEditable}
 
-module _ (text other : List ℕ) (all added : List FieldReading) (p : FieldPick) (ps : List FieldPick) (f : FieldReading) (fs : List FieldReading) where
+module _ (text other : List ℕ) (all added : List FieldReading) (p : FieldPick) (ps : List FieldPick) (f : FieldReading)
+    (fs : List FieldReading) where
   -- if a later field stays, the edit of a field is by its pick
   pub own_step : list_any is_staying ps ≡ true
-      → edits_of_fields text (f ∷ fs) (field_changes text other all added (p ∷ ps) (f ∷ fs))
-      ≡ edits_of_field text f fs (own_change other p) ++ edits_of_fields text fs (field_changes text other all added ps fs)
+      → edits_of_fields text (f ∷ fs) (mixed_field_changes text other all added (p ∷ ps) (f ∷ fs))
+      ≡ edits_of_field text f fs (picked_change other p) ++ edits_of_fields text fs (mixed_field_changes text other all added ps fs)
   own_step stays =
       ap
       (λ b.
       edits_of_fields text (f ∷ fs)
-      (cond b (own_change other p ∷ field_changes text other all added ps fs) (last_changes text other all f p fs added))) stays
+      (cond b (picked_change other p ∷ mixed_field_changes text other all added ps fs) (last_changes text other all f p fs added))) stays
 
   -- if no later field stays, the changes are those of the last field that stays
   pub last_step : list_any is_staying ps ≡ false
-      → field_changes text other all added (p ∷ ps) (f ∷ fs) ≡ last_changes text other all f p fs added
+      → mixed_field_changes text other all added (p ∷ ps) (f ∷ fs) ≡ last_changes text other all f p fs added
   last_step none =
-      ap (λ b. cond b (own_change other p ∷ field_changes text other all added ps fs) (last_changes text other all f p fs added)) none
+      ap (λ b. cond b (picked_change other p ∷ mixed_field_changes text other all added ps fs)
+      (last_changes text other all f p fs added)) none
 
 pub editable_rest : (text : List ℕ) (f : FieldReading) (fs : List FieldReading) → AreEditable text (f ∷ fs) → AreEditable text fs
 editable_rest text f fs all = record { values = all.values.1; signs = all.signs.1; names = all.names.1 }

@@ -1,3 +1,4 @@
+mod ChosenFacts
 mod ClosingFacts
 mod CopiedFacts
 mod CopyFacts
@@ -8,4 +9,5 @@ mod MergeFacts
 mod MixedFacts
 mod NameFacts
 mod ReadFacts
+mod UnchangedFacts
 mod VersionFacts

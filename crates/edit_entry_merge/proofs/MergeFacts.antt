@@ -1,17 +1,18 @@
 -- The merge of three documents, step by step.
-use Rattle.std.proofs.Common.{◌≡◌, ℕ, true, false, List, [], ◌∷◌, length, refl, sym, ap, ◌∙◌, Option, Some, None}
+use Rattle.std.proofs.Common.{◌≡◌, ℕ, true, false, List, [], ◌∷◌, length, refl, ap, ◌∙◌, Option, Some, None}
 use Rattle.std.specs.Prelude.{◌==◌}
 use Rattle.edit_entries.specs.Documents.{Document}
 use Rattle.edit_entry_merge.specs.Choices.{conflicts}
 use Rattle.edit_entry_merge.specs.Frames.{frame_choice}
 use Rattle.edit_entry_merge.specs.Merges.{MergeReading, entry_merge, merge_by, merge_in, merge_versions, text_for}
-use Rattle.edit_entry_merge.specs.Versions.{Versions, versions_of}
+use Rattle.edit_entry_merge.specs.Versions.{EntryVersions, entry_versions}
 use Rattle.edit_entry_merge.specs.declared.choices.Side.{Side}
 use Rattle.edit_entry_merge.specs.declared.choices.Side.TheVariants.{Ours, Theirs}
 
 -- the merge, if the documents are versions whose frames don't conflict
-pub merge_is : (base : Option Document) (ours theirs : Document) (vs : Versions) (main : Side) (o t : Option (List ℕ)) (names : List (List ℕ))
-    → Some vs ≡ versions_of base ours theirs → Some main ≡ frame_choice vs → o ≡ text_for vs main Ours → t ≡ text_for vs main Theirs
+pub merge_is : (base : Option Document) (ours theirs : Document) (vs : EntryVersions) (main : Side) (o t : Option (List ℕ))
+    (names : List (List ℕ))
+    → Some vs ≡ entry_versions base ours theirs → Some main ≡ frame_choice vs → o ≡ text_for vs main Ours → t ≡ text_for vs main Theirs
     → names ≡ conflicts vs → merge_by o t names ≡ entry_merge base ours theirs
 merge_is base ours theirs vs main o t names are frame our_text their_text conflicting =
     ap (λ x. merge_by x t names) our_text

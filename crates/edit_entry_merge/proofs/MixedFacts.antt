@@ -1,5 +1,5 @@
 -- The fields of the main version and their picks may be cut out of their texts, and the edits are in order.
-use Rattle.std.proofs.Common.{◌≡◌, ℕ, Bool, true, false, cond, List, [], ◌∷◌, ◌++◌, filter, map, append-nil, refl, sym, ap, ◌∙◌, subst, Option, Some, None}
+use Rattle.std.proofs.Common.{◌≡◌, ℕ, Bool, true, false, cond, List, [], ◌∷◌, filter, map, append-nil, refl, ap, ◌∙◌, subst, Option, Some, None}
 use Rattle.std.specs.List.{AllByRecursion}
 use Rattle.bib_queries.specs.EqualValues.{are_equal_pieces}
 use Rattle.bib_text.proofs.ListFacts.{found_has}
@@ -8,26 +8,26 @@ use Rattle.edit_entries.specs.Changes.{EntryChange, edits_of_entries, edits_of_e
 use Rattle.edit_entries.specs.Documents.{Document, has_name}
 use Rattle.edit_entries.specs.EditList.{AreEditsInOrder}
 use Rattle.edit_entries.specs.Placed.{IsPlaced}
-use Rattle.edit_entries.proofs.AllFacts.{OfFields, all_placed}
+use Rattle.edit_entries.proofs.AllFacts.{all_placed}
 use Rattle.edit_entries.proofs.ChangesFacts.{changes_in_order}
 use Rattle.edit_entries.proofs.PartFacts.{AreEntriesIn, file_in}
 use Rattle.edit_entries.proofs.SetFacts.{names_in, signs_in}
-use Rattle.edit_entry_merge.specs.Picks.{FieldPick, additions, is_added, pick, pick_instead}
+use Rattle.edit_entry_merge.specs.Picks.{FieldPick, pick, pick_instead}
 use Rattle.edit_entry_merge.specs.Versions.{Version, named}
-use Rattle.edit_entry_merge.specs.Working.{AreEditable, IsPickPlaced, IsRead}
+use Rattle.edit_entry_merge.specs.Working.{AreEditable, IsPickPlaced, IsReadVersion}
 
 -- the document of a version
-abbrev pub document_of : (v : Version) → IsRead v → Document
+abbrev pub document_of : (v : Version) → IsReadVersion v → Document
 document_of v r = record { text = v.text; says = r.says }
 
 -- the only entry of a version has what each entry of its document has
-pub only_has : (P : EntryReading → Type 0) (v : Version) (r : IsRead v) → AllByRecursion P r.says.entries → P v.entry
+pub only_has : (P : EntryReading → Type 0) (v : Version) (r : IsReadVersion v) → AllByRecursion P r.says.entries → P v.entry
 only_has P v r all = (subst (AllByRecursion P) r.only all).0
 
-pub all_values : (v : Version) → IsRead v → AllByRecursion (IsPlaced v.text) v.entry.fields
+pub all_values : (v : Version) → IsReadVersion v → AllByRecursion (IsPlaced v.text) v.entry.fields
 all_values v r = only_has (λ e. AllByRecursion (IsPlaced v.text) e.fields) v r (all_placed (document_of v r) r.read)
 
-pub editable : (v : Version) → IsRead v → AreEditable v.text v.entry.fields
+pub editable : (v : Version) → IsReadVersion v → AreEditable v.text v.entry.fields
 editable v r =
     let order = subst (AreEntriesIn v.text 0) r.only (file_in v.text refl r.read) in
     record {
@@ -70,10 +70,10 @@ picks_placed takes other [] all = tt
 picks_placed takes other (f ∷ fs) all = (pick_placed takes other f all, picks_placed takes other fs all)
 
 -- the edits of a change of a version's entry are those of the change of its document
-pub document_edits : (v : Version) (r : IsRead v) (change : EntryChange)
+pub document_edits : (v : Version) (r : IsReadVersion v) (change : EntryChange)
     → edits_of_entries (λ e. change) v.text r.says.entries ≡ edits_of_entry v.text v.entry change
 document_edits v r change = ap (edits_of_entries (λ e. change) v.text) r.only ∙ append-nil (edits_of_entry v.text v.entry change)
 
-pub in_order : (v : Version) → IsRead v → (change : EntryChange) → AreEditsInOrder v.text 0 (edits_of_entry v.text v.entry change)
+pub in_order : (v : Version) → IsReadVersion v → (change : EntryChange) → AreEditsInOrder v.text 0 (edits_of_entry v.text v.entry change)
 in_order v r change =
     subst (AreEditsInOrder v.text 0) (document_edits v r change) (changes_in_order (document_of v r) (λ e. change) r.read r.utf8)

@@ -1,15 +1,14 @@
 -- Fields by their names: a map with the first field of each name, and fields whose names differ.
-use Rattle.std.proofs.Common.{◌≡◌, ℕ, Bool, true, false, cond, not, List, [], ◌∷◌, ◌++◌, map, refl, sym, ap, ◌∙◌, subst, is_some, Option, Some, None}
+use Rattle.std.proofs.Common.{◌≡◌, ℕ, Bool, true, false, cond, not, List, [], ◌∷◌, ◌++◌, refl, sym, ap, ◌∙◌, is_some, Option, Some, None}
 use Rattle.std.specs.Prelude.{String, ◌&&◌, ◌||◌, bytes_eq}
 use Rattle.std.specs.Borrow.{Bor}
 use Rattle.std.specs.BTreeMap.{BTreeMap, get_by_text}
 use Rattle.std.specs.List.{find, list_any}
-use Rattle.std.specs.Option.{option_map, option_or}
+use Rattle.std.specs.Option.{option_or}
 use Rattle.std.specs.Str.{str_to_ascii_lowercase}
 use Rattle.std.proofs.lemmas.List.Folds.{find-append}
 use Rattle.std.proofs.lemmas.Slice.Eq.{bytes_eq-Decides}
 use Rattle.bib_text.proofs.OptionFacts.{some_mapped, mapped_cond, or_none}
-use Rattle.bib_syntax.specs.Grammar.{is_word}
 use Rattle.bib_syntax.specs.Reading.{FieldReading}
 use Rattle.bib_syntax.specs.Views.{field_of}
 use Rattle.bib_syntax.specs.declared.raw.Pair.{Pair}
@@ -32,7 +31,8 @@ pub first_kept : {A : Type 0} (fields : BTreeMap (String A) (Bor Pair)) (f : Fie
     → low ≡ str_to_ascii_lowercase f.name.text → is_some (get_by_text fields low) ≡ true → AddsFirst fields f fields
 first_kept fields f low is there = λ name. by_case name (has_name name f) refl
   where
-    by_case : (name : List ℕ) (b : Bool) → has_name name f ≡ b → field_at fields name ≡ option_or (field_at fields name) (cond b (Some f) None)
+    by_case : (name : List ℕ) (b : Bool) → has_name name f ≡ b → field_at fields name
+        ≡ option_or (field_at fields name) (cond b (Some f) None)
     by_case name true same =
         had (field_at fields name) (Some f)
         (some_mapped (λ (p : Bor Pair). field_of p.now) (get_by_text fields (str_to_ascii_lowercase name))
@@ -83,7 +83,8 @@ new_is test (f ∷ fs) = by_case (test f) (new_is test fs)
     by_case true rest = refl
     by_case false rest = rest
 
-any_more : (test : FieldReading → Bool) (fs : List FieldReading) (g : FieldReading) → list_any test (fs ++ g ∷ []) ≡ (list_any test fs || test g)
+any_more : (test : FieldReading → Bool) (fs : List FieldReading) (g : FieldReading) → list_any test (fs ++ g ∷ [])
+    ≡ (list_any test fs || test g)
 any_more test [] g = by_case (test g)
   where
     by_case : (b : Bool) → (b || false) ≡ b
@@ -96,7 +97,8 @@ any_more test (f ∷ fs) g = by_case (test f) (any_more test fs g)
     by_case true rest = refl
     by_case false rest = rest
 
-distinct_step : (others : Bool) (new : Bool) (more : Bool) (rest : Bool) → (not (others || new) && (rest && more)) ≡ ((not others && rest) && (not new && more))
+distinct_step : (others : Bool) (new : Bool) (more : Bool) (rest : Bool) → (not (others || new) && (rest && more))
+    ≡ ((not others && rest) && (not new && more))
 distinct_step true new more rest = refl
 distinct_step false true more true = refl
 distinct_step false true more false = refl

@@ -1,14 +1,13 @@
 -- The text with the fields that count parses to the merged fields.
-use Rattle.std.proofs.Common.{◌≡◌, ℕ, ◌≤◌, Bool, true, false, cond, List, [], ◌∷◌, ◌++◌, filter, map, length, refl, sym, ap, ◌∙◌, subst, arith, append-nil, append_assoc, Option, Some, None}
+use Rattle.std.proofs.Common.{◌≡◌, ℕ, Bool, true, false, cond, List, [], ◌∷◌, ◌++◌, map, refl, sym, ap, ◌∙◌, subst, append-nil, append_assoc, Option, Some, None}
 use Rattle.std.specs.Prelude.{◌&&◌, ◌||◌, not}
 use Rattle.std.specs.List.{AllByRecursion, flat_map, list_all, list_any}
-use Rattle.std.specs.Str.{IsCharBoundary, IsUtf8}
 use Rattle.std.proofs.lemmas.Bool.{and_parts}
 use Rattle.std.proofs.lemmas.List.{map-append}
 use Rattle.bib_queries.specs.EqualValues.{are_equal_pieces}
-use Rattle.bib_text.proofs.ListFacts.{all_weaker, found_has}
+use Rattle.bib_text.proofs.ListFacts.{found_has}
 use Rattle.bib_syntax.specs.Grammar.{IsRawReading}
-use Rattle.bib_syntax.specs.Reading.{EntryReading, FieldReading, FileReading}
+use Rattle.bib_syntax.specs.Reading.{FieldReading, FileReading}
 use Rattle.edit_entries.specs.Changes.{EntryChange, FieldChange, IsReadPlaceless, edits_of_entry, entry_changed, field_changed, field_reading, fields_changed, file_changed, text_changed}
 use Rattle.edit_entries.specs.Documents.{Document, has_name}
 use Rattle.edit_entries.specs.Edits.{edited_all, moved_entry, moved_field, placeless}
@@ -19,12 +18,12 @@ use Rattle.edit_entries.proofs.NewFieldFacts.{CanBePut}
 use Rattle.edit_entries.proofs.NewValueFacts.{CanBeRead}
 use Rattle.edit_entries.proofs.WhiteBeforeFacts.{before_white}
 use Rattle.edit_entry_merge.specs.Merges.{merged_reading}
-use Rattle.edit_entry_merge.specs.Mixed.{can_write, closing_changes, copied, copied_field, field_changes, field_written, has_inner_comment, has_none, last_changes, mixed_change, mixed_text, own_change, sign_for}
-use Rattle.edit_entry_merge.specs.Picks.{FieldPick, additions, field_merged, is_added, is_staying, merged_fields, pick, pick_instead, picks}
+use Rattle.edit_entry_merge.specs.Mixed.{can_write, closing_changes, copied, copied_field, mixed_field_changes, field_written, has_inner_comment, is_empty_list, last_changes, mixed_change, mixed_text, picked_change, sign_for}
+use Rattle.edit_entry_merge.specs.Picks.{FieldPick, additions, field_merged, is_added, is_staying, pick, pick_instead, picks}
 use Rattle.edit_entry_merge.specs.Versions.{Version, named}
-use Rattle.edit_entry_merge.specs.Working.{IsRead}
+use Rattle.edit_entry_merge.specs.Working.{IsReadVersion}
 use Rattle.edit_entry_merge.proofs.CopyFacts.{fields_can, signs_for}
-use Rattle.edit_entry_merge.proofs.MixedFacts.{document_edits, document_of, editable, filtered, only_has}
+use Rattle.edit_entry_merge.proofs.MixedFacts.{document_edits, document_of, editable, filtered}
 
 -- a field without byte offsets
 abbrev bare : FieldReading → FieldReading
@@ -51,7 +50,7 @@ module _ (text other : List ℕ) where
 
   own_can : (following : List FieldReading) (p : FieldPick) → CanPick p
       → ((p ≡ FieldPick.remove) → (g : FieldReading) × (gs : List FieldReading) × (following ≡ g ∷ gs))
-      → CanChange following (own_change other p)
+      → CanChange following (picked_change other p)
   own_can following FieldPick.keep can more = tt
   own_can following (FieldPick.copy g) can more = can
   own_can following FieldPick.remove can more = more refl
@@ -78,7 +77,8 @@ module _ (text other : List ℕ) where
     last_can : (f : FieldReading) (p : FieldPick) (following others : List FieldReading) → others ≡ added → is_staying p ≡ true
         → CanBePut (copied_field text f) → CanPick p
         → IsNamePlaced text f → CanFieldsChange (f ∷ following) (last_changes text other all f p following others)
-    last_can f p [] [] is stays can picked name = (own_can [] p picked (λ gone. absurd (let clash : false ≡ true = ap is_staying (sym gone) ∙ stays in cc)), tt)
+    last_can f p [] [] is stays can picked name =
+        (own_can [] p picked (λ gone. absurd (let clash : false ≡ true = ap is_staying (sym gone) ∙ stays in cc)), tt)
     last_can f p [] (g ∷ others) is stays can picked name =
         subst (λ l. CanFieldsChange (f ∷ []) (closing_changes text other all f p [] l)) (sym is) (closing_can f p [] can picked name)
     last_can f p (h ∷ following) others is stays can picked name =
@@ -87,7 +87,7 @@ module _ (text other : List ℕ) where
 
     fields_change : (picked : FieldReading → FieldPick) (fs : List FieldReading) → list_any is_staying (map picked fs) ≡ true
         → AllByRecursion (λ f. CanBePut (copied_field text f)) fs → AllByRecursion (IsNamePlaced text) fs
-        → ((f : FieldReading) → CanPick (picked f)) → CanFieldsChange fs (field_changes text other all added (map picked fs) fs)
+        → ((f : FieldReading) → CanPick (picked f)) → CanFieldsChange fs (mixed_field_changes text other all added (map picked fs) fs)
     fields_change picked [] one can names each = tt
     fields_change picked (f ∷ fs) one can names each =
         by_case (list_any is_staying (map picked fs)) refl (λ later. fields_change picked fs later can.1 names.1 each)
@@ -98,9 +98,10 @@ module _ (text other : List ℕ) where
         followed (g ∷ gs) some = (g, gs, refl)
 
         by_case : (b : Bool) → list_any is_staying (map picked fs) ≡ b
-            → (list_any is_staying (map picked fs) ≡ true → CanFieldsChange fs (field_changes text other all added (map picked fs) fs))
+            → (list_any is_staying (map picked fs) ≡ true
+            → CanFieldsChange fs (mixed_field_changes text other all added (map picked fs) fs))
             → CanFieldsChange (f ∷ fs)
-            (cond b (own_change other (picked f) ∷ field_changes text other all added (map picked fs) fs)
+            (cond b (picked_change other (picked f) ∷ mixed_field_changes text other all added (map picked fs) fs)
             (last_changes text other all f (picked f) fs added))
         by_case true later rest = (own_can fs (picked f) (each f) (λ gone. followed fs later), rest later)
         by_case false none rest =
@@ -129,13 +130,14 @@ module _ (text other : List ℕ) where
     bare_written f (FieldPick.copy g) stays = refl
     bare_written f FieldPick.remove stays = absurd (cc)
 
-    bare_own : (f : FieldReading) (p : FieldPick) → map bare (field_changed f (own_change other p)) ≡ map bare (field_merged f p)
+    bare_own : (f : FieldReading) (p : FieldPick) → map bare (field_changed f (picked_change other p)) ≡ map bare (field_merged f p)
     bare_own f FieldPick.keep = refl
     bare_own f (FieldPick.copy g) = refl
     bare_own f FieldPick.remove = refl
 
     closing_are : (f : FieldReading) (p : FieldPick) (following others : List FieldReading) → is_staying p ≡ true
-        → map bare (fields_changed (f ∷ following) (closing_changes text other all f p following others)) ≡ map bare (field_merged f p ++ others)
+        → map bare (fields_changed (f ∷ following) (closing_changes text other all f p following others))
+        ≡ map bare (field_merged f p ++ others)
     closing_are f p following others stays =
         ap (map bare)
         (removed_are f following
@@ -146,9 +148,11 @@ module _ (text other : List ℕ) where
         ∙ sym (map-append bare (field_merged f p) others)
 
     last_are : (f : FieldReading) (p : FieldPick) (following others : List FieldReading) → is_staying p ≡ true
-        → map bare (fields_changed (f ∷ following) (last_changes text other all f p following others)) ≡ map bare (field_merged f p ++ others)
+        → map bare (fields_changed (f ∷ following) (last_changes text other all f p following others))
+        ≡ map bare (field_merged f p ++ others)
     last_are f p [] [] stays =
-        ap (map bare) (append-nil (field_changed f (own_change other p))) ∙ bare_own f p ∙ ap (map bare) (sym (append-nil (field_merged f p)))
+        ap (map bare) (append-nil (field_changed f (picked_change other p))) ∙ bare_own f p
+        ∙ ap (map bare) (sym (append-nil (field_merged f p)))
     last_are f p [] (g ∷ others) stays = closing_are f p [] (g ∷ others) stays
     last_are f p (h ∷ following) others stays = closing_are f p (h ∷ following) others stays
 
@@ -165,7 +169,7 @@ module _ (text other : List ℕ) where
         by_pick FieldPick.remove none rest = rest none
 
     fields_are : (picked : FieldReading → FieldPick) (fs : List FieldReading) → list_any is_staying (map picked fs) ≡ true
-        → map bare (fields_changed fs (field_changes text other all added (map picked fs) fs))
+        → map bare (fields_changed fs (mixed_field_changes text other all added (map picked fs) fs))
         ≡ map bare (flat_map (λ f. field_merged f (picked f)) fs ++ added)
     fields_are picked [] one = absurd (cc)
     fields_are picked (f ∷ fs) one = by_case (list_any is_staying (map picked fs)) refl (fields_are picked fs)
@@ -175,16 +179,17 @@ module _ (text other : List ℕ) where
 
         by_case : (b : Bool) → list_any is_staying (map picked fs) ≡ b
             → (list_any is_staying (map picked fs) ≡ true
-            → map bare (fields_changed fs (field_changes text other all added (map picked fs) fs)) ≡ map bare (merged ++ added))
+            → map bare (fields_changed fs (mixed_field_changes text other all added (map picked fs) fs)) ≡ map bare (merged ++ added))
             → map bare
             (fields_changed (f ∷ fs)
-            (cond b (own_change other (picked f) ∷ field_changes text other all added (map picked fs) fs)
+            (cond b (picked_change other (picked f) ∷ mixed_field_changes text other all added (map picked fs) fs)
             (last_changes text other all f (picked f) fs added)))
             ≡ map bare ((field_merged f (picked f) ++ merged) ++ added)
         by_case true later rest =
-            map-append bare (field_changed f (own_change other (picked f)))
-            (fields_changed fs (field_changes text other all added (map picked fs) fs))
-            ∙ ap (λ l. l ++ map bare (fields_changed fs (field_changes text other all added (map picked fs) fs))) (bare_own f (picked f))
+            map-append bare (field_changed f (picked_change other (picked f)))
+            (fields_changed fs (mixed_field_changes text other all added (map picked fs) fs))
+            ∙ ap (λ l. l ++ map bare (fields_changed fs (mixed_field_changes text other all added (map picked fs) fs)))
+            (bare_own f (picked f))
             ∙ ap (λ l. map bare (field_merged f (picked f)) ++ l) (rest later)
             ∙ sym (map-append bare (field_merged f (picked f)) (merged ++ added))
             ∙ ap (map bare) (sym (append_assoc (field_merged f (picked f)) merged added))
@@ -199,7 +204,7 @@ module _ (text other : List ℕ) where
 
 -- ---- versions
 
-module _ (takes : List ℕ → Bool) (main other : Version) (rm : IsRead main) (ro : IsRead other) where
+module _ (takes : List ℕ → Bool) (main other : Version) (rm : IsReadVersion main) (ro : IsReadVersion other) where
   can_pick : (f : FieldReading) → CanPick main.text other.text (pick takes other f)
   can_pick f = by_case (takes f.name.text)
     where
@@ -231,7 +236,8 @@ module _ (takes : List ℕ → Bool) (main other : Version) (rm : IsRead main) (
   }
 
   -- a text with the fields that count parses to the merged fields, except for byte offsets
-  pub mixed_read : (text : List ℕ) → mixed_text takes main other ≡ Some text → IsReadPlaceless (merged_reading rm.says takes main other) text
+  pub mixed_read : (text : List ℕ) → mixed_text takes main other ≡ Some text
+      → IsReadPlaceless (merged_reading rm.says takes main other) text
   mixed_read text is = by_case (can_write main (picks takes main other) (additions takes main other)) refl is
     where
       d : Document
@@ -259,14 +265,16 @@ module _ (takes : List ℕ → Bool) (main other : Version) (rm : IsRead main) (
           let same : new ≡ text = cc in
           let one : list_any is_staying (picks takes main other) ≡ true =
           (and_parts (list_any is_staying (picks takes main other))
-          ((list_all is_staying (picks takes main other) && has_none (additions takes main other)) || not (has_inner_comment main)) can).0 in
+          ((list_all is_staying (picks takes main other) && is_empty_list (additions takes main other)) || not
+          (has_inner_comment main)) can).0 in
           let read : IsReadPlaceless (file_changed (λ e. change) d.says) (text_changed (λ e. change) d) =
           changed_read d (λ e. change) rm.read rm.utf8
           (subst (AllByRecursion (λ e. CanEntryChange e change)) (sym rm.only) (mixed_can one, tt)) in
           let alike : placeless (file_changed (λ e. change) rm.says) ≡ placeless (merged_reading rm.says takes main other) =
           ap (λ es. placeless (record rm.says { entries = map (λ e. entry_changed e change) es })) rm.only
           ∙ ap by_bare
-          (fields_are main.text other.text main.entry.fields (additions takes main other) added_can (pick takes other) main.entry.fields one) in
+          (fields_are main.text other.text main.entry.fields (additions takes main other) added_can
+          (pick takes other) main.entry.fields one) in
           record {
             tells = read.tells;
             read =

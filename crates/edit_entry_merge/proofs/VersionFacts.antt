@@ -1,12 +1,12 @@
 -- The version that a document is.
-use Rattle.std.proofs.Common.{◌≡◌, ℕ, ◌+◌, ◌<◌, Bool, true, false, cond, List, [], ◌∷◌, length, get_or, refl, sym, ap, ◌∙◌, subst, arith, Option, Some, None}
+use Rattle.std.proofs.Common.{◌≡◌, ℕ, Bool, true, false, cond, List, [], ◌∷◌, length, get_or, refl, sym, ap, ◌∙◌, subst, arith, Some, None}
 use Rattle.std.specs.Prelude.{◌==◌}
 use Rattle.bib_syntax.specs.Reading.{EntryReading, FieldReading}
 use Rattle.std.specs.Str.{IsUtf8}
 use Rattle.bib_text.proofs.ListFacts.{some_same}
 use Rattle.edit_entries.specs.Documents.{Document, IsDocument}
 use Rattle.edit_entry_merge.specs.Versions.{Version, are_found_by_name, have_distinct_names, version_by, version_of}
-use Rattle.edit_entry_merge.specs.Working.{IsRead}
+use Rattle.edit_entry_merge.specs.Working.{IsReadVersion}
 
 -- a list with one element is this element
 pub one_item : {A : Type 0} (xs : List A) (x : A) → length xs ≡ 1 → x ≡ get_or xs 0 x → xs ≡ x ∷ []
@@ -41,7 +41,7 @@ version_only text (e ∷ other ∷ es) v is = absurd (cc)
 
 -- the version that a document is
 pub version_read : (d : Document) (v : Version) → IsDocument d → IsUtf8 d.text → version_of d ≡ Some v
-    → (r : IsRead v) × (r.says ≡ d.says)
+    → (r : IsReadVersion v) × (r.says ≡ d.says)
 version_read d v read utf8 is =
     let both = version_only d.text d.says.entries v is in (
       record {

@@ -1,6 +1,6 @@
 -- Meaning: words of public contracts.
 -- Two texts as one, with marker lines around the lines in which they differ.
-use Rattle.std.specs.Prelude.{◌≡◌, ◌==◌, ℕ, Bool, true, false, List, [], ◌∷◌, ◌++◌, bytes_eq, reverse}
+use Rattle.std.specs.Prelude.{◌≡◌, ◌==◌, ℕ, Bool, false, List, [], ◌∷◌, ◌++◌, bytes_eq, reverse}
 use Rattle.std.specs.List.{slice_split}
 use Rattle.bib_text.specs.Characters as char
 use Rattle.edit_entry_merge.specs.declared.conflict_text.Markers.{Markers}
@@ -10,20 +10,20 @@ abbrev pub lines : List ℕ → List (List ℕ)
 lines text = slice_split (λ c. c == char.line_feed) text
 
 -- lines with a line feed between each two of them
-abbrev pub joined : List (List ℕ) → List ℕ
-joined [] = []
-joined (l ∷ []) = l
-joined (l ∷ m ∷ ls) = l ++ char.line_feed ∷ joined (m ∷ ls)
+abbrev pub lines_as_text : List (List ℕ) → List ℕ
+lines_as_text [] = []
+lines_as_text (l ∷ []) = l
+lines_as_text (l ∷ m ∷ ls) = l ++ char.line_feed ∷ lines_as_text (m ∷ ls)
 
 -- the lines around the two parts of a conflict
-pub record MarkersReading : Type 0 where
+pub record MarkerLines : Type 0 where
   pub ours : List ℕ
   pub middle : List ℕ
   pub theirs : List ℕ
 
 -- the markers that a value of the code represents
-abbrev pub markers_of : Markers → MarkersReading
-markers_of m = record { ours = m.ours.now; middle = m.middle.now; theirs = m.theirs.now }
+abbrev pub marker_lines : Markers → MarkerLines
+marker_lines m = record { ours = m.ours.now; middle = m.middle.now; theirs = m.theirs.now }
 
 -- the lines of two texts: those that both have at their start, those in which they differ, and those that both have at their end
 pub record ConflictParts : Type 0 where
@@ -33,38 +33,38 @@ pub record ConflictParts : Type 0 where
   pub end : List (List ℕ)
 
 -- whether two lists of lines begin with the same line
-abbrev pub begin_alike : List (List ℕ) → List (List ℕ) → Bool
-begin_alike [] ms = false
-begin_alike (l ∷ ls) [] = false
-begin_alike (l ∷ ls) (m ∷ ms) = bytes_eq l m
+abbrev pub begin_with_same : List (List ℕ) → List (List ℕ) → Bool
+begin_with_same [] ms = false
+begin_with_same (l ∷ ls) [] = false
+begin_with_same (l ∷ ls) (m ∷ ms) = bytes_eq l m
 
 -- whether two lists of lines end with the same line
 abbrev pub end_alike : List (List ℕ) → List (List ℕ) → Bool
-end_alike ls ms = begin_alike (reverse ls) (reverse ms)
+end_alike ls ms = begin_with_same (reverse ls) (reverse ms)
 
 -- two lists of lines have these parts, and the lines in which they differ neither begin nor end with the same line
 pub record AreConflictParts (ours theirs : List (List ℕ)) (p : ConflictParts) : Type 0 where
   pub our_lines : ours ≡ p.start ++ (p.ours ++ p.end)
   pub their_lines : theirs ≡ p.start ++ (p.theirs ++ p.end)
-  pub start_is_longest : begin_alike p.ours p.theirs ≡ false
+  pub start_is_longest : begin_with_same p.ours p.theirs ≡ false
   pub end_is_longest : end_alike p.ours p.theirs ≡ false
 
 -- the lines in which two texts differ, between marker lines; none if they don't differ
-abbrev pub between_markers : MarkersReading → List (List ℕ) → List (List ℕ) → List (List ℕ)
+abbrev pub between_markers : MarkerLines → List (List ℕ) → List (List ℕ) → List (List ℕ)
 between_markers m [] [] = []
 between_markers m [] (t ∷ theirs) = m.ours ∷ m.middle ∷ (t ∷ theirs) ++ m.theirs ∷ []
 between_markers m (o ∷ ours) theirs = m.ours ∷ (o ∷ ours) ++ (m.middle ∷ theirs ++ m.theirs ∷ [])
 
 -- the lines of both texts, with markers
-abbrev pub marked_lines : MarkersReading → ConflictParts → List (List ℕ)
+abbrev pub marked_lines : MarkerLines → ConflictParts → List (List ℕ)
 marked_lines m p = p.start ++ (between_markers m p.ours p.theirs ++ p.end)
 
 -- a text has the lines of two lists, with marker lines around those in which they differ
-pub record IsMarkedText (m : MarkersReading) (ours theirs : List (List ℕ)) (text : List ℕ) : Type 0 where
+pub record IsMarkedText (m : MarkerLines) (ours theirs : List (List ℕ)) (text : List ℕ) : Type 0 where
   pub parts : ConflictParts
   pub are : AreConflictParts ours theirs parts
-  pub is : text ≡ joined (marked_lines m parts)
+  pub is : text ≡ lines_as_text (marked_lines m parts)
 
 -- a text is two texts as one, with marker lines around the lines in which they differ
-abbrev pub IsConflictText : MarkersReading → List ℕ → List ℕ → List ℕ → Type 0
+abbrev pub IsConflictText : MarkerLines → List ℕ → List ℕ → List ℕ → Type 0
 IsConflictText m ours theirs text = IsMarkedText m (lines ours) (lines theirs) text

@@ -4,5 +4,5 @@ use Rattle.std.specs.Prelude.{ℕ, List, map}
 use Rattle.std.specs.Borrow.{Bor}
 
 -- the texts that are borrowed
-abbrev pub texts : List (Bor (List ℕ)) → List (List ℕ)
-texts lines = map (λ l. l.now) lines
+abbrev pub lent_lines : List (Bor (List ℕ)) → List (List ℕ)
+lent_lines lines = map (λ l. l.now) lines

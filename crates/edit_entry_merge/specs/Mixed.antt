@@ -1,6 +1,6 @@
 -- Meaning: words of public contracts.
 -- The text of the main version with values and fields of the other one.
-use Rattle.std.specs.Prelude.{◌==◌, ◌&&◌, ◌||◌, not, ℕ, Bool, true, false, cond, length, List, [], ◌∷◌, ◌++◌, Option, Some, None, bytes_eq, codes, map}
+use Rattle.std.specs.Prelude.{◌==◌, ◌&&◌, ◌||◌, not, ℕ, Bool, true, false, cond, List, [], ◌∷◌, ◌++◌, Option, Some, None, bytes_eq, codes, map}
 use Rattle.std.specs.Char.{is_ascii_whitespace}
 use Rattle.std.specs.List.{list_all, list_any}
 use Rattle.bib_text.specs.Characters as char
@@ -10,7 +10,7 @@ use Rattle.edit_entries.specs.Changes.{EntryChange, FieldChange, NewField, NewVa
 use Rattle.edit_entries.specs.Edits.{edited_all}
 use Rattle.edit_entries.specs.Layouts.{after_equals, before_equals, sign_at}
 use Rattle.edit_entries.specs.Setting.{white_before}
-use Rattle.edit_entry_merge.specs.Frames.{outside_fields}
+use Rattle.edit_entry_merge.specs.Frames.{outside_of_fields}
 use Rattle.edit_entry_merge.specs.Picks.{FieldPick, additions, is_staying, picks}
 use Rattle.edit_entry_merge.specs.Versions.{Version}
 
@@ -46,10 +46,10 @@ sign_for text f fields name = cond (bytes_eq name f.name.text) (own_sign text f)
 -- ---- the changes
 
 -- the change of a field by its pick; `other` is the text of a copied field
-abbrev pub own_change : List ℕ → FieldPick → FieldChange
-own_change other FieldPick.keep = FieldChange.kept
-own_change other (FieldPick.copy g) = FieldChange.valued (copied other g)
-own_change other FieldPick.remove = FieldChange.removed
+abbrev pub picked_change : List ℕ → FieldPick → FieldChange
+picked_change other FieldPick.keep = FieldChange.kept
+picked_change other (FieldPick.copy g) = FieldChange.valued (copied other g)
+picked_change other FieldPick.remove = FieldChange.removed
 
 -- The changes of the last field that stays and of the fields after it, if one of these is removed or fields are added. The last field
 -- becomes that which stays, with the added fields after it, and the fields before it are removed. So the text after the last
@@ -65,17 +65,17 @@ closing_changes text other all f p following added =
 -- the changes of the last field that stays and of the fields after it
 abbrev pub last_changes : List ℕ → List ℕ → List FieldReading → FieldReading → FieldPick → List FieldReading → List FieldReading
     → List FieldChange
-last_changes text other all f p [] [] = own_change other p ∷ []
+last_changes text other all f p [] [] = picked_change other p ∷ []
 last_changes text other all f p [] (g ∷ added) = closing_changes text other all f p [] (g ∷ added)
 last_changes text other all f p (h ∷ following) added = closing_changes text other all f p (h ∷ following) added
 
 -- the changes of fields with these picks. `all` are all fields of the entry, and `added` the fields that are added
-abbrev pub field_changes : List ℕ → List ℕ → List FieldReading → List FieldReading → List FieldPick → List FieldReading
+abbrev pub mixed_field_changes : List ℕ → List ℕ → List FieldReading → List FieldReading → List FieldPick → List FieldReading
     → List FieldChange
-field_changes text other all added [] fs = []
-field_changes text other all added (p ∷ ps) [] = []
-field_changes text other all added (p ∷ ps) (f ∷ fs) =
-    cond (list_any is_staying ps) (own_change other p ∷ field_changes text other all added ps fs)
+mixed_field_changes text other all added [] fs = []
+mixed_field_changes text other all added (p ∷ ps) [] = []
+mixed_field_changes text other all added (p ∷ ps) (f ∷ fs) =
+    cond (list_any is_staying ps) (picked_change other p ∷ mixed_field_changes text other all added ps fs)
     (last_changes text other all f p fs added)
 
 -- the change of the main version's entry
@@ -83,30 +83,30 @@ abbrev pub mixed_change : (List ℕ → Bool) → Version → Version → EntryC
 mixed_change takes main other = record {
   kind = None;
   fields =
-      field_changes main.text other.text main.entry.fields (additions takes main other) (picks takes main other) main.entry.fields;
+      mixed_field_changes main.text other.text main.entry.fields (additions takes main other) (picks takes main other) main.entry.fields;
 }
 
 -- ---- the text
 
 -- the bytes between the fields of an entry and after the last one, up to the closing brace
-abbrev pub gaps : List ℕ → List FieldReading → ℕ → List ℕ
-gaps text [] end = []
-gaps text (f ∷ fs) end = outside_fields text f.value.end fs end
+abbrev pub field_gaps : List ℕ → List FieldReading → ℕ → List ℕ
+field_gaps text [] end = []
+field_gaps text (f ∷ fs) end = outside_of_fields text f.value.end fs end
 
 -- whether a comment is between the fields of a version or after the last one
 abbrev pub has_inner_comment : Version → Bool
-has_inner_comment v = list_any (λ b. b == char.percent) (gaps v.text v.entry.fields v.entry.end)
+has_inner_comment v = list_any (λ b. b == char.percent) (field_gaps v.text v.entry.fields v.entry.end)
 
 -- whether a list is empty
-abbrev pub has_none : {A : Type 0} → List A → Bool
-has_none [] = true
-has_none (x ∷ xs) = false
+abbrev pub is_empty_list : {A : Type 0} → List A → Bool
+is_empty_list [] = true
+is_empty_list (x ∷ xs) = false
 
 -- whether fields with these picks can be written with these added ones: a field stays, and no comment is between the fields unless only
 -- values change
 abbrev pub can_write : Version → List FieldPick → List FieldReading → Bool
 can_write main ps added =
-    list_any is_staying ps && ((list_all is_staying ps && has_none added) || not (has_inner_comment main))
+    list_any is_staying ps && ((list_all is_staying ps && is_empty_list added) || not (has_inner_comment main))
 
 -- the text of the main version with the fields that count, if they can be written
 abbrev pub mixed_text : (List ℕ → Bool) → Version → Version → Option (List ℕ)

@@ -4,7 +4,7 @@ use Rattle.std.specs.Prelude.{ℕ, Bool, true, false, not, ◌&&◌, cond, List,
 use Rattle.std.specs.List.{flat_map}
 use Rattle.bib_queries.specs.EqualValues.{are_equal_pieces}
 use Rattle.bib_syntax.specs.Reading.{FieldReading}
-use Rattle.edit_entry_merge.specs.Choices.{has_named}
+use Rattle.edit_entry_merge.specs.Choices.{has_field_named}
 use Rattle.edit_entry_merge.specs.Versions.{Version, named}
 
 -- what happens to a field: it is kept, gets the value of another field, or is removed
@@ -34,7 +34,7 @@ is_staying FieldPick.remove = false
 
 -- whether a field of the other version is added: it counts, and the main version has none with its name
 abbrev pub is_added : (List ℕ → Bool) → Version → FieldReading → Bool
-is_added takes main g = takes g.name.text && not (has_named g.name.text main)
+is_added takes main g = takes g.name.text && not (has_field_named g.name.text main)
 
 -- the fields that are added
 abbrev pub additions : (List ℕ → Bool) → Version → Version → List FieldReading

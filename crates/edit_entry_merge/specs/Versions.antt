@@ -31,7 +31,7 @@ abbrev pub version_of : Document → Option Version
 version_of d = version_by d.text d.says.entries
 
 -- the versions that are merged
-pub record Versions : Type 0 where
+pub record EntryVersions : Type 0 where
   pub base : Option Version
   pub ours : Version
   pub theirs : Version
@@ -42,8 +42,8 @@ base_of None = Some None
 base_of (Some d) = option_map Some (version_of d)
 
 -- the versions that documents are, if each is one; the base may be absent
-abbrev pub versions_of : Option Document → Document → Document → Option Versions
-versions_of base ours theirs =
+abbrev pub entry_versions : Option Document → Document → Document → Option EntryVersions
+entry_versions base ours theirs =
     option_and_then (λ b.
     option_and_then (λ o. option_map (λ t. record { base = b; ours = o; theirs = t }) (version_of theirs)) (version_of ours)) (base_of base)
 

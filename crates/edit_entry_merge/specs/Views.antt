@@ -1,6 +1,5 @@
 -- Meaning: words of public contracts.
 -- The readings that values of the code represent.
-use Rattle.std.specs.Prelude.{ℕ, List, map}
 use Rattle.std.specs.String.{string_bytes}
 use Rattle.edit_entry_merge.specs.Merges.{MergeReading}
 use Rattle.edit_entry_merge.specs.declared.merging.EntryMerge.{EntryMerge}

@@ -12,7 +12,7 @@ use Rattle.bib_syntax.specs.declared.raw.Pair.{Pair}
 use Rattle.edit_entries.specs.Changes.{FieldChange}
 use Rattle.edit_entries.specs.Documents.{IsDocument, has_name}
 use Rattle.edit_entries.specs.Placed.{IsNamePlaced, IsPlaced, IsSignPlaced}
-use Rattle.edit_entry_merge.specs.Choices.{has_named, is_conflict}
+use Rattle.edit_entry_merge.specs.Choices.{has_field_named, is_conflict}
 use Rattle.edit_entry_merge.specs.Picks.{FieldPick, is_staying}
 use Rattle.edit_entry_merge.specs.Versions as spec
 use Rattle.edit_entry_merge.specs.declared.picks.Addition.{Addition}
@@ -43,7 +43,7 @@ abbrev pub version_reading : Version → spec.Version
 version_reading v = record { text = v.text.now; entry = entry_reading_of v.entry.now }
 
 -- a version is that of a document
-pub record IsRead (v : spec.Version) : Type 0 where
+pub record IsReadVersion (v : spec.Version) : Type 0 where
   pub says : FileReading
   pub read : IsDocument (record { text = v.text; says = says })
   pub only : says.entries ≡ v.entry ∷ []
@@ -52,10 +52,10 @@ pub record IsRead (v : spec.Version) : Type 0 where
 -- a version is that of a document, and its map finds its fields
 pub record IsIndexed (v : Version) : Type 0 where
   pub finds : HasFirst v.fields (entry_reading_of v.entry.now).fields
-  pub read : IsRead (version_reading v)
+  pub read : IsReadVersion (version_reading v)
 
 -- the versions that a value of the code represents
-abbrev pub versions_reading : Versions → spec.Versions
+abbrev pub versions_reading : Versions → spec.EntryVersions
 versions_reading vs = record {
   base = option_map version_reading vs.base;
   ours = version_reading vs.ours;
@@ -94,12 +94,12 @@ count_to_last [] = 0
 count_to_last (p ∷ ps) = cond (list_any is_staying (p ∷ ps)) (suc (count_to_last ps)) 0
 
 -- the names of those of these fields that conflict
-abbrev pub conflicts_of : spec.Versions → List FieldReading → List (List ℕ)
+abbrev pub conflicts_of : spec.EntryVersions → List FieldReading → List (List ℕ)
 conflicts_of vs fields = map (λ f. f.name.text) (filter (λ f. is_conflict vs f.name.text) fields)
 
 -- the names of those of these fields that conflict and that ours lacks
-abbrev pub other_conflicts_of : spec.Versions → List FieldReading → List (List ℕ)
-other_conflicts_of vs fields = conflicts_of vs (filter (λ f. not (has_named f.name.text vs.ours)) fields)
+abbrev pub other_conflicts_of : spec.EntryVersions → List FieldReading → List (List ℕ)
+other_conflicts_of vs fields = conflicts_of vs (filter (λ f. not (has_field_named f.name.text vs.ours)) fields)
 
 -- ---- edits
 

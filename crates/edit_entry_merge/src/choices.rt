@@ -45,7 +45,7 @@ impl Side {
 /// Returns the side that counts, or none if they conflict. A side that is equal to the base has changed nothing, so the other side counts.
 /// If both sides changed the part and are equal, ours counts.
 pub fn choose(theirs_is_base: bool, ours_is_base: bool, sides_are_equal: bool) -> Option<Side>
-    ensures { result ≡ spec.choose theirs_is_base ours_is_base sides_are_equal }
+    ensures { result ≡ spec.counting_side theirs_is_base ours_is_base sides_are_equal }
 {
     if theirs_is_base {
         return Some(Side::Ours);

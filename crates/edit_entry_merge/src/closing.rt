@@ -88,12 +88,26 @@ fn closing_text(
 {
     let white = white_before(texts.main, field.key.span.start);
     let mut new = String::new(alloc);
-    push_field(&mut new, alloc, texts, field, field.key.v, picked_value(texts, field, pick))?;
+    push_field(
+        &mut new,
+        alloc,
+        texts,
+        field,
+        field.key.v,
+        picked_value(texts, field, pick),
+    )?;
     'added: for addition in added {
         let found = addition.field;
         new.push_str(",")?;
         new.push_str(white)?;
-        push_field(&mut new, alloc, texts, field, found.key.v, value_text(texts.other, found))?;
+        push_field(
+            &mut new,
+            alloc,
+            texts,
+            field,
+            found.key.v,
+            value_text(texts.other, found),
+        )?;
     }
     Ok(new)
 }

@@ -3,8 +3,8 @@
 ghost use Rattle.std.specs.Prelude.{◌≡◌, ◌++◌, ◌≤◌, ◌-◌, ℕ, IfOk, OnOk, List, drop, false, length, map, take};
 ghost use Rattle.std.specs.String.{string_bytes};
 ghost use Rattle.edit_entry_merge.specs.ConflictTexts as spec;
-ghost use Rattle.edit_entry_merge.specs.ConflictTexts.{IsConflictText, IsMarkedText, begin_alike, between_markers, end_alike, joined, markers_of};
-ghost use Rattle.edit_entry_merge.specs.Lines.{texts};
+ghost use Rattle.edit_entry_merge.specs.ConflictTexts.{IsConflictText, IsMarkedText, begin_with_same, between_markers, end_alike, lines_as_text, marker_lines};
+ghost use Rattle.edit_entry_merge.specs.Lines.{lent_lines};
 
 use std::alloc::{AllocError, Global};
 
@@ -21,7 +21,7 @@ pub struct Markers<'m> {
 
 // Returns the lines of a text: the texts between its line feeds.
 fn lines_of(alloc: Global, text: &str) -> Result<Vec<&str>, AllocError>
-    ensures { IfOk result (λ lines. texts lines.items ≡ spec.lines text.now) }
+    ensures { IfOk result (λ lines. lent_lines lines.items ≡ spec.lines text.now) }
 {
     text.split('\n').collect(alloc)
 }
@@ -30,8 +30,8 @@ fn lines_of(alloc: Global, text: &str) -> Result<Vec<&str>, AllocError>
 fn shared_start(one: &[&str], other: &[&str]) -> usize
     ensures one { result ≤ length one.now }
     ensures other { result ≤ length other.now }
-    ensures same { take result (texts one.now) ≡ take result (texts other.now) }
-    ensures longest { begin_alike (drop result (texts one.now)) (drop result (texts other.now)) ≡ false }
+    ensures same { take result (lent_lines one.now) ≡ take result (lent_lines other.now) }
+    ensures longest { begin_with_same (drop result (lent_lines one.now)) (drop result (lent_lines other.now)) ≡ false }
 {
     let most = one.len().min(other.len());
     'lines: for index in 0..most {
@@ -48,8 +48,8 @@ fn shared_start(one: &[&str], other: &[&str]) -> usize
 fn shared_end(one: &[&str], other: &[&str]) -> usize
     ensures one { result ≤ length one.now }
     ensures other { result ≤ length other.now }
-    ensures same { drop (length one.now - result) (texts one.now) ≡ drop (length other.now - result) (texts other.now) }
-    ensures longest { end_alike (take (length one.now - result) (texts one.now)) (take (length other.now - result) (texts other.now))
+    ensures same { drop (length one.now - result) (lent_lines one.now) ≡ drop (length other.now - result) (lent_lines other.now) }
+    ensures longest { end_alike (take (length one.now - result) (lent_lines one.now)) (take (length other.now - result) (lent_lines other.now))
         ≡ false }
 {
     let most = one.len().min(other.len());
@@ -65,7 +65,7 @@ fn shared_end(one: &[&str], other: &[&str]) -> usize
 
 // Appends lines.
 fn push_lines<'l>(lines: &mut Vec<&'l str>, more: &[&'l str]) -> Result<(), AllocError>
-    ensures { OnOk result (texts lines.new.items ≡ texts lines.old.items ++ texts more.now) }
+    ensures { OnOk result (lent_lines lines.new.items ≡ lent_lines lines.old.items ++ lent_lines more.now) }
 {
     'more: for line in more {
         lines.push(*line)?;
@@ -80,8 +80,8 @@ fn push_marked<'l>(
     ours: &[&'l str],
     theirs: &[&'l str],
 ) -> Result<(), AllocError>
-    ensures { OnOk result (texts lines.new.items ≡ texts lines.old.items
-        ++ between_markers (markers_of markers.entry) (texts ours.now) (texts theirs.now)) }
+    ensures { OnOk result (lent_lines lines.new.items ≡ lent_lines lines.old.items
+        ++ between_markers (marker_lines markers.entry) (lent_lines ours.now) (lent_lines theirs.now)) }
 {
     if ours.is_empty() && theirs.is_empty() {
         return Ok(());
@@ -96,7 +96,7 @@ fn push_marked<'l>(
 
 // Returns lines with a line feed between each two of them.
 fn joined_lines(alloc: Global, lines: &[&str]) -> Result<String, AllocError>
-    ensures { IfOk result (λ text. string_bytes text ≡ joined (texts lines.now)) }
+    ensures { IfOk result (λ text. string_bytes text ≡ lines_as_text (lent_lines lines.now)) }
 {
     let mut text = String::new(alloc);
     'lines: for (index, line) in lines.iter().enumerate() {
@@ -115,7 +115,7 @@ fn marked_text(
     ours: &[&str],
     theirs: &[&str],
 ) -> Result<String, AllocError>
-    ensures { IfOk result (λ text. IsMarkedText (markers_of markers.entry) (texts ours.now) (texts theirs.now) (string_bytes text)) }
+    ensures { IfOk result (λ text. IsMarkedText (marker_lines markers.entry) (lent_lines ours.now) (lent_lines theirs.now) (string_bytes text)) }
 {
     let start = shared_start(ours, theirs);
     let our_rest = &ours[start..];
@@ -143,7 +143,7 @@ pub fn conflict_text(
     ours: &str,
     theirs: &str,
 ) -> Result<String, AllocError>
-    ensures { IfOk result (λ text. IsConflictText (markers_of markers.entry) ours.now theirs.now (string_bytes text)) }
+    ensures { IfOk result (λ text. IsConflictText (marker_lines markers.entry) ours.now theirs.now (string_bytes text)) }
 {
     let our_lines = lines_of(alloc, ours)?;
     let their_lines = lines_of(alloc, theirs)?;

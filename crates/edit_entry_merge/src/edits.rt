@@ -36,7 +36,7 @@ fn push_own(
     requires pick { IsPickPlaced texts.other.now (pick_of pick) }
     ensures { OnOk result (map edit_of edits.new.items ≡ map edit_of edits.old.items
         ++ edits_of_field texts.entry.main.now (field_of field.now) (map field_of following.now)
-        (spec.own_change texts.entry.other.now (pick_of pick.entry))) }
+        (spec.picked_change texts.entry.other.now (pick_of pick.entry))) }
 {
     match pick.fate {
         Fate::Keep => Ok(()),
@@ -90,7 +90,7 @@ fn entry_edits(
     requires picks { AllByRecursion (IsPickPlaced texts.other.now) (map pick_of picks.now) }
     requires added { AllByRecursion (IsPlaced texts.other.now) (added_fields added.now) }
     ensures { IfOk result (λ edits. map edit_of edits.items ≡ edits_of_fields texts.entry.main.now (map field_of texts.entry.fields.now)
-        (spec.field_changes texts.entry.main.now texts.entry.other.now (map field_of texts.entry.fields.now) (added_fields added.now)
+        (spec.mixed_field_changes texts.entry.main.now texts.entry.other.now (map field_of texts.entry.fields.now) (added_fields added.now)
         (map pick_of picks.now) (map field_of texts.entry.fields.now))) }
 {
     let mut edits = Vec::new(alloc);
@@ -98,9 +98,23 @@ fn entry_edits(
     let fields = texts.fields;
     'fields: for index in 0..last {
         let following = &fields[index + 1..];
-        push_own(&mut edits, alloc, texts, &fields[index], following, picks[index])?;
+        push_own(
+            &mut edits,
+            alloc,
+            texts,
+            &fields[index],
+            following,
+            picks[index],
+        )?;
     }
-    push_last(&mut edits, alloc, texts, &fields[last..], picks[last], added)?;
+    push_last(
+        &mut edits,
+        alloc,
+        texts,
+        &fields[last..],
+        picks[last],
+        added,
+    )?;
     Ok(edits)
 }
 

@@ -20,7 +20,7 @@ fn outside_fields(
     fields: &[Pair<'_>],
     end: usize,
 ) -> Result<Vec<u8>, AllocError>
-    ensures { IfOk result (λ outside. outside.items ≡ spec.outside_fields text.now start (map field_of fields.now) end) }
+    ensures { IfOk result (λ outside. outside.items ≡ spec.outside_of_fields text.now start (map field_of fields.now) end) }
 {
     let mut outside = Vec::new(alloc);
     let mut at = start;
@@ -43,7 +43,11 @@ fn without_layout(alloc: Global, bytes: &[u8]) -> Result<Vec<u8>, AllocError>
         if in_comment || !is_layout {
             kept.push(*byte)?;
         }
-        in_comment = if in_comment { *byte != b'\n' } else { *byte == b'%' };
+        in_comment = if in_comment {
+            *byte != b'\n'
+        } else {
+            *byte == b'%'
+        };
     }
     Ok(kept)
 }
@@ -51,21 +55,21 @@ fn without_layout(alloc: Global, bytes: &[u8]) -> Result<Vec<u8>, AllocError>
 impl<'a, 's> Version<'a, 's> {
     // Returns the bytes of the text before the entry.
     fn before_entry(&self) -> &'s [u8]
-        ensures { result.now ≡ spec.before_entry (version_reading self.now) }
+        ensures { result.now ≡ spec.text_before_entry (version_reading self.now) }
     {
         stretch(self.text, 0, self.entry.span.start)
     }
 
     // Returns the bytes of the text after the entry, from the closing brace on.
     fn behind_entry(&self) -> &'s [u8]
-        ensures { result.now ≡ spec.behind_entry (version_reading self.now) }
+        ensures { result.now ≡ spec.text_behind_entry (version_reading self.now) }
     {
         stretch(self.text, self.entry.span.end, self.text.len())
     }
 
     // Returns the bytes of the text before the first field.
-    fn head(&self) -> &'s [u8]
-        ensures { result.now ≡ spec.head (version_reading self.now) }
+    fn before_fields(&self) -> &'s [u8]
+        ensures { result.now ≡ spec.text_before_fields (version_reading self.now) }
     {
         let start = match self.entry.v.fields.as_slice() {
             [first, ..] => first.key.span.start,
@@ -120,7 +124,7 @@ impl<'a, 's> Version<'a, 's> {
     fn has_same_frame(&self, alloc: Global, other: &Version<'_, '_>) -> Result<bool, AllocError>
         ensures { IfOk result (λ same. same ≡ spec.are_same_frames (version_reading self.now) (version_reading other.now)) }
     {
-        if self.head() != other.head() {
+        if self.before_fields() != other.before_fields() {
             return Ok(false);
         }
         self.has_alike_frame(alloc, other)

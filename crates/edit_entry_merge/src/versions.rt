@@ -65,7 +65,11 @@ fn fields_by_name<'a, 's>(
         let is_new = insert_field(&mut names, alloc, field)?;
         are_distinct = are_distinct && is_new;
     }
-    if are_distinct { Ok(Some(names)) } else { Ok(None) }
+    if are_distinct {
+        Ok(Some(names))
+    } else {
+        Ok(None)
+    }
 }
 
 impl<'a, 's> Version<'a, 's> {
@@ -113,7 +117,7 @@ impl<'a, 's> Versions<'a, 's> {
         theirs: &'a RawDocument<'s>,
     ) -> Result<Option<Self>, AllocError>
         ensures versions { IfOk result (λ found. option_map versions_reading found
-            ≡ spec.versions_of (option_map (λ d. d.now) base.entry) ours.now theirs.now) }
+            ≡ spec.entry_versions (option_map (λ d. d.now) base.entry) ours.now theirs.now) }
         ensures indexed { IfOk result (λ found. IfSome found AreIndexed) }
     {
         let base = match base {

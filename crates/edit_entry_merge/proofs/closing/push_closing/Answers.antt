@@ -1,4 +1,4 @@
-use Rattle.std.proofs.Common.{◌≡◌, ◌++◌, ◌∷◌, [], ◌∙◌, ◌-◌, ℕ, List, ap, arith, append_assoc, length, map, subst, sym}
+use Rattle.std.proofs.Common.{◌≡◌, ◌++◌, ◌∷◌, [], ◌∙◌, ◌-◌, ℕ, List, ap, arith, append_assoc, length, map, sym}
 use Rattle.std.specs.String.{string_bytes}
 use Rattle.std.proofs.lemmas.List.{map-append}
 use Rattle.bib_syntax.specs.Reading.{FieldReading}
@@ -41,7 +41,7 @@ returns c f following whole =
     (white_before text f.name.start) in
     let written : string_bytes c.in_ok-closing_text.field-0 ≡ bytes f = c.in_ok-closing_text.ensures ∙ ap bytes first in
     let edit : edit_of (record { start = last.key.span.start; end = c.value_end.result; text = c.in_ok-closing_text.field-0 })
-        ≡ field_stretch text (last_of f following) (bytes f) =
+    ≡ field_stretch text (last_of f following) (bytes f) =
     ap (λ n. let e : edits.Edit = record { start = last.key.span.start; end = n; bytes = string_bytes c.in_ok-closing_text.field-0 } in e)
     c.value_end.ensures.end
     ∙ ap (λ b. field_stretch text (field_of last) b) written ∙ ap (λ g. field_stretch text g (bytes f)) is_last in

@@ -1,4 +1,4 @@
-use Rattle.std.proofs.Common.{◌≡◌, ◌∙◌, arith, sym}
+use Rattle.std.proofs.Common.{◌∙◌, arith, sym}
 use Rattle.edit_entry_merge.proofs.LineFacts.{differ_from, not_false, not_true, same_up_to}
 use Rattle.edit_entry_merge.proofs.conflict_text.shared_start.Goals as goal
 

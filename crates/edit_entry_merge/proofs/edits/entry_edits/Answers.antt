@@ -1,13 +1,13 @@
 use Rattle.std.proofs.Common.{◌≡◌, ◌++◌, ◌∷◌, ◌∙◌, ◌+◌, ◌-◌, ◌<◌, ℕ, List, ap, append_assoc, arith, drop, length, map, subst, sym, true, false}
 use Rattle.std.specs.List.{AllByRecursion, list_any}
-use Rattle.std.proofs.lemmas.List.{length-map, length-drop}
+use Rattle.std.proofs.lemmas.List.{length-map}
 use Rattle.bib_text.proofs.ListFacts.{drop_is, take_to_end}
 use Rattle.bib_syntax.specs.Reading.{FieldReading}
 use Rattle.bib_syntax.specs.Views.{field_of}
 use Rattle.edit_entries.specs.Changes.{edits_of_field, edits_of_fields}
 use Rattle.edit_entries.specs.EditList.{edit_of}
 use Rattle.edit_entries.specs.Edits.{Edit}
-use Rattle.edit_entry_merge.specs.Mixed.{field_changes, own_change}
+use Rattle.edit_entry_merge.specs.Mixed.{mixed_field_changes, picked_change}
 use Rattle.edit_entry_merge.specs.Picks.{FieldPick, is_staying}
 use Rattle.edit_entry_merge.specs.Working.{AreEditable, IsPickPlaced, added_fields, count_to_last, pick_of}
 use Rattle.edit_entry_merge.proofs.CountFacts.{count_rest, count_within, none_stays, one_stays, some_count}
@@ -27,7 +27,7 @@ fields-init c =
           ap
           (λ l.
           map edit_of l
-          ++ edits_of_fields main fs (field_changes main c.args.texts.other.now fs (added_fields c.args.added.now) ps fs))
+          ++ edits_of_fields main fs (mixed_field_changes main c.args.texts.other.now fs (added_fields c.args.added.now) ps fs))
           c.new-edits.ensures.items;
       left = omega (arith, c.count_to_last-last.ensures, some_count ps c.requires.stays);
       fields = c.requires.fields;
@@ -65,21 +65,23 @@ fields-preserved c =
     let rest = count_rest p ps (omega (arith, left, c.fields-test.true)) in
     let stays : list_any is_staying ps ≡ true = one_stays ps (omega (arith, left, rest, c.fields-test.true)) in
     let now : List Edit = map edit_of c.push_own.new.edits.items in
-    let later : List Edit = edits_of_fields main fs (field_changes main other all added ps fs) in
+    let later : List Edit = edits_of_fields main fs (mixed_field_changes main other all added ps fs) in
     let own : map edit_of c.push_own.new.edits.items
-        ≡ map edit_of c.fields.edits.items ++ edits_of_field main f fs (own_change other p) =
+    ≡ map edit_of c.fields.edits.items ++ edits_of_field main f fs (picked_change other p) =
     c.in_ok-push_own.ensures
-    ∙ ap (λ l. map edit_of c.fields.edits.items ++ edits_of_field main f (map field_of l) (own_change other p)) (take_to_end xs (i + 1)) in
+    ∙ ap (λ l. map edit_of c.fields.edits.items ++ edits_of_field main f (map field_of l) (picked_change other p))
+    (take_to_end xs (i + 1)) in
     record {
       added =
           ap (λ l. l ++ later) own
-          ∙ append_assoc (map edit_of c.fields.edits.items) (edits_of_field main f fs (own_change other p)) later
+          ∙ append_assoc (map edit_of c.fields.edits.items) (edits_of_field main f fs (picked_change other p)) later
           ∙ ap (λ l. map edit_of c.fields.edits.items ++ l) (sym (own_step main other all added p ps f fs stays))
-          ∙ ap (λ l. map edit_of c.fields.edits.items ++ edits_of_fields main l (field_changes main other all added (p ∷ ps) l)) (sym fields)
+          ∙ ap (λ l. map edit_of c.fields.edits.items
+          ++ edits_of_fields main l (mixed_field_changes main other all added (p ∷ ps) l)) (sym fields)
           ∙ ap
           (λ l.
           map edit_of c.fields.edits.items
-          ++ edits_of_fields main (map field_of (drop i xs)) (field_changes main other all added l (map field_of (drop i xs))))
+          ++ edits_of_fields main (map field_of (drop i xs)) (mixed_field_changes main other all added l (map field_of (drop i xs))))
           (sym picks)
           ∙ c.fields.invariant.added;
       left = omega (arith, left, rest);
@@ -115,21 +117,23 @@ returns c =
     let fields : map field_of (drop last xs) ≡ f ∷ fs = ap (map field_of) cut.1 in
     let picks : map pick_of (drop last ys) ≡ p ∷ ps = ap (map pick_of) (drop_is ys last y within c.index-picks-last.is) in
     let left : last + count_to_last (p ∷ ps) ≡ last + 1 =
-    ap (λ l. last + count_to_last l) (sym picks) ∙ ap (λ n. n + count_to_last (map pick_of (drop n ys))) (sym at) ∙ c.fields.invariant.left in
+    ap (λ l. last + count_to_last l) (sym picks) ∙ ap (λ n. n + count_to_last (map pick_of (drop n ys))) (sym at)
+    ∙ c.fields.invariant.left in
     let none : list_any is_staying ps ≡ false =
     none_stays ps (omega (arith, left, count_rest p ps (omega (arith, left)))) in
     c.in_ok-push_last.ensures f fs (ap (map field_of) (take_to_end xs last) ∙ fields)
     ∙ ap (λ l. map edit_of c.fields.edits.items ++ edits_of_fields main (f ∷ fs) l) (sym (last_step main other all added p ps f fs none))
-    ∙ ap (λ l. map edit_of c.fields.edits.items ++ edits_of_fields main l (field_changes main other all added (p ∷ ps) l)) (sym fields)
+    ∙ ap (λ l. map edit_of c.fields.edits.items ++ edits_of_fields main l (mixed_field_changes main other all added (p ∷ ps) l))
+    (sym fields)
     ∙ ap
     (λ l.
     map edit_of c.fields.edits.items
-    ++ edits_of_fields main (map field_of (drop last xs)) (field_changes main other all added l (map field_of (drop last xs))))
+    ++ edits_of_fields main (map field_of (drop last xs)) (mixed_field_changes main other all added l (map field_of (drop last xs))))
     (sym picks)
     ∙ ap
     (λ n.
     map edit_of c.fields.edits.items
     ++ edits_of_fields main (map field_of (drop n xs))
-    (field_changes main other all added (map pick_of (drop n ys)) (map field_of (drop n xs))))
+    (mixed_field_changes main other all added (map pick_of (drop n ys)) (map field_of (drop n xs))))
     (sym at)
     ∙ c.fields.invariant.added

@@ -1,11 +1,10 @@
-use Rattle.std.proofs.Common.{◌≡◌, ◌∙◌, ℕ, List, ap, length, sym, false, Option, Some, None}
+use Rattle.std.proofs.Common.{◌≡◌, ◌∙◌, ap, length, sym, false, Option, Some, None}
 use Rattle.std.specs.Prelude.{◌==◌, option_map}
 use Rattle.std.specs.String.{string_bytes}
 use Rattle.edit_entries.specs.Documents.{Document}
-use Rattle.edit_entry_merge.specs.Choices.{conflicts}
 use Rattle.edit_entry_merge.specs.Frames.{frame_choice}
 use Rattle.edit_entry_merge.specs.Merges.{text_for}
-use Rattle.edit_entry_merge.specs.Versions.{Versions, versions_of}
+use Rattle.edit_entry_merge.specs.Versions.{EntryVersions, entry_versions}
 use Rattle.edit_entry_merge.specs.Working.{versions_reading}
 use Rattle.edit_entry_merge.specs.declared.choices.Side.TheVariants.{Ours, Theirs}
 use Rattle.edit_entry_merge.proofs.MergeFacts.{fields_is, merge_is, whole_is}
@@ -14,8 +13,8 @@ use Rattle.edit_entry_merge.proofs.merging.merge_entry.Goals as goal
 pub returns-in_default-4 : goal.returns-in_default-4
 returns-in_default-4 c =
     let base : Option Document = option_map (λ d. d.now) c.args.base in
-    let vs : Versions = versions_reading c.in-Some.versions in
-    let are : Some vs ≡ versions_of base c.args.ours.now c.args.theirs.now =
+    let vs : EntryVersions = versions_reading c.in-Some.versions in
+    let are : Some vs ≡ entry_versions base c.args.ours.now c.args.theirs.now =
     ap (option_map versions_reading) (sym c.in-Some.is) ∙ c.in_ok-versions.ensures.versions in
     let frame : Some c.in-Some-2.main ≡ frame_choice vs = sym c.in-Some-2.is ∙ c.in_ok-main.ensures in
     let our_text : Some (string_bytes c.in-Some-3.our_text) ≡ text_for vs c.in-Some-2.main Ours =
@@ -34,8 +33,8 @@ returns-in_default-4 c =
 pub returns : goal.returns
 returns c =
     let base : Option Document = option_map (λ d. d.now) c.args.base in
-    let vs : Versions = versions_reading c.in-Some.versions in
-    let are : Some vs ≡ versions_of base c.args.ours.now c.args.theirs.now =
+    let vs : EntryVersions = versions_reading c.in-Some.versions in
+    let are : Some vs ≡ entry_versions base c.args.ours.now c.args.theirs.now =
     ap (option_map versions_reading) (sym c.in-Some.is) ∙ c.in_ok-versions.ensures.versions in
     let frame : Some c.in-Some-2.main ≡ frame_choice vs = sym c.in-Some-2.is ∙ c.in_ok-main.ensures in
     let our_text : Some (string_bytes c.in-Some-3.our_text) ≡ text_for vs c.in-Some-2.main Ours =

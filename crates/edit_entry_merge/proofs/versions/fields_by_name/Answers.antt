@@ -1,4 +1,4 @@
-use Rattle.std.proofs.Common.{◌≡◌, ◌++◌, ◌∷◌, [], ◌∙◌, Bool, List, ap, map, subst, sym, take, ◌+◌}
+use Rattle.std.proofs.Common.{◌≡◌, ◌++◌, ◌∷◌, [], ◌∙◌, List, ap, map, subst, sym, take, ◌+◌}
 use Rattle.std.specs.Prelude.{◌&&◌}
 use Rattle.bib_text.proofs.ListFacts.{mapped_more}
 use Rattle.bib_syntax.specs.Reading.{FieldReading}
@@ -15,7 +15,8 @@ fields-preserved c =
     let xs = c.args.fields.now in
     let x = c.field-item.result in
     let before : List FieldReading = map field_of (take i xs) in
-    let more : map field_of (take (i + 1) xs) ≡ before ++ field_of x ∷ [] = mapped_more field_of xs i x c.fields-test.true c.field-item.is in
+    let more : map field_of (take (i + 1) xs) ≡ before ++ field_of x ∷ [] =
+    mapped_more field_of xs i x c.fields-test.true c.field-item.is in
     let next : (c.fields.are_distinct && c.in_ok-is_new.is_new) ≡ have_distinct_names (before ++ field_of x ∷ []) =
     distinct_next c.fields.names before (field_of x) c.fields.are_distinct c.in_ok-is_new.is_new c.fields.invariant.first
     c.fields.invariant.distinct c.in_ok-is_new.ensures.new in
@@ -26,7 +27,8 @@ fields-preserved c =
       distinct =
           elim c.if-are_distinct.branch [
             | then-are_distinct w ↦
-                w.are_distinct-is ∙ ap (λ b. b && c.in_ok-is_new.is_new) (sym w.if-are_distinct.true) ∙ next ∙ ap have_distinct_names (sym more)
+                w.are_distinct-is ∙ ap (λ b. b && c.in_ok-is_new.is_new) (sym w.if-are_distinct.true) ∙ next
+                ∙ ap have_distinct_names (sym more)
             | else-are_distinct w ↦
                 w.are_distinct-is ∙ w.if-are_distinct.false ∙ ap (λ b. b && c.in_ok-is_new.is_new) (sym w.if-are_distinct.false) ∙ next
                 ∙ ap have_distinct_names (sym more)

@@ -1,10 +1,7 @@
-use Rattle.std.proofs.Common.{◌∙◌, ap, sym, Some}
-use Rattle.std.specs.Prelude.{is_some}
-use Rattle.std.specs.BTreeMap.{get_by_text}
+use Rattle.std.proofs.Common.{◌∙◌, sym, Some}
 use Rattle.std.specs.String.{string_bytes}
 use Rattle.std.proofs.lemmas.Map.Text.{btree_map_updates_text}
-use Rattle.bib_syntax.specs.Views.{field_of}
-use Rattle.edit_entry_merge.proofs.NameFacts.{first_added, first_kept}
+use Rattle.edit_entry_merge.proofs.NameFacts.{first_added}
 use Rattle.edit_entry_merge.proofs.versions.insert_field.Goals as goal
 
 pub returns-clause-added : goal.returns-clause-added

@@ -1,16 +1,14 @@
-use Rattle.std.proofs.Common.{◌≡◌, ◌∙◌, ℕ, Bool, List, ap, cond, filter, map, subst, sym, true, false, Option, Some, None}
+use Rattle.std.proofs.Common.{◌≡◌, ◌∙◌, ℕ, Bool, List, ap, filter, map, subst, sym, None}
 use Rattle.std.specs.List.{AllByRecursion}
-use Rattle.std.specs.String.{string_bytes}
 use Rattle.bib_syntax.specs.Reading.{FieldReading}
-use Rattle.bib_syntax.specs.Views.{entry_reading_of, field_of}
+use Rattle.bib_syntax.specs.Views.{field_of}
 use Rattle.edit_entries.specs.Changes.{EntryChange, edits_of_entry, edits_of_fields}
 use Rattle.edit_entries.specs.EditList.{AreEditsInOrder, edit_of}
-use Rattle.edit_entries.specs.Edits.{Edit, edited_all}
 use Rattle.edit_entries.specs.Placed.{IsPlaced}
 use Rattle.edit_entry_merge.specs.Choices.{other_side, takes_other, version_at}
-use Rattle.edit_entry_merge.specs.Mixed.{can_write, field_changes, mixed_change, mixed_text}
-use Rattle.edit_entry_merge.specs.Picks.{FieldPick, additions, is_added, pick, picks}
-use Rattle.edit_entry_merge.specs.Versions.{Version, Versions}
+use Rattle.edit_entry_merge.specs.Mixed.{mixed_field_changes}
+use Rattle.edit_entry_merge.specs.Picks.{is_added, pick}
+use Rattle.edit_entry_merge.specs.Versions.{Version, EntryVersions}
 use Rattle.edit_entry_merge.specs.Working.{AreEditable, IsPickPlaced, added_fields, pick_of, version_reading, versions_reading}
 use Rattle.edit_entry_merge.proofs.MixedFacts.{all_values, editable, filtered, in_order, picks_placed}
 use Rattle.edit_entry_merge.proofs.versions.Versions.text_for.Goals as goal
@@ -22,7 +20,7 @@ entry_edits-requires-clause-fields c =
 
 pub entry_edits-requires-clause-picks : goal.entry_edits-requires-clause-picks
 entry_edits-requires-clause-picks c =
-    let vs : Versions = versions_reading c.args.self.now in
+    let vs : EntryVersions = versions_reading c.args.self.now in
     let w : Version = version_reading c.at-other.result.now in
     let same : w ≡ version_at vs (other_side c.args.main) = c.at-other.ensures.version ∙ ap (version_at vs) c.other.ensures in
     let takes : List ℕ → Bool = takes_other vs c.args.main c.args.prefer in
@@ -33,7 +31,7 @@ entry_edits-requires-clause-picks c =
 
 pub entry_edits-requires-clause-added : goal.entry_edits-requires-clause-added
 entry_edits-requires-clause-added c =
-    let vs : Versions = versions_reading c.args.self.now in
+    let vs : EntryVersions = versions_reading c.args.self.now in
     let w : Version = version_reading c.at-other.result.now in
     let takes : List ℕ → Bool = takes_other vs c.args.main c.args.prefer in
     let test : FieldReading → Bool = is_added takes (version_at vs c.args.main) in
@@ -50,7 +48,7 @@ edited_all-requires c =
     let fs : List FieldReading = map field_of c.as_slice-fields.result.now in
     let change : EntryChange = record {
       kind = None;
-      fields = field_changes v.text w.text fs (added_fields c.deref-5.result.now) (map pick_of c.deref-4.result.now) fs;
+      fields = mixed_field_changes v.text w.text fs (added_fields c.deref-5.result.now) (map pick_of c.deref-4.result.now) fs;
     } in
     let edits : map edit_of c.deref-6.result.now ≡ edits_of_entry v.text v.entry change =
     ap (map edit_of) c.deref-6.ensures.value ∙ c.in_ok-edits.ensures
