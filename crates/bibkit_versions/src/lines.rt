@@ -30,7 +30,7 @@ pub(crate) enum Subject {
 impl Subject {
     /// Returns the unit that a change is about.
     pub(crate) fn of(change: Change) -> Self
-        ensures { result ≡ spec.subject_of change }
+        ensures { result ≡ spec.change_subject change }
     {
         match change {
             Change::Removed { old } => Subject::Old(old),
@@ -175,7 +175,7 @@ fn detail(
 
 // Returns two spaces before a text, or an empty text before an empty one.
 fn gap_before(text: &str) -> &'static str
-    ensures { result.now ≡ spec.gap_before text.now }
+    ensures { result.now ≡ spec.gap_to text.now }
 {
     if text.is_empty() { "" } else { "  " }
 }
