@@ -8,7 +8,7 @@ use Rattle.std.specs.Str.{chars, trim_end}
 use Rattle.bib_syntax.specs.Reading.{EntryReading, FieldReading, Piece}
 use Rattle.bib_syntax.specs.Reading.Piece.{abbreviation, literal}
 use Rattle.edit_units.specs.Units.{UnitReading}
-use Rattle.edit_versions.specs.Versions.{VersionReading, first_line, text_of_unit, version_unit, words}
+use Rattle.edit_versions.specs.Versions.{VersionReading, first_line, text_of_unit, version_unit, words_with_spaces}
 use Rattle.bibkit_versions.specs.declared.labels.Kind.{Kind}
 use Rattle.bibkit_versions.specs.declared.labels.Kind.TheVariants.{Block, Definition, Entry, Text}
 use Rattle.bibkit_versions.specs.declared.labels.TheConstants.{MOST_SHOWN}
@@ -23,7 +23,7 @@ printable text = flat_map printable_character (chars text)
 
 -- a text on one line: each run of white space is one space, and none is at its start and its end
 abbrev pub text_on_one_line : List ℕ → List ℕ
-text_on_one_line text = trim_end (words text)
+text_on_one_line text = trim_end (words_with_spaces text)
 
 -- the first characters of a text, at most `MOST_SHOWN`
 abbrev pub front : List ℕ → List ℕ

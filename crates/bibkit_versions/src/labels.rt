@@ -10,7 +10,7 @@ ghost use Rattle.bibkit_versions.specs.Labels as spec;
 use bib_syntax::raw::{Pair, RawChunk, RawEntry};
 use bib_text::spanned::{Span, Spanned};
 use edit_units::units::Unit;
-use edit_versions::names::{first_line, words};
+use edit_versions::names::{first_line, words_with_spaces};
 use edit_versions::version::Version;
 use std::alloc::{AllocError, Global};
 
@@ -68,7 +68,7 @@ fn points_after(text: &str) -> &'static str
 pub(crate) fn shown(alloc: Global, text: &str) -> Result<String, AllocError>
     ensures { IfOk result (λ shown. string_bytes shown ≡ spec.shown_text text.now) }
 {
-    let words = words(alloc, text)?;
+    let words = words_with_spaces(alloc, text)?;
     let line = words.as_str().trim_end();
     let front = front(alloc, line)?;
     let mut shown = printable(alloc, &front)?;

@@ -8,12 +8,12 @@ use Rattle.bib_syntax.specs.Reading.{EntryReading, FieldReading, Piece}
 use Rattle.bib_syntax.specs.Reading.Piece.{abbreviation, literal}
 use Rattle.edit_units.specs.Units.{UnitReading}
 use Rattle.edit_versions.specs.Alike.{single_entry}
-use Rattle.edit_versions.specs.Versions.{VersionReading, has_unit_named, indices_of, version_names, version_unit, words}
+use Rattle.edit_versions.specs.Versions.{VersionReading, has_unit_named, indices_of, version_names, version_unit, words_with_spaces}
 
 -- a piece as text: its words, after a sign that says whether it is a literal
 abbrev pub piece_content : Piece → List ℕ
-piece_content (literal p) = codes "=" ++ words p.text
-piece_content (abbreviation p) = codes "#" ++ words p.text
+piece_content (literal p) = codes "=" ++ words_with_spaces p.text
+piece_content (abbreviation p) = codes "#" ++ words_with_spaces p.text
 
 -- a field as text: its name in ASCII lowercase, and the words of its pieces
 abbrev pub field_content : FieldReading → List ℕ

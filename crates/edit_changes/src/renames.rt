@@ -13,7 +13,7 @@ use bib_text::spanned::Spanned;
 use bib_text::text::Text;
 use edit_units::units::Unit;
 use edit_versions::alike::single_entry;
-use edit_versions::names::{indices_of, words};
+use edit_versions::names::{indices_of, words_with_spaces};
 use edit_versions::version::Version;
 use std::alloc::{AllocError, Global};
 use std::marker::Model;
@@ -30,7 +30,7 @@ fn push_piece(
         RawChunk::Normal(text) => ("=", text),
         RawChunk::Abbreviation(name) => ("#", name),
     };
-    let words = words(alloc, text)?;
+    let words = words_with_spaces(alloc, text)?;
     content.push_str(sign)?;
     content.push_str(words.as_str())
 }

@@ -1,5 +1,7 @@
 pub mod Clean
+pub mod Groups
 pub mod Merged
 pub mod PartViews
 pub mod Picked
+pub mod Unchanged
 pub mod Views

@@ -1,12 +1,14 @@
 -- Machinery: words of private contracts.
 -- The parts of a merge and the texts of units, from the values of the code.
-use Rattle.std.specs.Prelude.{List, [], ◌∷◌, Option, Some, None, option_map}
+use Rattle.std.specs.Prelude.{ℕ, List, [], ◌∷◌, Option, Some, None, option_map}
+use Rattle.std.specs.Borrow.{Bor}
 use Rattle.std.specs.String.{string_bytes}
 use Rattle.edit_merge.specs.Merged.{MergedPart}
 use Rattle.edit_merge.specs.declared.merging.Part.{Part}
-use Rattle.edit_units.specs.Units.{UnitTexts}
-use Rattle.edit_units.specs.Views.{unit_texts_of}
-use Rattle.edit_units.specs.declared.texts.UnitText.{UnitText}
+
+-- a text, if it is there
+abbrev pub optional_text : Option (Bor (List ℕ)) → Option (List ℕ)
+optional_text found = option_map (λ text. text.now) found
 
 -- a part
 abbrev pub part_view : Part → MergedPart

@@ -1,21 +1,24 @@
 //! Writes the text of a merge.
 
-ghost use Rattle.std.specs.Prelude.{◌≡◌, ◌++◌, IfOk, OnOk, map};
+ghost use Rattle.std.specs.Prelude.{◌≡◌, ◌++◌, IfOk, OnOk, map, option_map};
 ghost use Rattle.std.specs.List.{flat_map};
 ghost use Rattle.std.specs.String.{string_bytes};
 ghost use Rattle.edit_merge.specs.Merged as merged;
 ghost use Rattle.edit_merge.specs.PartViews.{parts_view, part_view};
 ghost use Rattle.edit_merge.specs.Picked as picked;
 ghost use Rattle.edit_merge.specs.Views.{markers_of, versions_of};
+ghost use Rattle.edit_versions.specs.Versions as versions;
 ghost use Rattle.edit_versions.specs.Views.{texts_view};
 
 use crate::picking::{Choice, Versions};
-use crate::slots::{Slot, slots};
-use edit_versions::version::Version;
+use crate::slots::{OrderedSlots, Slot, slots};
+use crate::spaces::{merged_blank, merged_end, merged_start, push_space, slot_space};
 use edit_units::texts::UnitText;
+use edit_versions::version::Version;
 use std::alloc::{AllocError, Global};
 
-/// The lines that mark the two sides of a conflict, without line feeds.
+/// The lines that mark the two sides of a conflict, without line feeds. They are written as they are. A text with conflicts isn't meant to
+/// be parsed, and a marker with an at sign may look like the start of a block.
 #[derive(Debug, Clone, Copy)]
 pub struct Markers<'a> {
     /// The line before the text of our side.
@@ -32,32 +35,6 @@ pub(crate) struct Part<'s> {
     space: &'s str,
     text: String,
     is_text: bool,
-}
-
-// Returns whether the unit at an index, if there is one, has no block.
-fn is_text_unit(version: &Version<'_>, index: Option<usize>) -> bool
-    ensures { result ≡ merged.is_text_unit version.now index }
-{
-    match version.unit_at(index) {
-        Some(unit) => unit.blocks.is_empty(),
-        None => false,
-    }
-}
-
-// Returns the white space before the units of a slot.
-fn space_by<'s>(
-    base: Option<UnitText<'s>>,
-    ours: Option<UnitText<'s>>,
-    theirs: Option<UnitText<'s>>,
-) -> &'s str
-    ensures { result.now ≡ merged.space_by (texts_view base.entry) (texts_view ours.entry) (texts_view theirs.entry) }
-{
-    match (base, ours, theirs) {
-        (_, None, None) => "",
-        (_, None, Some(theirs)) => theirs.space,
-        (Some(base), Some(ours), Some(theirs)) if ours.space == base.space => theirs.space,
-        (_, Some(ours), _) => ours.space,
-    }
 }
 
 // Appends a text and a line feed, if the text is there.
@@ -91,52 +68,69 @@ fn conflict_text(
     Ok(text)
 }
 
-// Returns the part of a unit, if it is there.
-fn kept_part<'s>(
-    alloc: Global,
-    space: &'s str,
-    is_text: bool,
-    unit: Option<UnitText<'_>>,
-) -> Result<Option<Part<'s>>, AllocError>
-    ensures { IfOk result (λ part. parts_view part ≡ merged.kept_part space.now is_text (texts_view unit.entry)) }
+// Returns whether a unit has no block, or is absent.
+fn is_without_blocks(version: &Version<'_>, index: Option<usize>) -> bool
+    ensures { result ≡ merged.is_without_blocks (versions.version_unit version.now index) }
+{
+    match version.unit_at(index) {
+        Some(unit) => unit.blocks.is_empty(),
+        None => true,
+    }
+}
+
+// Returns whether the units of a slot have no block.
+fn is_text_slot(versions: Versions<'_, '_>, slot: Slot) -> bool
+    ensures { result ≡ merged.is_text_slot (versions_of versions.entry) slot }
+{
+    is_without_blocks(versions.ours, slot.ours) && is_without_blocks(versions.theirs, slot.theirs)
+}
+
+// Returns a copy of the text of a unit, if it is there.
+fn text_of_unit(alloc: Global, unit: Option<UnitText<'_>>) -> Result<Option<String>, AllocError>
+    ensures { IfOk result (λ text. option_map string_bytes text ≡ option_map (λ p. p.text) (texts_view unit.entry)) }
 {
     match unit {
-        Some(unit) => Ok(Some(Part {
-            space,
-            text: String::from_str(alloc, unit.text)?,
-            is_text,
-        })),
+        Some(unit) => Ok(Some(String::from_str(alloc, unit.text)?)),
         None => Ok(None),
     }
 }
 
+// Returns the text of a slot, or `None` if what is picked is absent.
+fn slot_text(
+    alloc: Global,
+    markers: Markers<'_>,
+    versions: Versions<'_, '_>,
+    slot: Slot,
+) -> Result<Option<String>, AllocError>
+    ensures { IfOk result (λ text. option_map string_bytes text ≡
+        merged.slot_text (markers_of markers.entry) (versions_of versions.entry) slot slot.choice) }
+{
+    let ours = versions.ours.texts_at(slot.ours);
+    let theirs = versions.theirs.texts_at(slot.theirs);
+    match slot.choice {
+        Choice::Ours => text_of_unit(alloc, ours),
+        Choice::Theirs => text_of_unit(alloc, theirs),
+        Choice::Conflict => Ok(Some(conflict_text(alloc, markers, ours, theirs)?)),
+    }
+}
+
 // Returns the part of a slot, or `None` if what is picked is absent.
-fn part_of<'s>(
+fn slot_part<'s>(
     alloc: Global,
     markers: Markers<'_>,
     versions: Versions<'_, 's>,
     slot: Slot,
 ) -> Result<Option<Part<'s>>, AllocError>
     ensures { IfOk result (λ part. parts_view part ≡
-        merged.parts_by (markers_of markers.entry) (versions_of versions.entry) slot slot.choice) }
+        merged.slot_parts (markers_of markers.entry) (versions_of versions.entry) slot) }
 {
-    let base = versions.base.texts_at(slot.base);
-    let ours = versions.ours.texts_at(slot.ours);
-    let theirs = versions.theirs.texts_at(slot.theirs);
-    let space = space_by(base, ours, theirs);
-    match slot.choice {
-        Choice::Ours => kept_part(alloc, space, is_text_unit(versions.ours, slot.ours), ours),
-        Choice::Theirs => kept_part(
-            alloc,
-            space,
-            is_text_unit(versions.theirs, slot.theirs),
-            theirs,
-        ),
-        Choice::Conflict => Ok(Some(Part {
-            space,
-            text: conflict_text(alloc, markers, ours, theirs)?,
-            is_text: false,
+    match slot_text(alloc, markers, versions, slot)? {
+        Some(text) => Ok(Some(Part {
+            space: slot_space(versions, slot),
+            text,
+            is_text: is_text_slot(versions, slot),
         })),
+        None => Ok(None),
     }
 }
 
@@ -148,64 +142,15 @@ fn parts_of<'s>(
     slots: &[Slot],
 ) -> Result<Vec<Part<'s>>, AllocError>
     ensures { IfOk result (λ parts. map part_view parts.items ≡
-        flat_map (λ s. merged.parts_by (markers_of markers.entry) (versions_of versions.entry) s s.choice) slots.now) }
+        flat_map (merged.slot_parts (markers_of markers.entry) (versions_of versions.entry)) slots.now) }
 {
     let mut parts = Vec::new(alloc);
     'slots: for slot in slots {
-        if let Some(part) = part_of(alloc, markers, versions, *slot)? {
+        if let Some(part) = slot_part(alloc, markers, versions, *slot)? {
             parts.push(part)?;
         }
     }
     Ok(parts)
-}
-
-// Returns a text without a line feed at its start.
-fn behind_feed(text: &str) -> &str
-    ensures { result.now ≡ merged.behind_feed text.now }
-{
-    if text.starts_with('\n') {
-        &text[1..]
-    } else {
-        text
-    }
-}
-
-// Returns whether a text has a line feed.
-fn has_feed(text: &str) -> bool
-    ensures { result ≡ merged.has_feed text.now }
-{
-    text.as_bytes().contains(&b'\n')
-}
-
-// Returns the line ends before the white space `rest`: two after a text without blocks, unless `rest` has a line feed, and otherwise one.
-fn line_ends(is_text: bool, rest: &str) -> &'static str
-    ensures { result.now ≡ merged.line_ends_before is_text rest.now }
-{
-    if is_text && !has_feed(rest) {
-        "\n\n"
-    } else {
-        "\n"
-    }
-}
-
-// Appends the white space between two parts. `is_text` is whether the first part has no block.
-fn push_space(text: &mut String, is_text: bool, space: &str) -> Result<(), AllocError>
-    ensures { OnOk result (string_bytes text.new ≡ string_bytes text.old ++ merged.space_between is_text space.now) }
-{
-    let rest = behind_feed(space);
-    text.push_str(line_ends(is_text, rest))?;
-    text.push_str(rest)
-}
-
-// Appends the white space at the end.
-fn push_end(text: &mut String, end: &str) -> Result<(), AllocError>
-    ensures { OnOk result (string_bytes text.new ≡ string_bytes text.old ++ merged.space_at_end end.now) }
-{
-    if end.is_empty() {
-        return Ok(());
-    }
-    text.push('\n')?;
-    text.push_str(behind_feed(end))
 }
 
 // Appends parts with the white space between them, and the white space at the end, after a part.
@@ -223,43 +168,25 @@ fn push_parts(
         text.push_str(&part.text)?;
         after_text = part.is_text;
     }
-    push_end(text, end)
+    text.push_str(end)
 }
 
-// Returns the text of all parts after the white space `start`.
-fn text_by(alloc: Global, start: &str, parts: &[Part<'_>], end: &str) -> Result<String, AllocError>
-    ensures { IfOk result (λ text. string_bytes text ≡ merged.text_by start.now (map part_view parts.now) end.now) }
+// Returns the text of all parts.
+fn text_of_merge(
+    alloc: Global,
+    versions: Versions<'_, '_>,
+    parts: &[Part<'_>],
+) -> Result<String, AllocError>
+    ensures { IfOk result (λ text. string_bytes text ≡ merged.text_of_merge (versions_of versions.entry) (map part_view parts.now)) }
 {
     match parts {
         [first, others @ ..] => {
-            let mut text = String::from_str(alloc, start)?;
+            let mut text = String::from_str(alloc, merged_start(versions))?;
             text.push_str(&first.text)?;
-            push_parts(&mut text, first.is_text, others, end)?;
+            push_parts(&mut text, first.is_text, others, merged_end(versions))?;
             Ok(text)
         }
-        [] => String::from_str(alloc, end),
-    }
-}
-
-// Returns the white space before the first unit.
-fn merged_start<'s>(versions: Versions<'_, 's>) -> &'s str
-    ensures { result.now ≡ merged.merged_start (versions_of versions.entry) }
-{
-    if versions.ours.start() == versions.base.start() {
-        versions.theirs.start()
-    } else {
-        versions.ours.start()
-    }
-}
-
-// Returns the white space after the last unit.
-fn merged_end<'s>(versions: Versions<'_, 's>) -> &'s str
-    ensures { result.now ≡ merged.merged_end (versions_of versions.entry) }
-{
-    if versions.ours.end() == versions.base.end() {
-        versions.theirs.end()
-    } else {
-        versions.ours.end()
+        [] => String::from_str(alloc, merged_blank(versions)),
     }
 }
 
@@ -270,11 +197,14 @@ pub struct Merged {
     pub text: String,
     /// The place of each unit in it.
     pub slots: Vec<Slot>,
+    /// Whose order the units have. If both sides changed the order, and differently, it is a conflict: the order is ours, and no markers
+    /// show it.
+    pub order: Choice,
 }
 
 /// Merges three versions of a file. A unit that only one side changed, added or removed is as this side has it. So is a unit that the other
 /// side changed in its layout only. If both changed it, and differently, it is a conflict: its text on both sides is between the `markers`.
-/// Returns an error only if out of memory.
+/// Several units with one name, such as entries with the same key, are chosen together. Returns an error only if out of memory.
 pub fn merge(
     alloc: Global,
     versions: Versions<'_, '_>,
@@ -282,9 +212,10 @@ pub fn merge(
 ) -> Result<Merged, AllocError>
     ensures text { IfOk result (λ m. string_bytes m.text ≡ merged.merged_text (markers_of markers.entry) (versions_of versions.entry)) }
     ensures slots { IfOk result (λ m. m.slots.items ≡ picked.slots (versions_of versions.entry)) }
+    ensures order { IfOk result (λ m. m.order ≡ picked.order_choice (versions_of versions.entry)) }
 {
-    let slots = slots(alloc, versions)?;
+    let OrderedSlots { slots, order } = slots(alloc, versions)?;
     let parts = parts_of(alloc, markers, versions, &slots)?;
-    let text = text_by(alloc, merged_start(versions), &parts, merged_end(versions))?;
-    Ok(Merged { text, slots })
+    let text = text_of_merge(alloc, versions, &parts)?;
+    Ok(Merged { text, slots, order })
 }

@@ -7,8 +7,8 @@ ghost use Rattle.edit_versions.specs.Versions as versions;
 ghost use Rattle.edit_merge.specs.Views.{versions_of};
 
 use crate::picking::{Choice, Versions};
-use edit_versions::version::Version;
 use bib_text::text::Text;
+use edit_versions::version::Version;
 use std::alloc::{AllocError, Global};
 
 // Returns whether two lists of names are equal.

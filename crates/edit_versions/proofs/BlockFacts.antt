@@ -53,7 +53,8 @@ blocks_of_units text [] all = _
 blocks_of_units text (l ∷ ls) all = by (is_blank_line text l) (blocks_of_units text ls all.1)
   where
     by : (blank : Bool) → AllByRecursion (λ u. AreBlocksCut text u.blocks) (line_units text ls)
-        → AllByRecursion (λ u. AreBlocksCut text u.blocks) (cond blank (line_units text ls) (with_line (is_above text l ls) l (line_units text ls)))
+        → AllByRecursion (λ u. AreBlocksCut text u.blocks) (cond blank (line_units text ls)
+        (with_line (is_above text l ls) l (line_units text ls)))
     by true rest = rest
     by false rest = blocks_with_line text (is_above text l ls) l (line_units text ls) all.0 rest
 

@@ -30,11 +30,18 @@ written_for true true c = []
 written_for true false c = 32 ∷ []
 written_for false after c = c ∷ []
 
+-- the words that begin with a character, by two tests
+abbrev single_by : Bool → Bool → ℕ → List ℕ → List ℕ
+single_by white after c rest =
+    if white
+    then if after then with_single_spaces true rest else 32 ∷ with_single_spaces true rest
+    else c ∷ with_single_spaces false rest
+
 single_step : (white after : Bool) (c : ℕ) (rest : List ℕ) → is_ascii_whitespace c ≡ white
     → with_single_spaces after (c ∷ rest) ≡ written_for white after c ++ with_single_spaces white rest
-single_step true true c rest is = ap (λ b. if b then if true then with_single_spaces true rest else 32 ∷ with_single_spaces true rest else c ∷ with_single_spaces false rest) is
-single_step true false c rest is = ap (λ b. if b then if false then with_single_spaces true rest else 32 ∷ with_single_spaces true rest else c ∷ with_single_spaces false rest) is
-single_step false after c rest is = ap (λ b. if b then if after then with_single_spaces true rest else 32 ∷ with_single_spaces true rest else c ∷ with_single_spaces false rest) is
+single_step true true c rest is = ap (λ b. single_by b true c rest) is
+single_step true false c rest is = ap (λ b. single_by b false c rest) is
+single_step false after c rest is = ap (λ b. single_by b after c rest) is
 
 -- the words after one more character
 pub words_more : {seen bytes new : List ℕ} {after : Bool} (white : Bool) (c : ℕ) → AreWords seen bytes after → is_ascii_whitespace c ≡ white
@@ -57,7 +64,8 @@ words_char {seen} {bytes} {new} white c so_far value fails pushed =
     (words_more false c so_far (sym value ∙ fails) (pushed ∙ ap (λ t. bytes ++ t) (sym (append-nil (encode_utf8 c)))))
 
 -- white space after a character that isn't becomes a space
-pub words_space : {seen bytes new : List ℕ} {after : Bool} (white : Bool) (c : ℕ) → AreWords seen bytes after → white ≡ is_ascii_whitespace c
+pub words_space : {seen bytes new : List ℕ} {after : Bool} (white : Bool) (c : ℕ) → AreWords seen bytes after
+    → white ≡ is_ascii_whitespace c
     → white ≡ true → after ≡ false → new ≡ bytes ++ encode_utf8 32 → AreWords (seen ++ c ∷ []) new white
 words_space {seen} {bytes} {new} white c so_far value passes first pushed =
     subst (AreWords (seen ++ c ∷ []) new) (sym passes)
@@ -123,7 +131,8 @@ pub colon_found : (text : List ℕ) (r : Option ℕ) → IsUtf8 text
     (λ i. (j : ℕ) × RFindsChar 58 text (Some (i, j)) × (i ≤ j) × IsCharBoundary text i × IsCharBoundary text j)
     → MatchOption r (up_to_colon text ≡ text) (EndsAtColon text)
 colon_found text None utf8 found =
-    ap (λ b. cond b (take (length text - suffix_len (λ b. not (is_colon b)) text) text) text) (no_colon text (rfind_char 58 text None found (omega arith)))
+    ap (λ b. cond b (take (length text - suffix_len (λ b. not (is_colon b)) text) text) text)
+    (no_colon text (rfind_char 58 text None found (omega arith)))
 colon_found text (Some at) utf8 found =
     let is = rfind_char 58 text (Some at) found (omega arith) in
     record {

@@ -1,8 +1,8 @@
 -- Meaning: words of public contracts.
 -- Units that are alike: they have the same content and the same comments, but may differ in their layout.
-use Rattle.std.specs.Prelude.{◌==◌, ◌&&◌, ◌||◌, ℕ, Bool, true, false, not, List, [], ◌∷◌, ◌++◌, Option, Some, None, bytes_eq, filter, option_map}
+use Rattle.std.specs.Prelude.{◌==◌, ◌&&◌, ◌||◌, ◌-◌, ℕ, Bool, true, false, not, List, [], ◌∷◌, ◌++◌, Option, Some, None, bytes_eq, drop, filter, length, option_map, take}
 use Rattle.std.specs.Char.{is_ascii_whitespace}
-use Rattle.std.specs.List.{list_any}
+use Rattle.std.specs.List.{list_any, prefix_len, suffix_len}
 use Rattle.std.specs.Cmp.Lexicographic.{pointwise}
 use Rattle.std.specs.declared.ops.Range.{Range}
 use Rattle.bib_text.specs.Characters as char
@@ -11,7 +11,7 @@ use Rattle.bib_syntax.specs.Grammar.{is_word}
 use Rattle.bib_syntax.specs.Reading.{EntryReading, FieldReading}
 use Rattle.bib_queries.specs.EqualValues.{are_equal_pieces}
 use Rattle.edit_units.specs.Units.{UnitReading}
-use Rattle.edit_versions.specs.Versions.{VersionReading, text_of_unit}
+use Rattle.edit_versions.specs.Versions.{VersionReading, text_of_unit, words_with_spaces}
 
 -- whether a byte isn't ASCII white space or a comma, which are the layout of an entry outside of its values
 abbrev pub is_no_layout : ℕ → Bool
@@ -46,16 +46,24 @@ single_of (block ∷ other ∷ blocks) es = None
 abbrev pub single_entry : UnitReading → Option EntryReading
 single_entry u = single_of u.blocks u.says.entries
 
--- the bytes of a unit before its entry
-abbrev pub before_entry : List ℕ → UnitReading → EntryReading → List ℕ
-before_entry text u e = between (place text u.start) (place text e.start)
+-- a text without the ASCII white space at its start
+abbrev pub without_start_space : List ℕ → List ℕ
+without_start_space text = drop (prefix_len is_ascii_whitespace text) text
 
--- the bytes of a unit after its entry, from the closing brace on
+-- a text without the ASCII white space at its end
+abbrev pub without_end_space : List ℕ → List ℕ
+without_end_space text = take (length text - suffix_len is_ascii_whitespace text) text
+
+-- the bytes of a unit before its entry, without white space at their start
+abbrev pub before_entry : List ℕ → UnitReading → EntryReading → List ℕ
+before_entry text u e = without_start_space (between (place text u.start) (place text e.start))
+
+-- the bytes of a unit after its entry, from the closing brace on, without white space at their end
 abbrev pub behind_entry : List ℕ → UnitReading → EntryReading → List ℕ
-behind_entry text u e = between (place text e.end) (place text u.end)
+behind_entry text u e = without_end_space (between (place text e.end) (place text u.end))
 
 -- whether two units with these entries are alike: the types are equal, in any ASCII case, the fields are alike, the text before and after
--- the entries is equal, and the rest is equal except for white space and commas
+-- the entries is equal except for white space around it, and the rest is equal except for white space and commas
 abbrev pub are_alike_entries : List ℕ → UnitReading → EntryReading → List ℕ → UnitReading → EntryReading → Bool
 are_alike_entries text u e other v g =
     is_word e.kind.text g.kind.text && are_alike_fields e.fields g.fields
@@ -78,9 +86,17 @@ are_alike_in_layout text u other v =
     not (has_comment_sign (text_of_unit text u)) && not (has_comment_sign (text_of_unit other v))
     && are_alike_by text u (single_entry u) other v (single_entry v)
 
--- whether two units of two texts are alike: they are equal, or each is an entry without comments and they differ in layout only
+-- whether two units of two texts have no blocks, and the same words
+abbrev pub have_same_words : List ℕ → UnitReading → List ℕ → UnitReading → Bool
+have_same_words text u other v =
+    length u.blocks == 0 && length v.blocks == 0
+    && bytes_eq (words_with_spaces (text_of_unit text u)) (words_with_spaces (text_of_unit other v))
+
+-- whether two units of two texts are alike: they are equal, or they differ in layout only, and each is an entry without comments, or a text
+-- without blocks
 abbrev pub are_alike : List ℕ → UnitReading → List ℕ → UnitReading → Bool
-are_alike text u other v = bytes_eq (text_of_unit text u) (text_of_unit other v) || are_alike_in_layout text u other v
+are_alike text u other v =
+    bytes_eq (text_of_unit text u) (text_of_unit other v) || are_alike_in_layout text u other v || have_same_words text u other v
 
 -- whether two texts are equal, or both are absent
 abbrev pub are_same_texts : Option (List ℕ) → Option (List ℕ) → Bool

@@ -4,7 +4,7 @@ use Rattle.std.specs.Prelude.{◌==◌, ◌-◌, ℕ, List, [], ◌∷◌, ◌++
 use Rattle.std.specs.declared.ops.Range.{Range}
 use Rattle.std.specs.Fmt.{decimal}
 use Rattle.std.specs.FinMap.{empty, get}
-use Rattle.std.specs.List.{before_first, enumerate_from, list_any, suffix_len}
+use Rattle.std.specs.List.{after_first, before_first, enumerate_from, list_any, suffix_len}
 use Rattle.std.specs.Str.{chars, str_to_ascii_lowercase}
 use Rattle.bib_collections.specs.Names.{with_claims}
 use Rattle.bib_collections.specs.Sorted.{ByText}
@@ -31,8 +31,8 @@ abbrev pub up_to_colon : List ℕ → List ℕ
 up_to_colon text = cond (list_any is_colon text) (take (length text - suffix_len (λ b. not (is_colon b)) text) text) text
 
 -- the words of a text, each with a space after it. Words are separated by ASCII white space
-abbrev pub words : List ℕ → List ℕ
-words text = encode_utf8_all (with_single_spaces true (chars text ++ char.space ∷ []))
+abbrev pub words_with_spaces : List ℕ → List ℕ
+words_with_spaces text = encode_utf8_all (with_single_spaces true (chars text ++ char.space ∷ []))
 
 -- the bytes of a block
 abbrev pub text_of_block : List ℕ → Range ℕ → List ℕ
@@ -41,8 +41,8 @@ text_of_block text block = between (place text block.start) (place text block.en
 -- the name of a unit without entries, definitions and preambles: the words of the first line of its first block up to the last colon there,
 -- as `@comment{jabref-meta: grouping:`. Without blocks, the words of its text
 abbrev pub name_by_blocks : List ℕ → UnitReading → List (Range ℕ) → List ℕ
-name_by_blocks text u [] = codes "text " ++ words (text_of_unit text u)
-name_by_blocks text u (block ∷ blocks) = codes "comment " ++ words (up_to_colon (first_line (text_of_block text block)))
+name_by_blocks text u [] = codes "text " ++ words_with_spaces (text_of_unit text u)
+name_by_blocks text u (block ∷ blocks) = codes "comment " ++ words_with_spaces (up_to_colon (first_line (text_of_block text block)))
 
 -- the name of a unit without entries and definitions: `preamble` if it has a preamble
 abbrev pub name_by_preamble : List ℕ → UnitReading → List ℕ → List ℕ
@@ -96,6 +96,14 @@ named_index v name = get (indices_of (version_names v)) name
 -- whether a version has a unit with this name
 abbrev pub has_unit_named : VersionReading → List ℕ → Bool
 has_unit_named v name = is_some (named_index v name)
+
+-- the own name in a name: the part after the number
+abbrev pub own_part : List ℕ → List ℕ
+own_part name = after_first (λ b. b == char.space) name
+
+-- whether several units of a version have this own name: then one of them is number 1, as numbers begin at 0
+abbrev pub is_repeated_name : VersionReading → List ℕ → Bool
+is_repeated_name v own = has_unit_named v (codes "1 " ++ own)
 
 -- ---- the units at indices
 

@@ -5,9 +5,10 @@ ghost use Rattle.bib_text.specs.Places.{between, place};
 ghost use Rattle.bib_syntax.specs.Views.{entry_reading_of, field_of};
 ghost use Rattle.edit_units.specs.Views.{unit_reading_of};
 ghost use Rattle.edit_versions.specs.Alike as spec;
-ghost use Rattle.edit_versions.specs.Versions.{text_of_unit};
+ghost use Rattle.edit_versions.specs.Versions.{text_of_unit, words_with_spaces};
 ghost use Rattle.edit_versions.specs.Alike.{is_no_layout, outside_fields};
 
+use crate::names::words_with_spaces;
 use bib_queries::equal_values::are_equal_pieces;
 use bib_syntax::raw::{Pair, RawEntry, is_word};
 use bib_text::spanned::Spanned;
@@ -112,7 +113,35 @@ pub fn single_entry<'a, 's>(unit: &'a Unit<'s>) -> Option<&'a Spanned<RawEntry<'
     }
 }
 
-// Returns whether the texts before and after two entries of units are equal.
+// Returns bytes without the ASCII white space at their start.
+fn without_start_space(bytes: &[u8]) -> &[u8]
+    ensures { result.now ≡ spec.without_start_space bytes.now }
+{
+    bytes.trim_ascii_start()
+}
+
+// Returns bytes without the ASCII white space at their end.
+fn without_end_space(bytes: &[u8]) -> &[u8]
+    ensures { result.now ≡ spec.without_end_space bytes.now }
+{
+    bytes.trim_ascii_end()
+}
+
+// Returns the bytes of a unit before its entry, without white space at their start.
+fn before_entry<'t>(text: &'t [u8], unit: &Unit<'_>, entry: &Spanned<RawEntry<'_>>) -> &'t [u8]
+    ensures { result.now ≡ spec.before_entry text.now (unit_reading_of unit.now) (entry_reading_of entry.now) }
+{
+    without_start_space(bytes_between(text, unit.span.start, entry.span.start))
+}
+
+// Returns the bytes of a unit after its entry, from the closing brace on, without white space at their end.
+fn behind_entry<'t>(text: &'t [u8], unit: &Unit<'_>, entry: &Spanned<RawEntry<'_>>) -> &'t [u8]
+    ensures { result.now ≡ spec.behind_entry text.now (unit_reading_of unit.now) (entry_reading_of entry.now) }
+{
+    without_end_space(bytes_between(text, entry.span.end, unit.span.end))
+}
+
+// Returns whether the texts before and after two entries of units are equal, except for white space around them.
 fn are_equal_around(
     text: &[u8],
     unit: &Unit<'_>,
@@ -126,14 +155,12 @@ fn are_equal_around(
         && bytes_eq (spec.behind_entry text.now (unit_reading_of unit.now) (entry_reading_of entry.now))
         (spec.behind_entry other.now (unit_reading_of second.now) (entry_reading_of found.now))) }
 {
-    bytes_between(text, unit.span.start, entry.span.start)
-        == bytes_between(other, second.span.start, found.span.start)
-        && bytes_between(text, entry.span.end, unit.span.end)
-            == bytes_between(other, found.span.end, second.span.end)
+    before_entry(text, unit, entry) == before_entry(other, second, found)
+        && behind_entry(text, unit, entry) == behind_entry(other, second, found)
 }
 
 // Returns whether two units with these entries are alike: the types are equal, in any ASCII case, the fields are alike, the text before and
-// after the entries is equal, and the rest is equal except for white space and commas.
+// after the entries is equal except for white space around it, and the rest is equal except for white space and commas.
 fn are_alike_entries(
     alloc: Global,
     text: &[u8],
@@ -187,6 +214,36 @@ fn has_comment_sign(text: &str) -> bool
     text.as_bytes().contains(&b'%')
 }
 
+// Returns whether two units have no percent sign, and are alike by their entries. `own` and `other_own` are the bytes of the units.
+fn are_alike_in_layout(
+    alloc: Global,
+    text: &str,
+    unit: &Unit<'_>,
+    own: &str,
+    other: &str,
+    second: &Unit<'_>,
+    other_own: &str,
+) -> Result<bool, AllocError>
+    requires own { own.now ≡ text_of_unit text.now (unit_reading_of unit.now) }
+    requires other_own { other_own.now ≡ text_of_unit other.now (unit_reading_of second.now) }
+    ensures { IfOk result (λ alike. alike ≡
+        spec.are_alike_in_layout text.now (unit_reading_of unit.now) other.now (unit_reading_of second.now)) }
+{
+    if has_comment_sign(own) || has_comment_sign(other_own) {
+        return Ok(false);
+    }
+    are_alike_by(alloc, text.as_bytes(), unit, other.as_bytes(), second)
+}
+
+// Returns whether two texts have the same words.
+fn are_equal_words(alloc: Global, text: &str, other: &str) -> Result<bool, AllocError>
+    ensures { IfOk result (λ equal. equal ≡ bytes_eq (words_with_spaces text.now) (words_with_spaces other.now)) }
+{
+    let words = words_with_spaces(alloc, text)?;
+    let others = words_with_spaces(alloc, other)?;
+    Ok(words.as_str() == others.as_str())
+}
+
 // Returns whether two units of two texts are alike. `own` and `other_own` are the bytes of the units. Returns an error only if out of memory.
 pub(crate) fn are_alike(
     alloc: Global,
@@ -204,8 +261,11 @@ pub(crate) fn are_alike(
     if own == other_own {
         return Ok(true);
     }
-    if has_comment_sign(own) || has_comment_sign(other_own) {
-        return Ok(false);
+    if are_alike_in_layout(alloc, text, unit, own, other, second, other_own)? {
+        return Ok(true);
     }
-    are_alike_by(alloc, text.as_bytes(), unit, other.as_bytes(), second)
+    if unit.blocks.is_empty() && second.blocks.is_empty() {
+        return are_equal_words(alloc, own, other_own);
+    }
+    Ok(false)
 }

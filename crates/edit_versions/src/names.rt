@@ -14,12 +14,22 @@ use edit_units::units::Unit;
 use std::alloc::{AllocError, Global};
 
 // Returns a text after a prefix.
-fn with_prefix(alloc: Global, prefix: &str, text: &str) -> Result<Text, AllocError>
+pub(crate) fn with_prefix(alloc: Global, prefix: &str, text: &str) -> Result<Text, AllocError>
     ensures { IfOk result (λ name. name ≡ prefix.now ++ text.now) }
 {
     let mut name = Text::from_str(alloc, prefix)?;
     name.push_str(text)?;
     Ok(name)
+}
+
+/// Returns the own name in a name of a unit: the part after the number.
+pub fn own_part(name: &str) -> &str
+    ensures { result.now ≡ spec.own_part name.now }
+{
+    match name.split_once(' ') {
+        Some((_, own)) => own,
+        None => "",
+    }
 }
 
 /// Returns the first line of a text.
@@ -43,8 +53,8 @@ fn up_to_colon(text: &str) -> &str
 }
 
 /// Returns the words of a text, each with a space after it. Words are separated by ASCII white space. Returns an error only if out of memory.
-pub fn words(alloc: Global, text: &str) -> Result<Text, AllocError>
-    ensures { IfOk result (λ words. words ≡ spec.words text.now) }
+pub fn words_with_spaces(alloc: Global, text: &str) -> Result<Text, AllocError>
+    ensures { IfOk result (λ words. words ≡ spec.words_with_spaces text.now) }
 {
     let mut words = Text::new(alloc);
     let mut is_after = true;
@@ -71,14 +81,14 @@ fn name_by_blocks(alloc: Global, text: &str, unit: &Unit<'_>) -> Result<Text, Al
 {
     match unit.blocks.first() {
         Some(block) => {
-            let words = words(
+            let words = words_with_spaces(
                 alloc,
                 up_to_colon(first_line(&text[block.start..block.end])),
             )?;
             with_prefix(alloc, "comment ", words.as_str())
         }
         None => {
-            let words = words(alloc, &text[unit.span.start..unit.span.end])?;
+            let words = words_with_spaces(alloc, &text[unit.span.start..unit.span.end])?;
             with_prefix(alloc, "text ", words.as_str())
         }
     }

@@ -9,7 +9,7 @@ ghost use Rattle.edit_versions.specs.Views.{texts_view};
 ghost use Rattle.edit_units.specs.Units.{AreUnits};
 ghost use Rattle.edit_units.specs.Views.{unit_reading_of};
 
-use crate::names::{indices_of, unit_names};
+use crate::names::{indices_of, unit_names, with_prefix};
 use bib_collections::claims::Claims;
 use bib_syntax::raw::ParseError;
 use bib_text::text::Text;
@@ -138,5 +138,12 @@ impl<'s> Version<'s> {
         ensures { result ≡ versions.named_index self.now name.now }
     {
         self.indices.get(name)
+    }
+    /// Returns whether several units have this own name (`own_part`). Returns an error only if out of memory.
+    pub fn is_repeated(&self, alloc: Global, own: &str) -> Result<bool, AllocError>
+        ensures { IfOk result (λ repeated. repeated ≡ versions.is_repeated_name self.now own.now) }
+    {
+        let second = with_prefix(alloc, "1 ", own)?;
+        Ok(self.index_of(second.as_str()).is_some())
     }
 }

@@ -5,8 +5,8 @@ use Rattle.std.proofs.lemmas.Iterator.{YieldsList-from_chars}
 use Rattle.std.proofs.lemmas.Iterator.Consumers.{YieldsList-end}
 use Rattle.bib_queries.specs.EqualValues.{with_single_spaces}
 use Rattle.edit_versions.proofs.WordFacts.{words_char, words_done, words_ended, words_none, words_same, words_space}
-use Rattle.edit_versions.proofs.names.words.Goals as goal
-use Rattle.edit_versions.proofs.names.words.Goals.{then-not-is_after-2+in_ok-push-3, else-not-is_after-2}
+use Rattle.edit_versions.proofs.names.words_with_spaces.Goals as goal
+use Rattle.edit_versions.proofs.names.words_with_spaces.Goals.{then-not-is_after-2+in_ok-push-3, else-not-is_after-2}
 
 pub text-init : goal.text-init
 text-init c = words_none c.new-words.result c.new-words.ensures
