@@ -5,7 +5,6 @@ use Rattle.bib_syntax.specs.Reading.{EntryReading, FieldReading}
 use Rattle.edit_changes.specs.Blocks.{unit_fields}
 use Rattle.edit_changes.specs.declared.changes.Change.{Change}
 use Rattle.edit_changes.specs.declared.changes.Change.TheVariants.{Added, CommentsSet, FieldAdded, FieldRemoved, FieldSet, LayoutSet, Removed, Renamed, Reordered, TextSet, TypeSet}
-use Rattle.edit_changes.specs.declared.changes.Place.{Place}
 use Rattle.edit_units.specs.Units.{UnitReading}
 use Rattle.edit_versions.specs.Versions.{VersionReading, version_unit}
 use Rattle.bibkit_versions.specs.Labels.{unit_name_at, value_in_braces}

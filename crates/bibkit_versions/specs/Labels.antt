@@ -1,6 +1,6 @@
 -- Meaning: words of public contracts.
 -- The names of units and the texts of values, as they are printed.
-use Rattle.std.specs.Prelude.{◌==◌, ◌<◌, ℕ, Bool, List, [], ◌∷◌, ◌++◌, Option, Some, None, codes, cond, encode_utf8, encode_utf8_all, length, nat_lt, take}
+use Rattle.std.specs.Prelude.{◌==◌, ℕ, List, [], ◌∷◌, ◌++◌, Option, Some, None, codes, cond, encode_utf8, encode_utf8_all, length, nat_lt, take}
 use Rattle.std.specs.declared.ops.Range.{Range}
 use Rattle.std.specs.Char.{is_control}
 use Rattle.std.specs.List.{enumerate_from, flat_map}

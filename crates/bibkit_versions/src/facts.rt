@@ -114,8 +114,10 @@ fn field_facts(
     new: Option<String>,
 ) -> Result<Facts, AllocError>
     ensures { IfOk result (λ facts. facts_view facts ≡ record {
-        field = Some (spec.name_of_field (option_map (λ f. field_of f.now) named.entry));
-        old = option_map string_bytes old; new = option_map string_bytes new }) }
+      field = Some (spec.name_of_field (option_map (λ f. field_of f.now) named.entry));
+      old = option_map string_bytes old;
+      new = option_map string_bytes new;
+    }) }
 {
     let name = field_name(alloc, named)?;
     Ok(Facts {

@@ -146,11 +146,7 @@ impl Kind {
 }
 
 // Returns the kind of a unit, by its entries, its definitions and its blocks.
-fn kind_by(
-    entries: &[Spanned<RawEntry<'_>>],
-    definitions: &[Pair<'_>],
-    blocks: &[Span],
-) -> Kind
+fn kind_by(entries: &[Spanned<RawEntry<'_>>], definitions: &[Pair<'_>], blocks: &[Span]) -> Kind
     ensures { result ≡ spec.kind_by (map entry_reading_of entries.now) (map field_of definitions.now) blocks.now }
 {
     if !entries.is_empty() {

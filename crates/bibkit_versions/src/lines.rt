@@ -71,11 +71,7 @@ fn verb(change: Change) -> &'static str
 }
 
 // Returns the old and the new text, with an arrow between them if there are both.
-fn arrow(
-    alloc: Global,
-    old: &Option<String>,
-    new: &Option<String>,
-) -> Result<String, AllocError>
+fn arrow(alloc: Global, old: &Option<String>, new: &Option<String>) -> Result<String, AllocError>
     ensures { IfOk result (λ text. string_bytes text ≡ spec.arrow (option_map string_bytes old.now) (option_map string_bytes new.now)) }
 {
     match old {

@@ -155,10 +155,7 @@ fn change_object(
     let unit = subject_members(alloc, positions, old, new, Subject::of(change))?;
     let facts = facts_of(alloc, old, new, change)?;
     let members = facts_members(alloc, &facts)?;
-    format!(in alloc;
-        "{{\"change\":\"{}\"{unit}{members}}}",
-        change_name(change)
-    )
+    format!(in alloc; "{{\"change\":\"{}\"{unit}{members}}}", change_name(change))
 }
 
 // Returns the text before an object at this index of an array: a line feed, after a comma unless the object is the first.
