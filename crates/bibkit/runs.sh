@@ -95,7 +95,7 @@ run 'the version' 0 $'bibkit 0.1.0\n' --version
 run 'the version, in short' 0 $'bibkit 0.1.0\n' -V
 for word in help --help -h; do
     run_start "$word" 0 $'Check, search and edit bibliography files\n\nUsage: bibkit <COMMAND>\n' "$word"
-    for command in lint keys get select grep cited stats fmt convert resolve set unset rename rekey edit remove add strings recode; do
+    for command in lint keys get select grep cited stats diff fmt convert resolve set unset rename rekey edit remove add strings recode; do
         holds "$word names $command" grep -qE "^  $command +[A-Z]" results
     done
 done
@@ -108,7 +108,7 @@ run_start 'help of get' 0 $'Print the entries with these keys, unchanged\n\nUsag
 run_start 'help of grep' 0 $'Print the entries with a text in a field, unchanged\n\nUsage: bibkit grep <FIELD> <TEXT> [FILE]...\n' grep --help
 run_start 'help of cited' 0 $'Print the entries that a document cites, unchanged\n\nUsage: bibkit cited <DOCUMENT> [FILE]...\n' cited --help
 run_start 'help of stats' 0 $'Count entries by type and year, fields by name, and findings by code\n\nUsage: bibkit stats [FILE]...\n' stats --help
-for command in lint keys get select grep cited stats fmt convert resolve set unset rename rekey edit remove add strings recode; do
+for command in lint keys get select grep cited stats diff fmt convert resolve set unset rename rekey edit remove add strings recode; do
     "$program" $command --help >output
     holds "help of $command has an example" prints "  bibkit $command"
 done
@@ -2005,6 +2005,36 @@ run_messages 'fields of standard input are reported' 0 "${uninherited//uninherit
 run_messages 'a refused file has no notes' 1 $'circle.bib:2:7: error: entry `b` inherits from itself [circular-reference]\n' resolve --not-inherited circle.bib
 printf '@misc{c, crossref={p}, title={\xff}}\n@misc{p, label={L}}\n' >uninherited-bytes.bib
 run 'a file with other bytes has no notes' 2 '' resolve --not-inherited uninherited-bytes.bib
+
+# diff
+printf '@misc{a, title={A}, author={B}}\n\n@misc{b, title={x y}, author={Knuth, D.}, year={1984}}\n' >diff1.bib
+printf '@misc{a, author={B}, TITLE="A2"}\n\n@misc{c, title = "x  y", author={Knuth, D.}, year=1984}\n' >diff2.bib
+printf '@misc{a, title={A}, author={B}}\n\n@misc{b, title={x y} author={Knuth, D.}, year={1984}}\n' >diff3.bib
+printf '@misc{a,\n  author = {B},\n  title = {A},\n}\n\n@misc{b, title={x\ny}, author={Knuth, D.}, year={1984}}\n' >diff4.bib
+printf '@misc{b, title={x y}, author={Knuth, D.}, year={1984}}\n\n@misc{a, title={A}, author={B}}\n' >diff5.bib
+changes=$'  changed  a  TITLE: {A} -> {A2}\n  renamed  b -> c\n'
+run 'changes of a file' 1 $'diff2.bib\n'"$changes" diff diff1.bib diff2.bib
+cp diff1.bib input
+run 'changes from standard input' 1 $'diff2.bib\n'"$changes" diff - diff2.bib
+run 'no changes' 0 '' diff diff1.bib diff1.bib
+run 'changes of the layout only' 0 $'diff4.bib\n  layout   of 2 units\n' diff diff1.bib diff4.bib
+run 'another order' 1 $'diff5.bib\n  changed  the order of the entries\n' diff diff1.bib diff5.bib
+run 'changes as JSON' 1 $'[\n{"change":"field-set","kind":"entry","name":"a","line":1,"field":"TITLE","old":"{A}","new":"{A2}"},\n{"change":"renamed","kind":"entry","name":"c","line":3,"old":"b","new":"c"}\n]\n' \
+    diff --format json diff1.bib diff2.bib
+run 'no changes as JSON' 0 $'[\n]\n' diff --format json diff1.bib diff1.bib
+run 'changes for git' 0 $'refs.bib\n'"$changes" diff --git refs.bib diff1.bib 0123456 100644 diff2.bib 89abcde 100644
+run 'a renamed file for git' 0 $'refs.bib\n'"$changes" diff --git refs.bib diff1.bib 0123456 100644 diff2.bib 89abcde 100644 new.bib $'similarity index 90%\n'
+run 'a new file for git' 0 $'new.bib\n  added    a  (@misc, 2 fields)\n  added    b  (@misc, 3 fields)\n' diff --git new.bib /dev/null . . diff1.bib 0123456 100644
+run 'a removed file for git' 0 $'old.bib\n  removed  a  (@misc, 2 fields)\n  removed  b  (@misc, 3 fields)\n' diff --git old.bib diff1.bib 0123456 100644 /dev/null . .
+run 'an unmerged file for git' 0 $'* Unmerged path refs.bib\n' diff --git refs.bib
+run 'a version with a syntax error for git' 0 $'--- refs.bib\n+++ refs.bib\n@@ -1,3 +1,3 @@\n @misc{a, title={A}, author={B}}\n \n-@misc{b, title={x y}, author={Knuth, D.}, year={1984}}\n+@misc{b, title={x y} author={Knuth, D.}, year={1984}}\n' \
+    diff --git refs.bib diff1.bib 0123456 100644 diff3.bib 89abcde 100644
+run 'too few arguments of git' 2 '' diff --git refs.bib diff1.bib diff2.bib
+run 'a version with a syntax error: nothing is printed' 2 '' diff diff1.bib diff3.bib
+run_messages 'a version with a syntax error' 2 $'diff3.bib:3:22: error: expected comma [syntax]\n' diff diff1.bib diff3.bib
+run_messages 'a version that is not there' 2 $'bibkit: nothing.bib: there is no such file\n' diff diff1.bib nothing.bib
+run_messages 'one version' 2 $'bibkit: `diff` requires two files, one of which may be `-`\n' diff diff1.bib
+run_messages 'standard input twice' 2 $'bibkit: `diff` requires two files, one of which may be `-`\n' diff - -
 
 # select
 cat >select.bib <<'BIB'

@@ -1,6 +1,6 @@
 -- Meaning: words of public contracts.
 -- The names of units and the texts of values, as they are printed.
-use Rattle.std.specs.Prelude.{◌==◌, ◌<◌, ℕ, Bool, List, [], ◌∷◌, ◌++◌, Option, Some, None, codes, cond, encode_utf8, encode_utf8_all, length, nat_lt, take}
+use Rattle.std.specs.Prelude.{◌==◌, ℕ, List, [], ◌∷◌, ◌++◌, Option, Some, None, codes, cond, encode_utf8, encode_utf8_all, length, nat_lt, take}
 use Rattle.std.specs.declared.ops.Range.{Range}
 use Rattle.std.specs.Char.{is_control}
 use Rattle.std.specs.List.{enumerate_from, flat_map}
@@ -22,8 +22,8 @@ abbrev pub printable : List ℕ → List ℕ
 printable text = flat_map printable_character (chars text)
 
 -- a text on one line: each run of white space is one space, and none is at its start and its end
-abbrev pub one_line : List ℕ → List ℕ
-one_line text = trim_end (words_with_spaces text)
+abbrev pub text_on_one_line : List ℕ → List ℕ
+text_on_one_line text = trim_end (words_with_spaces text)
 
 -- the first characters of a text, at most `MOST_SHOWN`
 abbrev pub front : List ℕ → List ℕ
@@ -34,25 +34,25 @@ abbrev pub points_after : List ℕ → List ℕ
 points_after text = cond (nat_lt MOST_SHOWN (length (chars text))) (codes "...") []
 
 -- a text as it is shown in a line: on one line, cut to `MOST_SHOWN` characters, without control characters
-abbrev pub shown : List ℕ → List ℕ
-shown text = printable (front (one_line text)) ++ points_after (one_line text)
+abbrev pub shown_text : List ℕ → List ℕ
+shown_text text = printable (front (text_on_one_line text)) ++ points_after (text_on_one_line text)
 
 -- a piece of a value: a literal in braces, or the name of an abbreviation
-abbrev pub piece_text : Piece → List ℕ
-piece_text (literal p) = codes "{" ++ (p.text ++ codes "}")
-piece_text (abbreviation p) = p.text
+abbrev pub piece_in_braces : Piece → List ℕ
+piece_in_braces (literal p) = codes "{" ++ (p.text ++ codes "}")
+piece_in_braces (abbreviation p) = p.text
 
 -- a number sign before a piece at this index of a value, or an empty text before the first one
-abbrev pub sign_before : ℕ → List ℕ
-sign_before index = cond (index == 0) [] (codes " # ")
+abbrev pub number_sign_before : ℕ → List ℕ
+number_sign_before index = cond (index == 0) [] (codes " # ")
 
 -- a piece at an index of a value, after the sign before it
 abbrev pub joined_piece : ℕ × Piece → List ℕ
-joined_piece x = sign_before x.0 ++ piece_text x.1
+joined_piece x = number_sign_before x.0 ++ piece_in_braces x.1
 
 -- a value: its pieces, joined by number signs
-abbrev pub value_text : List Piece → List ℕ
-value_text pieces = flat_map joined_piece (enumerate_from 0 pieces)
+abbrev pub value_in_braces : List Piece → List ℕ
+value_in_braces pieces = flat_map joined_piece (enumerate_from 0 pieces)
 
 -- the kind of a unit: by its entries, its definitions and its blocks
 abbrev pub kind_by : List EntryReading → List FieldReading → List (Range ℕ) → Kind
@@ -70,11 +70,11 @@ abbrev pub kind_at : VersionReading → ℕ → Kind
 kind_at v i = unit_kind (version_unit v (Some i))
 
 -- the name of a kind
-abbrev pub kind_name : Kind → List ℕ
-kind_name Entry = codes "entry"
-kind_name Definition = codes "string"
-kind_name Block = codes "block"
-kind_name Text = codes "text"
+abbrev pub unit_kind_name : Kind → List ℕ
+unit_kind_name Entry = codes "entry"
+unit_kind_name Definition = codes "string"
+unit_kind_name Block = codes "block"
+unit_kind_name Text = codes "text"
 
 -- the text before the name of a unit of this kind
 abbrev pub kind_prefix : Kind → List ℕ
@@ -94,9 +94,9 @@ abbrev pub unit_name : List ℕ → Option UnitReading → List ℕ
 unit_name text None = []
 unit_name text (Some u) = name_by u.says.entries u.says.abbreviations (text_of_unit text u)
 
-abbrev pub name_at : VersionReading → ℕ → List ℕ
-name_at v i = unit_name v.text (version_unit v (Some i))
+abbrev pub unit_name_at : VersionReading → ℕ → List ℕ
+unit_name_at v i = unit_name v.text (version_unit v (Some i))
 
 -- the name of the unit at an index as it is shown in a line
 abbrev pub label_at : VersionReading → ℕ → List ℕ
-label_at v i = kind_prefix (kind_at v i) ++ shown (name_at v i)
+label_at v i = kind_prefix (kind_at v i) ++ shown_text (unit_name_at v i)

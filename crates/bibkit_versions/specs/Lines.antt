@@ -1,6 +1,6 @@
 -- Meaning: words of public contracts.
 -- The lines for changes.
-use Rattle.std.specs.Prelude.{◌==◌, ℕ, Bool, false, true, List, [], ◌∷◌, ◌++◌, Option, Some, None, codes, cond, count_by, length}
+use Rattle.std.specs.Prelude.{◌==◌, ℕ, List, [], ◌∷◌, ◌++◌, Option, Some, None, codes, cond, count_by, length}
 use Rattle.std.specs.Fmt.{decimal}
 use Rattle.std.specs.List.{flat_map}
 use Rattle.bib_syntax.specs.Reading.{EntryReading}
@@ -10,23 +10,23 @@ use Rattle.edit_changes.specs.declared.changes.Change.TheVariants.{Added, Commen
 use Rattle.edit_units.specs.Units.{UnitReading}
 use Rattle.edit_versions.specs.Versions.{VersionReading, version_unit}
 use Rattle.bibkit_versions.specs.Facts.{FactsReading, facts_of}
-use Rattle.bibkit_versions.specs.Labels.{label_at, shown}
+use Rattle.bibkit_versions.specs.Labels.{label_at, shown_text}
 use Rattle.bibkit_versions.specs.declared.lines.Subject.{Subject}
 use Rattle.bibkit_versions.specs.declared.lines.Subject.TheVariants.{Old, New, Whole}
 
 -- the unit that a change is about
-abbrev pub subject_of : Change → Subject
-subject_of (Removed old) = Old old
-subject_of (Added new) = New new
-subject_of (Renamed place) = New place.new
-subject_of (TypeSet place) = New place.new
-subject_of (FieldRemoved place old) = New place.new
-subject_of (FieldAdded place new) = New place.new
-subject_of (FieldSet place old new) = New place.new
-subject_of (CommentsSet place) = New place.new
-subject_of (TextSet place) = New place.new
-subject_of (LayoutSet place) = New place.new
-subject_of Reordered = Whole
+abbrev pub change_subject : Change → Subject
+change_subject (Removed old) = Old old
+change_subject (Added new) = New new
+change_subject (Renamed place) = New place.new
+change_subject (TypeSet place) = New place.new
+change_subject (FieldRemoved place old) = New place.new
+change_subject (FieldAdded place new) = New place.new
+change_subject (FieldSet place old new) = New place.new
+change_subject (CommentsSet place) = New place.new
+change_subject (TextSet place) = New place.new
+change_subject (LayoutSet place) = New place.new
+change_subject Reordered = Whole
 
 -- the word at the start of the line of a change
 abbrev pub verb : Change → List ℕ
@@ -45,14 +45,14 @@ verb Reordered = codes "changed  "
 -- the old and the new text, with an arrow between them if a change has both
 abbrev pub arrow : Option (List ℕ) → Option (List ℕ) → List ℕ
 arrow None None = []
-arrow (Some old) None = codes "removed " ++ shown old
-arrow None (Some new) = codes "added " ++ shown new
-arrow (Some old) (Some new) = shown old ++ (codes " -> " ++ shown new)
+arrow (Some old) None = codes "removed " ++ shown_text old
+arrow None (Some new) = codes "added " ++ shown_text new
+arrow (Some old) (Some new) = shown_text old ++ (codes " -> " ++ shown_text new)
 
 -- the name of a field and a colon, or an empty text if there is none
 abbrev pub field_prefix : Option (List ℕ) → List ℕ
 field_prefix None = []
-field_prefix (Some name) = shown name ++ codes ": "
+field_prefix (Some name) = shown_text name ++ codes ": "
 
 -- the parts of a change
 abbrev pub facts_text : FactsReading → List ℕ
@@ -66,7 +66,7 @@ fields_word count = cond (count == 1) (codes " field)") (codes " fields)")
 abbrev pub summary_by : List EntryReading → List ℕ
 summary_by [] = []
 summary_by (e ∷ es) =
-    codes "(@" ++ (shown e.kind.text ++ (codes ", " ++ (decimal (length e.fields) ++ fields_word (length e.fields))))
+    codes "(@" ++ (shown_text e.kind.text ++ (codes ", " ++ (decimal (length e.fields) ++ fields_word (length e.fields))))
 
 -- the summary of the first entry of the unit at an index
 abbrev pub unit_summary : Option UnitReading → List ℕ
@@ -91,12 +91,12 @@ detail v w (LayoutSet place) = []
 detail v w Reordered = codes "the order of the entries"
 
 -- two spaces before a text, or an empty text before an empty one
-abbrev pub gap_before : List ℕ → List ℕ
-gap_before text = cond (length text == 0) [] (codes "  ")
+abbrev pub gap_to : List ℕ → List ℕ
+gap_to text = cond (length text == 0) [] (codes "  ")
 
 -- the name of a unit, and a text after it
 abbrev pub after_label : List ℕ → List ℕ → List ℕ
-after_label label text = label ++ gap_before text ++ text
+after_label label text = label ++ gap_to text ++ text
 
 -- the name of the unit that a line is about, and a text after it
 abbrev pub body : VersionReading → VersionReading → Subject → List ℕ → List ℕ
@@ -128,7 +128,7 @@ abbrev pub layout_line : ℕ → List ℕ
 layout_line count =
     cond (count == 0) [] (codes "  layout   of " ++ (decimal count ++ cond (count == 1) (codes " unit\n") (codes " units\n")))
 
--- the changes of a file with this name: its name, their lines, and the line for those of the layout only; or an empty text if there are none
+-- the changes of a file with this name: its name, their lines, and the line for those of the layout only. If there are none, an empty text
 abbrev pub changes_text : List ℕ → VersionReading → VersionReading → List Change → List ℕ
 changes_text name v w changes =
     cond (length changes == 0) []

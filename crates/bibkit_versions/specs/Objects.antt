@@ -12,14 +12,14 @@ use Rattle.edit_changes.specs.declared.changes.Change.TheVariants.{Added, Commen
 use Rattle.edit_units.specs.Units.{UnitReading}
 use Rattle.edit_versions.specs.Versions.{VersionReading, version_unit}
 use Rattle.bibkit_versions.specs.Facts.{FactsReading, facts_of}
-use Rattle.bibkit_versions.specs.Labels.{kind_at, kind_name, name_at}
-use Rattle.bibkit_versions.specs.Lines.{subject_of}
+use Rattle.bibkit_versions.specs.Labels.{kind_at, unit_kind_name, unit_name_at}
+use Rattle.bibkit_versions.specs.Lines.{change_subject}
 use Rattle.bibkit_versions.specs.declared.lines.Subject.{Subject}
 use Rattle.bibkit_versions.specs.declared.lines.Subject.TheVariants.{Old, New, Whole}
 
 -- a text as a JSON string with its quotes
-abbrev pub json_text : List ℕ → List ℕ
-json_text text = compact_text (Data.string text)
+abbrev pub json_string : List ℕ → List ℕ
+json_string text = compact_text (Data.string text)
 
 -- the offset at which the first of these blocks begins, or else this one
 abbrev pub start_of_blocks : ℕ → List (Range ℕ) → ℕ
@@ -32,8 +32,8 @@ unit_start None = 0
 unit_start (Some u) = start_of_blocks u.start u.blocks
 
 -- the line in which the first block of the unit at an index begins, or else the unit
-abbrev pub line_at : VersionReading → ℕ → ℕ
-line_at v i = (position_at v.text (unit_start (version_unit v (Some i)))).line
+abbrev pub unit_line_at : VersionReading → ℕ → ℕ
+unit_line_at v i = (position_at v.text (unit_start (version_unit v (Some i)))).line
 
 -- the name of a change
 abbrev pub change_name : Change → List ℕ
@@ -52,8 +52,8 @@ change_name Reordered = codes "reordered"
 -- the members for the unit at an index: its kind, its name and its line
 abbrev pub unit_members : VersionReading → ℕ → List ℕ
 unit_members v i =
-    codes ",\"kind\":\"" ++ (kind_name (kind_at v i) ++ (codes "\",\"name\":" ++ (json_text (name_at v i)
-    ++ (codes ",\"line\":" ++ decimal (line_at v i)))))
+    codes ",\"kind\":\"" ++ (unit_kind_name (kind_at v i) ++ (codes "\",\"name\":" ++ (json_string (unit_name_at v i)
+    ++ (codes ",\"line\":" ++ decimal (unit_line_at v i)))))
 
 -- the members for the unit that a change is about
 abbrev pub subject_members : VersionReading → VersionReading → Subject → List ℕ
@@ -64,7 +64,7 @@ subject_members v w Whole = []
 -- a member with this name and text, or an empty text if there is none
 abbrev pub member : List ℕ → Option (List ℕ) → List ℕ
 member name None = []
-member name (Some text) = codes ",\"" ++ (name ++ (codes "\":" ++ json_text text))
+member name (Some text) = codes ",\"" ++ (name ++ (codes "\":" ++ json_string text))
 
 -- the members for the parts of a change
 abbrev pub facts_members : FactsReading → List ℕ
@@ -73,16 +73,16 @@ facts_members f = member (codes "field") f.field ++ (member (codes "old") f.old 
 -- the object of a change
 abbrev pub change_object : VersionReading → VersionReading → Change → List ℕ
 change_object v w change =
-    codes "{\"change\":\"" ++ (change_name change ++ (codes "\"" ++ (subject_members v w (subject_of change)
+    codes "{\"change\":\"" ++ (change_name change ++ (codes "\"" ++ (subject_members v w (change_subject change)
     ++ (facts_members (facts_of v w change) ++ codes "}"))))
 
 -- the text before an object at this index of an array: a line feed, after a comma unless the object is the first
-abbrev pub separator : ℕ → List ℕ
-separator index = cond (index == 0) (codes "\n") (codes ",\n")
+abbrev pub object_separator : ℕ → List ℕ
+object_separator index = cond (index == 0) (codes "\n") (codes ",\n")
 
 -- an object at an index of the array
 abbrev pub array_element : VersionReading → VersionReading → ℕ × Change → List ℕ
-array_element v w x = separator x.0 ++ change_object v w x.1
+array_element v w x = object_separator x.0 ++ change_object v w x.1
 
 -- the array of the objects of changes
 abbrev pub changes_array : VersionReading → VersionReading → List Change → List ℕ

@@ -39,7 +39,7 @@ fn type_by(alloc: Global, entries: &[Spanned<RawEntry<'_>>]) -> Result<String, A
 
 // Returns the type of the first entry of the unit at an index, after an at sign.
 fn type_at(alloc: Global, version: &Version<'_>, index: usize) -> Result<String, AllocError>
-    ensures { IfOk result (λ text. string_bytes text ≡ spec.type_at version.now index) }
+    ensures { IfOk result (λ text. string_bytes text ≡ spec.entry_type_at version.now index) }
 {
     match version.unit_at(Some(index)) {
         Some(unit) => type_by(alloc, &unit.raw.entries),
@@ -66,7 +66,7 @@ fn field_at<'v, 's>(version: &'v Version<'s>, unit: usize, field: usize) -> Opti
 
 // Returns the name of a field, or an empty text if there is none.
 fn field_name(alloc: Global, field: Option<&Pair<'_>>) -> Result<String, AllocError>
-    ensures { IfOk result (λ name. string_bytes name ≡ spec.field_name (option_map (λ f. field_of f.now) field.entry)) }
+    ensures { IfOk result (λ name. string_bytes name ≡ spec.name_of_field (option_map (λ f. field_of f.now) field.entry)) }
 {
     match field {
         Some(field) => String::from_str(alloc, field.key.v),
@@ -114,8 +114,10 @@ fn field_facts(
     new: Option<String>,
 ) -> Result<Facts, AllocError>
     ensures { IfOk result (λ facts. facts_view facts ≡ record {
-        field = Some (spec.field_name (option_map (λ f. field_of f.now) named.entry));
-        old = option_map string_bytes old; new = option_map string_bytes new }) }
+      field = Some (spec.name_of_field (option_map (λ f. field_of f.now) named.entry));
+      old = option_map string_bytes old;
+      new = option_map string_bytes new;
+    }) }
 {
     let name = field_name(alloc, named)?;
     Ok(Facts {

@@ -66,7 +66,7 @@ fn points_after(text: &str) -> &'static str
 
 /// Returns a text on one line, cut to `MOST_SHOWN` characters, without control characters.
 pub(crate) fn shown(alloc: Global, text: &str) -> Result<String, AllocError>
-    ensures { IfOk result (λ shown. string_bytes shown ≡ spec.shown text.now) }
+    ensures { IfOk result (λ shown. string_bytes shown ≡ spec.shown_text text.now) }
 {
     let words = words_with_spaces(alloc, text)?;
     let line = words.as_str().trim_end();
@@ -78,7 +78,7 @@ pub(crate) fn shown(alloc: Global, text: &str) -> Result<String, AllocError>
 
 // Returns a piece of a value: a literal in braces, or the name of an abbreviation.
 fn piece_text(alloc: Global, piece: &Spanned<RawChunk<'_>>) -> Result<String, AllocError>
-    ensures { IfOk result (λ text. string_bytes text ≡ spec.piece_text (piece_of piece.now)) }
+    ensures { IfOk result (λ text. string_bytes text ≡ spec.piece_in_braces (piece_of piece.now)) }
 {
     match piece.v {
         RawChunk::Normal(text) => format!(in alloc; "{{{text}}}"),
@@ -88,7 +88,7 @@ fn piece_text(alloc: Global, piece: &Spanned<RawChunk<'_>>) -> Result<String, Al
 
 // Returns a number sign before a piece at this index of a value, or an empty text before the first one.
 fn sign_before(index: usize) -> &'static str
-    ensures { result.now ≡ spec.sign_before index }
+    ensures { result.now ≡ spec.number_sign_before index }
 {
     if index == 0 { "" } else { " # " }
 }
@@ -98,7 +98,7 @@ pub(crate) fn value_text(
     alloc: Global,
     pieces: &[Spanned<RawChunk<'_>>],
 ) -> Result<String, AllocError>
-    ensures { IfOk result (λ text. string_bytes text ≡ spec.value_text (map piece_of pieces.now)) }
+    ensures { IfOk result (λ text. string_bytes text ≡ spec.value_in_braces (map piece_of pieces.now)) }
 {
     let mut text = String::new(alloc);
     'pieces: for (index, piece) in pieces.iter().enumerate() {
@@ -124,7 +124,7 @@ pub(crate) enum Kind {
 impl Kind {
     /// Returns the name of the kind.
     pub(crate) fn name(self) -> &'static str
-        ensures { result.now ≡ spec.kind_name self }
+        ensures { result.now ≡ spec.unit_kind_name self }
     {
         match self {
             Kind::Entry => "entry",
@@ -146,11 +146,7 @@ impl Kind {
 }
 
 // Returns the kind of a unit, by its entries, its definitions and its blocks.
-fn kind_by(
-    entries: &[Spanned<RawEntry<'_>>],
-    definitions: &[Pair<'_>],
-    blocks: &[Span],
-) -> Kind
+fn kind_by(entries: &[Spanned<RawEntry<'_>>], definitions: &[Pair<'_>], blocks: &[Span]) -> Kind
     ensures { result ≡ spec.kind_by (map entry_reading_of entries.now) (map field_of definitions.now) blocks.now }
 {
     if !entries.is_empty() {
@@ -202,7 +198,7 @@ fn name_by<'s>(
 
 /// Returns the name of the unit at an index, or an empty text if there is none.
 pub(crate) fn name_at<'s>(version: &Version<'s>, index: usize) -> &'s str
-    ensures { result.now ≡ spec.name_at version.now index }
+    ensures { result.now ≡ spec.unit_name_at version.now index }
 {
     match version.unit_with_text(Some(index)) {
         Some((unit, text)) => name_by(&unit.raw.entries, &unit.raw.abbreviations, text),

@@ -30,7 +30,7 @@ pub(crate) enum Subject {
 impl Subject {
     /// Returns the unit that a change is about.
     pub(crate) fn of(change: Change) -> Self
-        ensures { result ≡ spec.subject_of change }
+        ensures { result ≡ spec.change_subject change }
     {
         match change {
             Change::Removed { old } => Subject::Old(old),
@@ -71,11 +71,7 @@ fn verb(change: Change) -> &'static str
 }
 
 // Returns the old and the new text, with an arrow between them if there are both.
-fn arrow(
-    alloc: Global,
-    old: &Option<String>,
-    new: &Option<String>,
-) -> Result<String, AllocError>
+fn arrow(alloc: Global, old: &Option<String>, new: &Option<String>) -> Result<String, AllocError>
     ensures { IfOk result (λ text. string_bytes text ≡ spec.arrow (option_map string_bytes old.now) (option_map string_bytes new.now)) }
 {
     match old {
@@ -175,7 +171,7 @@ fn detail(
 
 // Returns two spaces before a text, or an empty text before an empty one.
 fn gap_before(text: &str) -> &'static str
-    ensures { result.now ≡ spec.gap_before text.now }
+    ensures { result.now ≡ spec.gap_to text.now }
 {
     if text.is_empty() { "" } else { "  " }
 }

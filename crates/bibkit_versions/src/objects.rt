@@ -19,7 +19,7 @@ use std::alloc::{AllocError, Global};
 
 // Returns a text as a JSON string with its quotes.
 fn json_text(alloc: Global, text: &str) -> Result<String, AllocError>
-    ensures { IfOk result (λ json. string_bytes json ≡ spec.json_text text.now) }
+    ensures { IfOk result (λ json. string_bytes json ≡ spec.json_string text.now) }
 {
     Value::String(String::from_str(alloc, text)?).to_string(alloc)
 }
@@ -40,7 +40,7 @@ fn unit_start(unit: Option<&Unit<'_>>) -> usize
 // Returns the line in which the first block of the unit at an index begins, or else the unit.
 fn line_at(positions: &mut Positions<'_>, version: &Version<'_>, index: usize) -> usize
     requires { positions.old ≡ version.now.text }
-    ensures line { result ≡ spec.line_at version.now index }
+    ensures line { result ≡ spec.unit_line_at version.now index }
     ensures same { positions.new ≡ positions.old }
 {
     let start = unit_start(version.unit_at(Some(index)));
@@ -155,15 +155,12 @@ fn change_object(
     let unit = subject_members(alloc, positions, old, new, Subject::of(change))?;
     let facts = facts_of(alloc, old, new, change)?;
     let members = facts_members(alloc, &facts)?;
-    format!(in alloc;
-        "{{\"change\":\"{}\"{unit}{members}}}",
-        change_name(change)
-    )
+    format!(in alloc; "{{\"change\":\"{}\"{unit}{members}}}", change_name(change))
 }
 
 // Returns the text before an object at this index of an array: a line feed, after a comma unless the object is the first.
 fn separator(index: usize) -> &'static str
-    ensures { result.now ≡ spec.separator index }
+    ensures { result.now ≡ spec.object_separator index }
 {
     if index == 0 { "\n" } else { ",\n" }
 }

@@ -1,5 +1,5 @@
 -- The names of fields, and the numbers in them.
-use Rattle.std.proofs.Common.{◌≡◌, ◌<◌, ◌+◌, ℕ, List, [], ◌∷◌, ◌++◌, append_assoc, drop, get_or, length, map, take, sym, ap, ◌∙◌}
+use Rattle.std.proofs.Common.{◌≡◌, ◌<◌, ◌+◌, ℕ, List, [], ◌∷◌, ◌++◌, append_assoc, drop, get_or, length, map, take, ap, ◌∙◌}
 use Rattle.std.specs.List.{enumerate_from, flat_map}
 use Rattle.std.specs.Str.{str_to_ascii_lowercase}
 use Rattle.std.proofs.lemmas.List.{map-append}
@@ -9,7 +9,7 @@ use Rattle.bib_syntax.specs.Views.{field_of}
 use Rattle.bib_syntax.specs.declared.raw.Pair.{Pair}
 use Rattle.bib_text.proofs.ListFacts.{drop_is, mapped_more}
 use Rattle.edit_versions.specs.Versions.{indices_of}
-use Rattle.edit_changes.specs.Fields.{field_changes, field_names, present_field, removed_field}
+use Rattle.edit_changes.specs.Fields.{changes_of_fields, field_names, present_field, removed_field}
 use Rattle.edit_changes.specs.declared.changes.Change.{Change}
 use Rattle.edit_changes.specs.declared.changes.Place.{Place}
 
@@ -34,7 +34,8 @@ lower_names_more fields index f within is =
     ∙ map-append lower_name (map field_of (take index fields)) (field_of f ∷ [])
 
 -- the changes of fields by these names and indices
-abbrev pub changes_of_names : Place → List FieldReading → List FieldReading → List (List ℕ) → List (List ℕ) → ByText ℕ → ByText ℕ → List Change
+abbrev pub changes_of_names : Place → List FieldReading → List FieldReading → List (List ℕ) → List (List ℕ) → ByText ℕ → ByText ℕ
+    → List Change
 changes_of_names place fields others names other_names indices other_indices =
     flat_map (removed_field place other_indices) (enumerate_from 0 names)
     ++ flat_map (present_field place fields others indices) (enumerate_from 0 other_names)
@@ -45,8 +46,9 @@ pub both_pushed : (place : Place) (fields others : List FieldReading) (names oth
     → indices ≡ indices_of (field_names fields) → other_indices ≡ indices_of (field_names others)
     → middle ≡ old ++ flat_map (removed_field place other_indices) (enumerate_from 0 names)
     → new ≡ middle ++ flat_map (present_field place fields others indices) (enumerate_from 0 other_names)
-    → new ≡ old ++ field_changes place fields others
-both_pushed place fields others names other_names indices other_indices old middle new named other_named indexed other_indexed removed present =
+    → new ≡ old ++ changes_of_fields place fields others
+both_pushed place fields others names other_names indices other_indices old middle new named other_named indexed other_indexed removed
+    present =
     present
     ∙ ap (λ m. m ++ flat_map (present_field place fields others indices) (enumerate_from 0 other_names)) removed
     ∙ append_assoc old (flat_map (removed_field place other_indices) (enumerate_from 0 names))

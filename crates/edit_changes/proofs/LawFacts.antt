@@ -1,5 +1,5 @@
 -- There is no change except of the layout exactly if both versions have the same content.
-use Rattle.std.proofs.Common.{◌≡◌, ◌⊎◌, inl, inr, ◌<◌, ◌+◌, ◌^◌, ℕ, zero, suc, Bool, true, false, not, ◌&&◌, ◌||◌, cond, List, [], ◌∷◌, ◌++◌, Option, Some, None, filter, length, map, refl, sym, ap, ◌∙◌, subst, arith}
+use Rattle.std.proofs.Common.{◌≡◌, ◌⊎◌, inl, inr, ◌<◌, ◌+◌, ◌^◌, ℕ, Bool, true, false, not, ◌&&◌, ◌||◌, cond, List, [], ◌∷◌, ◌++◌, Option, Some, None, filter, length, map, refl, sym, ap, ◌∙◌, arith}
 use Rattle.std.specs.Prelude.{◌==◌, bytes_eq, count_by, is_some, slice_get}
 use Rattle.std.specs.Cmp.Lexicographic.{pointwise}
 use Rattle.std.specs.FinMap.{get}
@@ -7,19 +7,18 @@ use Rattle.std.specs.List.{AllByRecursion, enumerate_from, flat_map, list_all, l
 use Rattle.std.proofs.lemmas.Bool.{false≢true}
 use Rattle.std.proofs.lemmas.List.Folds.{list_all-append}
 use Rattle.bib_syntax.specs.Reading.{FieldReading}
-use Rattle.bib_collections.specs.Sorted.{ByText}
 use Rattle.bib_text.proofs.ListFacts.{count_none, element_at}
 use Rattle.edit_units.specs.Units.{UnitReading}
 use Rattle.edit_versions.specs.Alike.{is_same}
 use Rattle.edit_versions.specs.Versions.{VersionReading, has_unit_named, indices_of, named_index, version_names, version_unit}
 use Rattle.edit_versions.proofs.IndexFacts.{names_lead_to_units}
 use Rattle.edit_changes.specs.Blocks.{BlockReading, block_of, text_outside}
-use Rattle.edit_changes.specs.Changes.{changes, changes_at, changes_by, changes_from, comment_change, content_changes, is_layout, lone_changes, or_layout, order_changes, present_unit, removed_unit, renamed_from, renamed_to, shared_names, text_changes, type_changes, unit_changes}
-use Rattle.edit_changes.specs.Fields.{field_change, field_changes, field_names, present_field, removed_field}
-use Rattle.edit_changes.specs.Renames.{counterpart, lone_content, lone_contents, only_index, renamed_index, unit_content}
-use Rattle.edit_changes.specs.Same.{HaveSameContent, HaveSameUnits, same_place}
+use Rattle.edit_changes.specs.Changes.{changes, changes_by, changes_from, comment_change, content_changes, is_layout, lone_changes, or_layout, order_changes, present_unit, removed_unit, renamed_from, renamed_to, shared_names, type_changes, unit_changes}
+use Rattle.edit_changes.specs.Fields.{present_field_change, changes_of_fields, field_names, present_field, removed_field}
+use Rattle.edit_changes.specs.Renames.{counterpart, lone_content, lone_contents, only_index, renamed_index, keyless_unit_content}
+use Rattle.edit_changes.specs.Same.{HaveSameContent, same_place}
 use Rattle.edit_changes.specs.declared.changes.Change.{Change}
-use Rattle.edit_changes.specs.declared.changes.Change.TheVariants.{Added, CommentsSet, FieldAdded, FieldRemoved, FieldSet, LayoutSet, Removed, Renamed, Reordered, TextSet, TypeSet}
+use Rattle.edit_changes.specs.declared.changes.Change.TheVariants.{CommentsSet, FieldRemoved, FieldSet, Removed, Reordered, TextSet, TypeSet}
 use Rattle.edit_changes.specs.declared.changes.Place.{Place}
 use Rattle.edit_changes.proofs.ListFacts.{all_names, all_of_each, all_pass, below_length, both_true, each_passes, enumerated_all, enumerated_at, filter_all, names_same, same_names}
 
@@ -37,11 +36,11 @@ both_pass : (xs ys : List Change) → list_all is_content xs ≡ true → list_a
 both_pass xs ys first second = list_all-append is_content xs ys ∙ ap (λ b. b && list_all is_content ys) first ∙ second
 
 field_passes : (place : Place) (fields others : List FieldReading) (new : ℕ) (old : Option ℕ)
-    → list_all is_content (field_change place fields others new old) ≡ true
+    → list_all is_content (present_field_change place fields others new old) ≡ true
 field_passes place fields others new None = refl
 field_passes place fields others new (Some old) = one_unless _ (FieldSet place old new) refl
 
-fields_pass : (place : Place) (fields others : List FieldReading) → list_all is_content (field_changes place fields others) ≡ true
+fields_pass : (place : Place) (fields others : List FieldReading) → list_all is_content (changes_of_fields place fields others) ≡ true
 fields_pass place fields others =
     both_pass (flat_map (removed_field place (indices_of (field_names others))) (enumerate_from 0 (field_names fields)))
     (flat_map (present_field place fields others (indices_of (field_names fields))) (enumerate_from 0 (field_names others)))
@@ -58,7 +57,7 @@ blocks_pass place text u None other x c = one_unless _ (TextSet place) refl
 blocks_pass place text u (Some b) other x None = one_unless _ (TextSet place) refl
 blocks_pass place text u (Some b) other x (Some c) =
     both_pass (type_changes place b.kind c.kind ++ comment_change place (bytes_eq (text_outside text u b) (text_outside other x c)))
-    (field_changes place b.fields c.fields)
+    (changes_of_fields place b.fields c.fields)
     (both_pass (type_changes place b.kind c.kind) (comment_change place (bytes_eq (text_outside text u b) (text_outside other x c)))
     (one_unless _ (TypeSet place) refl) (one_unless _ (CommentsSet place) refl))
     (fields_pass place b.fields c.fields)
@@ -115,7 +114,8 @@ cond_none true found is = is
 cond_none false found is = refl
 
 -- nothing is renamed if the other version has no content that its counterpart lacks
-no_counterpart : (own others : List (List ℕ)) (content : List ℕ) → AllByRecursion (λ c. c ≡ []) others → counterpart own others content ≡ None
+no_counterpart : (own others : List (List ℕ)) (content : List ℕ) → AllByRecursion (λ c. c ≡ []) others
+    → counterpart own others content ≡ None
 no_counterpart own others [] none = refl
 no_counterpart own others (b ∷ bs) none =
     cond_none (not (length (b ∷ bs) == 0) && count_by (bytes_eq (b ∷ bs)) own == 1) (only_index others (b ∷ bs))
@@ -141,7 +141,7 @@ all_empty : (v w : VersionReading) (first : ℕ) (names : List (List ℕ)) → A
     → AllByRecursion (λ c. c ≡ []) (map (lone_content w v) (enumerate_from first names))
 all_empty v w first [] has = _
 all_empty v w first (n ∷ ns) has = (
-  ap (λ b. cond b [] (unit_content (version_unit w (Some first)))) has.0,
+  ap (λ b. cond b [] (keyless_unit_content (version_unit w (Some first)))) has.0,
   all_empty v w (first + 1) ns has.1,
 )
 
@@ -151,7 +151,8 @@ same_content v w fits all =
     let present = flat_map (present_unit v w) (enumerate_from 0 (version_names w)) in
     let ends = both_true (list_all is_layout (removed ++ present)) (list_all is_layout (order_changes v w))
     (sym (list_all-append is_layout (removed ++ present) (order_changes v w)) ∙ all) in
-    let parts = both_true (list_all is_layout removed) (list_all is_layout present) (sym (list_all-append is_layout removed present) ∙ ends.0) in
+    let parts = both_true (list_all is_layout removed) (list_all is_layout present)
+    (sym (list_all-append is_layout removed present) ∙ ends.0) in
     let each_removed = enumerated_at (λ i name. list_all is_layout (removed_unit v w (i, name)) ≡ true) 0 (version_names v)
     (each_passes is_layout (removed_unit v w) (enumerate_from 0 (version_names v)) parts.0) in
     let each_present = enumerated_at (λ i name. list_all is_layout (present_unit v w (i, name)) ≡ true) 0 (version_names w)
@@ -163,8 +164,8 @@ same_content v w fits all =
     let in_new : AllByRecursion (λ name. has_unit_named w name ≡ true) (version_names v) =
     all_names (λ name. has_unit_named w name ≡ true) (version_names v)
     (λ i name is.
-        present_or_removed (has_unit_named w name) (renamed_to v w (0 + i)) (0 + i)
-        (not_renamed (lone_contents v w) (lone_contents w v) (slice_get (lone_contents v w) (0 + i)) empty) (each_removed i name is)) in
+    present_or_removed (has_unit_named w name) (renamed_to v w (0 + i)) (0 + i)
+    (not_renamed (lone_contents v w) (lone_contents w v) (slice_get (lone_contents v w) (0 + i)) empty) (each_removed i name is)) in
     let names : version_names v ≡ version_names w =
     sym (filter_all (has_unit_named w) (version_names v) in_new)
     ∙ same_names (shared_names v w) (shared_names w v) (ordered (pointwise bytes_eq (shared_names v w) (shared_names w v)) ends.1)
@@ -176,7 +177,8 @@ same_content v w fits all =
           let here : 0 + i ≡ i = omega arith in
           let found : named_index v name ≡ Some i = names_lead_to_units v fits i name is in
           let there = each_present i name (ap (λ ns. slice_get ns i) (sym names) ∙ is) in
-          layout_or_same (is_same v (version_unit v (Some i)) w (version_unit w (Some i))) (same_place i) (content_changes (same_place i) v w)
+          layout_or_same (is_same v (version_unit v (Some i)) w (version_unit w (Some i))) (same_place i)
+          (content_changes (same_place i) v w)
           (units_pass (same_place i) v (version_unit v (Some i)) w (version_unit w (Some i)))
           (ap (λ o. list_all is_layout (changes_from v w i o)) (sym found)
           ∙ ap (λ k. list_all is_layout (changes_from v w k (named_index v name))) (sym here) ∙ there);
@@ -197,16 +199,17 @@ only_layout v w fits same =
     all_pass is_layout (removed_unit v w) (enumerate_from 0 (version_names v))
     (enumerated_all (λ i name. list_all is_layout (removed_unit v w (i, name)) ≡ true) 0 (version_names v)
     (λ i name is.
-        ap (λ o. list_all is_layout (cond (is_some o || is_some (renamed_to v w (0 + i))) [] (Removed (0 + i) ∷ []))) (found i name is))) in
+    ap (λ o. list_all is_layout (cond (is_some o || is_some (renamed_to v w (0 + i))) [] (Removed (0 + i) ∷ []))) (found i name is))) in
     let each_present : (i : ℕ) (name : List ℕ) → slice_get (version_names w) i ≡ Some name
     → list_all is_layout (present_unit v w (0 + i, name)) ≡ true =
     λ i name is.
-        let is_old : slice_get (version_names v) i ≡ Some name = ap (λ ns. slice_get ns i) same.names ∙ is in
-        let here : 0 + i ≡ i = omega arith in
-        ap (λ k. list_all is_layout (changes_from v w k (named_index v name))) here
-        ∙ ap (λ o. list_all is_layout (changes_from v w i o)) (names_lead_to_units v fits i name is_old)
-        ∙ same_is_layout (is_same v (version_unit v (Some i)) w (version_unit w (Some i))) (same_place i) (content_changes (same_place i) v w)
-        (same.units i (below_length (version_names v) i name is_old)) in
+    let is_old : slice_get (version_names v) i ≡ Some name = ap (λ ns. slice_get ns i) same.names ∙ is in
+    let here : 0 + i ≡ i = omega arith in
+    ap (λ k. list_all is_layout (changes_from v w k (named_index v name))) here
+    ∙ ap (λ o. list_all is_layout (changes_from v w i o)) (names_lead_to_units v fits i name is_old)
+    ∙ same_is_layout (is_same v (version_unit v (Some i)) w (version_unit w (Some i))) (same_place i)
+    (content_changes (same_place i) v w)
+    (same.units i (below_length (version_names v) i name is_old)) in
     let only_present : list_all is_layout present ≡ true =
     all_pass is_layout (present_unit v w) (enumerate_from 0 (version_names w))
     (enumerated_all (λ i name. list_all is_layout (present_unit v w (i, name)) ≡ true) 0 (version_names w) each_present) in

@@ -1,5 +1,5 @@
 -- Lists of names with their indices, and tests of all elements.
-use Rattle.std.proofs.Common.{◌≡◌, ◌<◌, ◌≤◌, ◌+◌, ℕ, zero, suc, Bool, true, false, ◌&&◌, cond, List, [], ◌∷◌, ◌++◌, Some, filter, length, refl, sym, ap, ◌∙◌, subst, arith}
+use Rattle.std.proofs.Common.{◌≡◌, ◌<◌, ◌+◌, ℕ, zero, suc, Bool, true, false, ◌&&◌, cond, List, [], ◌∷◌, Some, filter, length, refl, sym, ap, ◌∙◌, subst, arith}
 use Rattle.std.specs.Prelude.{bytes_eq, slice_get}
 use Rattle.std.specs.Cmp.Lexicographic.{pointwise}
 use Rattle.std.specs.List.{AllByRecursion, enumerate_from, flat_map, list_all}
@@ -32,8 +32,9 @@ all_of_each P each [] = _
 all_of_each P each (x ∷ xs) = (each x, all_of_each P each xs)
 
 -- what holds of all names with their indices holds at each index, and the other way round
-pub enumerated_at : (P : ℕ → List ℕ → Type 0) (first : ℕ) (names : List (List ℕ)) → AllByRecursion (λ x. P x.0 x.1) (enumerate_from first names)
-    → (i : ℕ) (name : List ℕ) → slice_get names i ≡ Some name → P (first + i) name
+pub enumerated_at : (P : ℕ → List ℕ → Type 0) (first : ℕ) (names : List (List ℕ))
+    → AllByRecursion (λ x. P x.0 x.1) (enumerate_from first names) → (i : ℕ) (name : List ℕ) → slice_get names i ≡ Some name
+    → P (first + i) name
 enumerated_at P first [] all i name is = absurd (cc)
 enumerated_at P first (n ∷ ns) all zero name is =
     let same : n ≡ name = cc in
@@ -51,7 +52,7 @@ enumerated_all P first (n ∷ ns) each =
     let here : first + 0 ≡ first = omega arith in (
       subst (λ k. P k n) here (each 0 n refl),
       enumerated_all P (first + 1) ns
-      (λ i name is.
+          (λ i name is.
           let later : first + suc i ≡ first + 1 + i = omega arith in subst (λ k. P k name) later (each (suc i) name is)),
     )
 

@@ -63,8 +63,8 @@ block_fields None = []
 block_fields (Some b) = b.fields
 
 -- the fields of a unit by whose indices changes name them: those of its only entry, or its definitions
-abbrev pub fields_of : UnitReading → List FieldReading
-fields_of u = block_fields (block_of u)
+abbrev pub unit_fields : UnitReading → List FieldReading
+unit_fields u = block_fields (block_of u)
 
 -- the bytes from an offset to another one, outside of these fields, without white space and commas
 abbrev pub bytes_outside : List ℕ → ℕ → List FieldReading → ℕ → List ℕ

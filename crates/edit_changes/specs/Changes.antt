@@ -9,7 +9,7 @@ use Rattle.edit_units.specs.Units.{UnitReading}
 use Rattle.edit_versions.specs.Alike.{is_same}
 use Rattle.edit_versions.specs.Versions.{VersionReading, has_unit_named, named_index, text_of_unit, version_names, version_unit}
 use Rattle.edit_changes.specs.Blocks.{BlockReading, block_of, text_outside}
-use Rattle.edit_changes.specs.Fields.{field_changes}
+use Rattle.edit_changes.specs.Fields.{changes_of_fields}
 use Rattle.edit_changes.specs.Renames.{lone_contents, renamed_index}
 use Rattle.edit_changes.specs.declared.changes.Change.{Change}
 use Rattle.edit_changes.specs.declared.changes.Change.TheVariants.{Added, CommentsSet, FieldAdded, FieldRemoved, FieldSet, LayoutSet, Removed, Renamed, Reordered, TextSet, TypeSet}
@@ -50,7 +50,7 @@ changes_by place text u None other w c = text_changes place (text_of_unit text u
 changes_by place text u (Some b) other w None = text_changes place (text_of_unit text u) (text_of_unit other w)
 changes_by place text u (Some b) other w (Some c) =
     type_changes place b.kind c.kind ++ comment_change place (bytes_eq (text_outside text u b) (text_outside other w c))
-    ++ field_changes place b.fields c.fields
+    ++ changes_of_fields place b.fields c.fields
 
 -- the changes of the content of a unit, except for its key
 abbrev pub unit_changes : Place → VersionReading → Option UnitReading → VersionReading → Option UnitReading → List Change

@@ -30,18 +30,18 @@ abbrev pub removed_field : Place → ByText ℕ → ℕ × List ℕ → List Cha
 removed_field place others x = cond (is_some (get others x.1)) [] (FieldRemoved place x.0 ∷ [])
 
 -- the change from the field at an index of the old version, if there is one, to that at an index of the new version
-abbrev pub field_change : Place → List FieldReading → List FieldReading → ℕ → Option ℕ → List Change
-field_change place fields others new None = FieldAdded place new ∷ []
-field_change place fields others new (Some old) =
+abbrev pub present_field_change : Place → List FieldReading → List FieldReading → ℕ → Option ℕ → List Change
+present_field_change place fields others new None = FieldAdded place new ∷ []
+present_field_change place fields others new (Some old) =
     cond (are_equal_values (slice_get fields old) (slice_get others new)) [] (FieldSet place old new ∷ [])
 
 -- the change at a field of the new version, given its index and name, and the indices by name in the old version: from the field there that
 -- has the name
 abbrev pub present_field : Place → List FieldReading → List FieldReading → ByText ℕ → ℕ × List ℕ → List Change
-present_field place fields others indices x = field_change place fields others x.0 (get indices x.1)
+present_field place fields others indices x = present_field_change place fields others x.0 (get indices x.1)
 
 -- the changes from fields of the old version to fields of the new one: those that are removed, and those of the new version
-abbrev pub field_changes : Place → List FieldReading → List FieldReading → List Change
-field_changes place fields others =
+abbrev pub changes_of_fields : Place → List FieldReading → List FieldReading → List Change
+changes_of_fields place fields others =
     flat_map (removed_field place (indices_of (field_names others))) (enumerate_from 0 (field_names fields))
     ++ flat_map (present_field place fields others (indices_of (field_names fields))) (enumerate_from 0 (field_names others))

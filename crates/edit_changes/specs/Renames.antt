@@ -1,6 +1,6 @@
 -- Meaning: words of public contracts.
 -- Renamed entries: those that are equal except for the key and the layout, and that no other entry is equal to.
-use Rattle.std.specs.Prelude.{◌==◌, ◌&&◌, ℕ, Bool, not, List, [], ◌∷◌, ◌++◌, Option, Some, None, bytes_eq, codes, cond, count_by, length, map, option_and_then}
+use Rattle.std.specs.Prelude.{◌==◌, ◌&&◌, ℕ, not, List, [], ◌++◌, Option, Some, None, bytes_eq, codes, cond, count_by, length, map}
 use Rattle.std.specs.FinMap.{get}
 use Rattle.std.specs.List.{enumerate_from, flat_map}
 use Rattle.std.specs.Str.{str_to_ascii_lowercase}
@@ -20,21 +20,21 @@ abbrev pub field_content : FieldReading → List ℕ
 field_content f = codes " " ++ (str_to_ascii_lowercase f.name.text ++ flat_map piece_content f.value.pieces)
 
 -- the content of an entry without its key, as text: its type in ASCII lowercase, and its fields
-abbrev pub entry_content : EntryReading → List ℕ
-entry_content e = str_to_ascii_lowercase e.kind.text ++ flat_map field_content e.fields
+abbrev pub keyless_content : EntryReading → List ℕ
+keyless_content e = str_to_ascii_lowercase e.kind.text ++ flat_map field_content e.fields
 
 -- the content of the only entry of a unit, without its key, or an empty text for another unit
 abbrev pub content_by : Option EntryReading → List ℕ
 content_by None = []
-content_by (Some e) = entry_content e
+content_by (Some e) = keyless_content e
 
-abbrev pub unit_content : Option UnitReading → List ℕ
-unit_content None = []
-unit_content (Some u) = content_by (single_entry u)
+abbrev pub keyless_unit_content : Option UnitReading → List ℕ
+keyless_unit_content None = []
+keyless_unit_content (Some u) = content_by (single_entry u)
 
 -- the content of a unit, given its index and name, if the other version has no unit with this name; otherwise an empty text
 abbrev pub lone_content : VersionReading → VersionReading → ℕ × List ℕ → List ℕ
-lone_content v other x = cond (has_unit_named other x.1) [] (unit_content (version_unit v (Some x.0)))
+lone_content v other x = cond (has_unit_named other x.1) [] (keyless_unit_content (version_unit v (Some x.0)))
 
 -- the contents of the units that the other version lacks; the others have an empty text
 abbrev pub lone_contents : VersionReading → VersionReading → List (List ℕ)

@@ -1,6 +1,6 @@
 -- Meaning: words of public contracts.
 -- Versions that have the same content, but may differ in their layout.
-use Rattle.std.specs.Prelude.{◌≡◌, ◌⊎◌, ◌<◌, ℕ, true, List, [], Some, length}
+use Rattle.std.specs.Prelude.{◌≡◌, ◌⊎◌, ◌<◌, ℕ, true, [], Some, length}
 use Rattle.edit_changes.specs.Changes.{content_changes}
 use Rattle.edit_changes.specs.declared.changes.Place.{Place}
 use Rattle.edit_versions.specs.Alike.{is_same}

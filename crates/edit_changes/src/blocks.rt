@@ -85,20 +85,8 @@ fn text_outside(
 {
     let bytes = text.as_bytes();
     let mut outside = Vec::new(alloc);
-    push_outside_fields(
-        &mut outside,
-        bytes,
-        unit.span.start,
-        &[],
-        block.kind_start,
-    )?;
-    push_outside_fields(
-        &mut outside,
-        bytes,
-        block.kind_end,
-        &[],
-        block.key_start,
-    )?;
+    push_outside_fields(&mut outside, bytes, unit.span.start, &[], block.kind_start)?;
+    push_outside_fields(&mut outside, bytes, block.kind_end, &[], block.key_start)?;
     push_outside_fields(
         &mut outside,
         bytes,

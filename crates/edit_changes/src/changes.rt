@@ -6,7 +6,7 @@ ghost use Rattle.edit_units.specs.Views.{unit_reading_of};
 ghost use Rattle.edit_versions.specs.Versions.{text_of_unit, version_names};
 ghost use Rattle.edit_changes.specs.Blocks as blocks;
 ghost use Rattle.edit_changes.specs.Changes as spec;
-ghost use Rattle.edit_changes.specs.Contents.{AreContents};
+ghost use Rattle.edit_changes.specs.Contents.{AreLoneContents};
 
 use crate::blocks::{block_of, is_same_outside};
 use crate::fields::push_field_changes;
@@ -162,7 +162,9 @@ fn push_unit_changes(
         return push_text_change(alloc, changes, place, old.bytes, new.bytes);
     };
     push_type_change(changes, place, block.kind, other.kind)?;
-    let is_same = is_same_outside(alloc, old.text, old.unit, &block, new.text, new.unit, &other)?;
+    let is_same = is_same_outside(
+        alloc, old.text, old.unit, &block, new.text, new.unit, &other,
+    )?;
     push_comment_change(changes, place, is_same)?;
     push_field_changes(alloc, changes, place, block.fields, other.fields)
 }
@@ -227,11 +229,8 @@ struct Comparison<'c, 's> {
 }
 
 // Appends the units of the old version that the new version lacks, and that weren't renamed.
-fn push_removed(
-    changes: &mut Vec<Change>,
-    comparison: Comparison<'_, '_>,
-) -> Result<(), AllocError>
-    requires { AreContents comparison }
+fn push_removed(changes: &mut Vec<Change>, comparison: Comparison<'_, '_>) -> Result<(), AllocError>
+    requires { AreLoneContents comparison }
     ensures { OnOk result (changes.new.items ≡ changes.old.items ++ flat_map
         (spec.removed_unit comparison.entry.old.now comparison.entry.new.now) (enumerate_from 0 (version_names comparison.entry.old.now))) }
 {
@@ -283,7 +282,7 @@ fn push_present_unit(
     index: usize,
     name: &str,
 ) -> Result<(), AllocError>
-    requires { AreContents comparison }
+    requires { AreLoneContents comparison }
     ensures { OnOk result (changes.new.items
         ≡ changes.old.items ++ spec.present_unit comparison.entry.old.now comparison.entry.new.now (index, name.now)) }
 {
@@ -314,7 +313,7 @@ fn push_present(
     changes: &mut Vec<Change>,
     comparison: Comparison<'_, '_>,
 ) -> Result<(), AllocError>
-    requires { AreContents comparison }
+    requires { AreLoneContents comparison }
     ensures { OnOk result (changes.new.items ≡ changes.old.items ++ flat_map
         (spec.present_unit comparison.entry.old.now comparison.entry.new.now) (enumerate_from 0 (version_names comparison.entry.new.now))) }
 {

@@ -5,7 +5,7 @@ ghost use Rattle.std.specs.List.{enumerate_from, flat_map};
 ghost use Rattle.std.specs.Str.{str_to_ascii_lowercase};
 ghost use Rattle.bib_syntax.specs.Views.{field_of};
 ghost use Rattle.edit_units.specs.Views.{unit_reading_of};
-ghost use Rattle.edit_changes.specs.Blocks.{fields_of};
+ghost use Rattle.edit_changes.specs.Blocks.{unit_fields};
 ghost use Rattle.edit_changes.specs.Fields as spec;
 
 use crate::blocks::block_of;
@@ -86,7 +86,7 @@ fn field_at<'f, 's>(fields: &'f [Pair<'s>], index: usize) -> Option<&'f Pair<'s>
 
 /// Returns the field at an index of a unit, as a change names it: of its only entry, or of its definitions.
 pub fn unit_field<'u, 's>(unit: &'u Unit<'s>, index: usize) -> Option<&'u Pair<'s>>
-    ensures { option_map (λ f. field_of f.now) result ≡ slice_get (fields_of (unit_reading_of unit.now)) index }
+    ensures { option_map (λ f. field_of f.now) result ≡ slice_get (unit_fields (unit_reading_of unit.now)) index }
 {
     let block = block_of(unit)?;
     field_at(block.fields, index)
@@ -103,7 +103,7 @@ fn push_change(
     old: Option<usize>,
 ) -> Result<(), AllocError>
     ensures { OnOk result (changes.new.items
-        ≡ changes.old.items ++ spec.field_change place (map field_of fields.now) (map field_of others.now) new old) }
+        ≡ changes.old.items ++ spec.present_field_change place (map field_of fields.now) (map field_of others.now) new old) }
 {
     let Some(old) = old else {
         changes.push(Change::FieldAdded { place, new })?;
@@ -144,7 +144,7 @@ pub(crate) fn push_field_changes(
     others: &[Pair<'_>],
 ) -> Result<(), AllocError>
     ensures { OnOk result (changes.new.items
-        ≡ changes.old.items ++ spec.field_changes place (map field_of fields.now) (map field_of others.now)) }
+        ≡ changes.old.items ++ spec.changes_of_fields place (map field_of fields.now) (map field_of others.now)) }
 {
     let names = field_names(alloc, fields)?;
     let other_names = field_names(alloc, others)?;

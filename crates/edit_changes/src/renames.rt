@@ -61,7 +61,7 @@ fn push_field(alloc: Global, content: &mut Text, field: &Pair<'_>) -> Result<(),
 
 // Returns the content of an entry without its key: its type in ASCII lowercase, and its fields.
 fn entry_content(alloc: Global, entry: &Spanned<RawEntry<'_>>) -> Result<Text, AllocError>
-    ensures { IfOk result (λ content. content ≡ spec.entry_content (entry_reading_of entry.now)) }
+    ensures { IfOk result (λ content. content ≡ spec.keyless_content (entry_reading_of entry.now)) }
 {
     let kind = entry.v.kind.v.to_ascii_lowercase(alloc)?;
     let mut content = Text::from_string(kind);
@@ -73,7 +73,7 @@ fn entry_content(alloc: Global, entry: &Spanned<RawEntry<'_>>) -> Result<Text, A
 
 // Returns the content of the only entry of a unit, without its key, or an empty text for another unit.
 fn unit_content(alloc: Global, unit: Option<&Unit<'_>>) -> Result<Text, AllocError>
-    ensures { IfOk result (λ content. content ≡ spec.unit_content (option_map (λ u. unit_reading_of u.now) unit.entry)) }
+    ensures { IfOk result (λ content. content ≡ spec.keyless_unit_content (option_map (λ u. unit_reading_of u.now) unit.entry)) }
 {
     match unit {
         Some(unit) => match single_entry(unit) {
@@ -111,13 +111,7 @@ fn lone_contents(
     let mut contents = Vec::new(alloc);
     let names = version.names();
     'names: for (index, name) in names.iter().enumerate() {
-        contents.push(lone_content(
-            alloc,
-            version,
-            other,
-            index,
-            name.as_str(),
-        )?)?;
+        contents.push(lone_content(alloc, version, other, index, name.as_str())?)?;
     }
     Ok(contents)
 }

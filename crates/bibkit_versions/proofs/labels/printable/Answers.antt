@@ -3,7 +3,6 @@ use Rattle.std.proofs.lemmas.List.{map-id, flat_map_more}
 use Rattle.std.proofs.lemmas.Iterator.{YieldsList-from_chars}
 use Rattle.std.proofs.lemmas.Iterator.Consumers.{YieldsList-end}
 use Rattle.std.specs.List.{flat_map}
-use Rattle.std.specs.String.{string_bytes}
 use Rattle.bibkit_versions.specs.Labels.{printable_character}
 use Rattle.bibkit_versions.proofs.labels.printable.Goals as goal
 

@@ -7,5 +7,6 @@ use Rattle.edit_changes.proofs.fields.push_present.Given as goal
 -- the changes so far, and those at the remaining names, are the old changes and those at all names
 abbrev pub invariant-names : goal.invariant-names
 invariant-names l =
-    l.changes.items ++ flat_map (present_field l.place (map field_of l.fields) (map field_of l.others) l.indices) (enumerate_from l.index (drop l.index l.names))
-    ≡ l.initial.changes.items ++ flat_map (present_field l.place (map field_of l.fields) (map field_of l.others) l.indices) (enumerate_from 0 l.names)
+    let here = present_field l.place (map field_of l.fields) (map field_of l.others) l.indices in
+    l.changes.items ++ flat_map here (enumerate_from l.index (drop l.index l.names))
+    ≡ l.initial.changes.items ++ flat_map here (enumerate_from 0 l.names)
