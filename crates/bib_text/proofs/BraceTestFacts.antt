@@ -18,7 +18,7 @@ use Rattle.bib_text.proofs.TextFacts.{ahead}
 
 -- ---- one byte
 
-other_byte : (b depth : ℕ) (bs : List ℕ) → (b ≡ 92 → ⊥) → (b ≡ 123 → ⊥) → (b ≡ 125 → ⊥)
+pub other_byte : (b depth : ℕ) (bs : List ℕ) → (b ≡ 92 → ⊥) → (b ≡ 123 → ⊥) → (b ≡ 125 → ⊥)
     → close_braces false depth (b ∷ bs) ≡ close_braces false depth bs
 other_byte b depth bs no_slash no_open no_close =
     let hidden : Bool = close_braces true depth bs in
