@@ -58,7 +58,10 @@ opened_parts char parts brace =
 
 -- moving past an opening brace opens one brace
 pub braced_open : {u v : Place} (n : ℕ) → CharAt u 123 v → SameBraced n u (suc n) v
-braced_open n brace = record { there = λ x y p c. closes_suc brace p; back = λ x y p c. opened_back (not_closed brace (λ clash. omega (arith, clash)) c) brace p }
+braced_open n brace = record {
+  there = λ x y p c. closes_suc brace p;
+  back = λ x y p c. opened_back (not_closed brace (λ clash. omega (arith, clash)) c) brace p;
+}
 
 -- moving past a closing brace closes one brace
 pub braced_close : {u v : Place} (n : ℕ) → CharAt u 125 v → SameBraced (suc n) u n v

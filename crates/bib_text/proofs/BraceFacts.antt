@@ -70,7 +70,8 @@ parts_slash slash (hidden {c = c} other next rest) =
 parts_slash slash (nested other inner close rest) = absurd (omega (arith, (same_char slash other).0))
 
 -- parts that begin at an opening brace are empty, or begin with a pair of braces
-pub parts_open : {u v x : Place} → CharAt u 123 v → Parts u x → (u ≡ x) ⊎ ((w : Place) × (y : Place) × Parts v w × CharAt w 125 y × Parts y x)
+pub parts_open : {u v x : Place} → CharAt u 123 v → Parts u x
+    → (u ≡ x) ⊎ ((w : Place) × (y : Place) × Parts v w × CharAt w 125 y × Parts y x)
 parts_open char none = inl refl
 parts_open char (plain other also rest) = absurd (both_ways _ refl (rw (sym (same_char char other).0) at also))
 parts_open char (hidden other next rest) = absurd (omega (arith, (same_char char other).0))
@@ -94,6 +95,7 @@ closes_after n e {u} {v} {y} {c} within char other first back = (there, here)
         level
         (⊎_elim (λ end. absurd (other (same_char char (subst (λ z. CharAt z 125 x) (sym end) close)).0)) (λ q. q) (first w p))
         close rest
+
     here : {m : ℕ} → ClosesOpen m v e → ClosesOpen m u e
     here (last p) = last (back e p)
     here (level {v = w} p close rest) = level (back w p) close rest

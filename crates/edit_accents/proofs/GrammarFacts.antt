@@ -104,7 +104,7 @@ fits_braces false d (c ∷ cs) =
             | inl closes ↦ subst (AreSameTests d cs) (sym closes) (ap (λ x. nat_lt 0 d && x) (fits_braces false (d - 1) cs))
             | inr no_close ↦
                 over_dull false d c cs
-                (record { no_slash = no_slash; no_quote = no_quote; no_open = no_open; no_close = no_close; })
+                (record { no_slash = no_slash; no_quote = no_quote; no_open = no_open; no_close = no_close })
                 ∙ fits_braces false d cs ∙ sym (other_byte c d cs no_slash no_open no_close)
           ]
         ]
