@@ -2,7 +2,7 @@
 -- The output of `merge`.
 use Rattle.std.specs.Prelude.{◌≡◌, ℕ, Bool, List}
 use Rattle.std.specs.List.{list_any}
-use Rattle.edit_merge.specs.Entries.{HasMergedEntries, is_conflict}
+use Rattle.edit_merge.specs.Entries.{HasMergedEntries, is_conflict_choice}
 use Rattle.edit_merge.specs.Merged.{MarkersReading, merged_text}
 use Rattle.edit_merge.specs.Picked.{Versions, slots}
 use Rattle.edit_merge.specs.declared.entries.Side.TheVariants.{Ours, Theirs}
@@ -11,7 +11,7 @@ use Rattle.edit_versions.specs.Versions.{VersionReading}
 
 -- whether a merge by units has a conflict
 abbrev pub has_conflict : Versions → Bool
-has_conflict vs = list_any (λ s. is_conflict s.choice) (slots vs)
+has_conflict vs = list_any (λ s. is_conflict_choice s.choice) (slots vs)
 
 -- versions whose merge by units is the merge of `vs`: the same ones, or those in which entries that both sides changed are merged by fields
 pub data AreMergedBy (vs : Versions) : Versions → Type 0 where
@@ -21,7 +21,7 @@ pub data AreMergedBy (vs : Versions) : Versions → Type 0 where
       → AreMergedBy vs (record { base = vs.base; ours = ours; theirs = theirs })
 
 -- a text is a merge, and `conflicts` says whether it has conflicts
-pub record IsMergeOf (markers : MarkersReading) (vs : Versions) (text : List ℕ) (conflicts : Bool) : Type 0 where
+pub record IsMergedFile (markers : MarkersReading) (vs : Versions) (text : List ℕ) (conflicts : Bool) : Type 0 where
   pub merged : Versions
   pub are : AreMergedBy vs merged
   pub is : text ≡ merged_text markers merged

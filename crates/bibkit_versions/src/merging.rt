@@ -4,8 +4,8 @@ ghost use Rattle.std.specs.Prelude.{◌≡◌, IfOk, IfSome};
 ghost use Rattle.std.specs.List.{list_any};
 ghost use Rattle.std.specs.String.{string_bytes};
 ghost use Rattle.bibkit_versions.specs.Merging as spec;
-ghost use Rattle.bibkit_versions.specs.Merging.{IsMergeOf};
-ghost use Rattle.edit_merge.specs.Entries.{is_conflict};
+ghost use Rattle.bibkit_versions.specs.Merging.{IsMergedFile};
+ghost use Rattle.edit_merge.specs.Entries.{is_conflict_choice};
 ghost use Rattle.edit_merge.specs.Merged.{merged_text};
 ghost use Rattle.edit_merge.specs.Views.{markers_of, versions_of};
 ghost use Rattle.edit_units.specs.Units.{AreUnits};
@@ -32,7 +32,7 @@ pub struct Output {
 
 // Returns whether one of these places has a conflict.
 fn has_conflict(slots: &[Slot]) -> bool
-    ensures { result ≡ list_any (λ s. is_conflict s.choice) slots.now }
+    ensures { result ≡ list_any (λ s. is_conflict_choice s.choice) slots.now }
 {
     slots.iter().any(|slot| slot.choice == Choice::Conflict)
 }
@@ -146,7 +146,7 @@ fn output_of(
     merged: Merged,
 ) -> Result<Output, AllocError>
     ensures text { IfOk result (λ o. string_bytes o.text ≡ string_bytes merged.text) }
-    ensures conflict { IfOk result (λ o. o.has_conflict ≡ list_any (λ s. is_conflict s.choice) merged.slots.items) }
+    ensures conflict { IfOk result (λ o. o.has_conflict ≡ list_any (λ s. is_conflict_choice s.choice) merged.slots.items) }
 {
     let messages = conflict_messages(alloc, file, marker, versions, &merged)?;
     let has_conflict = has_conflict(&merged.slots);
@@ -186,7 +186,7 @@ fn output_by_fields(
     versions: Versions<'_, '_>,
     markers: Markers<'_>,
 ) -> Result<Option<Output>, AllocError>
-    ensures { IfOk result (λ found. IfSome found (λ o. IsMergeOf (markers_of markers.entry) (versions_of versions.entry)
+    ensures { IfOk result (λ found. IfSome found (λ o. IsMergedFile (markers_of markers.entry) (versions_of versions.entry)
         (string_bytes o.text) o.has_conflict)) }
 {
     let our_text = with_merged_entries(alloc, versions, Side::Ours)?;
@@ -211,7 +211,7 @@ pub fn merge_file(
     versions: Versions<'_, '_>,
     markers: Markers<'_>,
 ) -> Result<Output, AllocError>
-    ensures { IfOk result (λ o. IsMergeOf (markers_of markers.entry) (versions_of versions.entry) (string_bytes o.text) o.has_conflict) }
+    ensures { IfOk result (λ o. IsMergedFile (markers_of markers.entry) (versions_of versions.entry) (string_bytes o.text) o.has_conflict) }
 {
     let merged = merge(alloc, versions, markers)?;
     if !has_conflict(&merged.slots) {

@@ -14,7 +14,7 @@ use Rattle.bib_syntax.specs.Views.{field_of}
 use Rattle.bib_syntax.specs.declared.raw.Pair.{Pair}
 use Rattle.edit_entries.specs.Documents.{has_name}
 use Rattle.edit_entry_merge.specs.Versions.{have_distinct_names}
-use Rattle.edit_entry_merge.specs.Working.{AddsFirst, HasFirst, field_at, is_new, lent_field}
+use Rattle.edit_entry_merge.specs.Working.{AddsFirst, HasFirst, field_by_name, is_new, lent_field}
 
 -- ---- maps
 
@@ -31,15 +31,15 @@ pub first_kept : {A : Type 0} (fields : BTreeMap (String A) (Bor Pair)) (f : Fie
     → low ≡ str_to_ascii_lowercase f.name.text → is_some (get_by_text fields low) ≡ true → AddsFirst fields f fields
 first_kept fields f low is there = λ name. by_case name (has_name name f) refl
   where
-    by_case : (name : List ℕ) (b : Bool) → has_name name f ≡ b → field_at fields name
-        ≡ option_or (field_at fields name) (cond b (Some f) None)
+    by_case : (name : List ℕ) (b : Bool) → has_name name f ≡ b → field_by_name fields name
+        ≡ option_or (field_by_name fields name) (cond b (Some f) None)
     by_case name true same =
-        had (field_at fields name) (Some f)
+        had (field_by_name fields name) (Some f)
         (some_mapped (λ (p : Bor Pair). field_of p.now) (get_by_text fields (str_to_ascii_lowercase name))
         ∙ ap (λ l. is_some (get_by_text fields l))
         (sym ((bytes_eq-Decides (str_to_ascii_lowercase f.name.text) (str_to_ascii_lowercase name)).0 same) ∙ sym is)
         ∙ there)
-    by_case name false other = sym (or_none (field_at fields name))
+    by_case name false other = sym (or_none (field_by_name fields name))
 
 -- a map without a field for a name gets one
 pub first_added : {A : Type 0} (old new : BTreeMap (String A) (Bor Pair)) (p : Bor Pair) (low : List ℕ)
@@ -51,18 +51,18 @@ first_added old new p low is none added = λ name.
     let lower = str_to_ascii_lowercase name in
     ap lent_field (added lower)
     ∙ mapped_cond (λ (q : Bor Pair). field_of q.now) (bytes_eq low lower) p (get_by_text old lower)
-    ∙ ap (λ l. cond (bytes_eq l lower) (Some f) (field_at old name)) is
+    ∙ ap (λ l. cond (bytes_eq l lower) (Some f) (field_by_name old name)) is
     ∙ by_case name (has_name name f) refl
   where
     by_case : (name : List ℕ) (b : Bool) → has_name name (field_of p.now) ≡ b
-        → cond b (Some (field_of p.now)) (field_at old name) ≡ option_or (field_at old name) (cond b (Some (field_of p.now)) None)
+        → cond b (Some (field_of p.now)) (field_by_name old name) ≡ option_or (field_by_name old name) (cond b (Some (field_of p.now)) None)
     by_case name true same =
-        new_one (field_at old name) (Some (field_of p.now))
+        new_one (field_by_name old name) (Some (field_of p.now))
         (some_mapped (λ (q : Bor Pair). field_of q.now) (get_by_text old (str_to_ascii_lowercase name))
         ∙ ap (λ l. is_some (get_by_text old l))
         (sym ((bytes_eq-Decides (str_to_ascii_lowercase (field_of p.now).name.text) (str_to_ascii_lowercase name)).0 same) ∙ sym is)
         ∙ none)
-    by_case name false other = sym (or_none (field_at old name))
+    by_case name false other = sym (or_none (field_by_name old name))
 
 -- after one more field is added, a map has the first of the fields with it
 pub first_more : {A : Type 0} (old new : BTreeMap (String A) (Bor Pair)) (fs : List FieldReading) (f : FieldReading)
@@ -121,7 +121,7 @@ distinct_more (f ∷ fs) g =
     both false c = refl
 
 pub distinct_next : {A : Type 0} (names : BTreeMap (String A) (Bor Pair)) (fs : List FieldReading) (g : FieldReading) (are new : Bool)
-    → HasFirst names fs → are ≡ have_distinct_names fs → new ≡ is_new (field_at names g.name.text)
+    → HasFirst names fs → are ≡ have_distinct_names fs → new ≡ is_new (field_by_name names g.name.text)
     → (are && new) ≡ have_distinct_names (fs ++ g ∷ [])
 distinct_next names fs g are new has known is =
     ap (λ b. b && new) known

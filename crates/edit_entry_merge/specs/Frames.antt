@@ -13,15 +13,15 @@ use Rattle.edit_entry_merge.specs.declared.choices.Side.{Side}
 use Rattle.edit_entry_merge.specs.declared.choices.Side.TheVariants.{Ours, Theirs}
 
 -- whether a byte is ASCII white space or a comma
-abbrev pub is_layout : ℕ → Bool
-is_layout b = is_ascii_whitespace b || b == char.comma
+abbrev pub is_layout_byte : ℕ → Bool
+is_layout_byte b = is_ascii_whitespace b || b == char.comma
 
 -- A text without the white space and the commas outside of its comments. A comment begins with a percent sign and ends with its line. The
 -- flag says whether the text begins in a comment
 abbrev pub without_layout : Bool → List ℕ → List ℕ
 without_layout in_comment [] = []
 without_layout true (b ∷ bs) = b ∷ without_layout (not (b == char.line_feed)) bs
-without_layout false (b ∷ bs) = cond (is_layout b) (without_layout false bs) (b ∷ without_layout (b == char.percent) bs)
+without_layout false (b ∷ bs) = cond (is_layout_byte b) (without_layout false bs) (b ∷ without_layout (b == char.percent) bs)
 
 -- the bytes from an offset to another one, outside of these fields
 abbrev pub outside_of_fields : List ℕ → ℕ → List FieldReading → ℕ → List ℕ

@@ -31,12 +31,12 @@ abbrev pub added_fields : List Addition → List FieldReading
 added_fields added = map (λ a. field_of a.field.now) added
 
 -- the field that a map has for a name, by the name in ASCII lowercase
-abbrev pub field_at : {A : Type 0} → BTreeMap (String A) (Bor Pair) → List ℕ → Option FieldReading
-field_at fields name = lent_field (get_by_text fields (str_to_ascii_lowercase name))
+abbrev pub field_by_name : {A : Type 0} → BTreeMap (String A) (Bor Pair) → List ℕ → Option FieldReading
+field_by_name fields name = lent_field (get_by_text fields (str_to_ascii_lowercase name))
 
 -- a map has the first of these fields for each name
 abbrev pub HasFirst : {A : Type 0} → BTreeMap (String A) (Bor Pair) → List FieldReading → Type 0
-HasFirst map fields = (name : List ℕ) → field_at map name ≡ find (has_name name) fields
+HasFirst map fields = (name : List ℕ) → field_by_name map name ≡ find (has_name name) fields
 
 -- the version that a value of the code represents
 abbrev pub version_reading : Version → spec.Version
@@ -76,7 +76,7 @@ is_new (Some f) = false
 -- the second map has what the first one has, and a field for its name if the first one has none
 abbrev pub AddsFirst : {A : Type 0} → BTreeMap (String A) (Bor Pair) → FieldReading → BTreeMap (String A) (Bor Pair) → Type 0
 AddsFirst old f new =
-    (name : List ℕ) → field_at new name ≡ option_or (field_at old name) (cond (has_name name f) (Some f) None)
+    (name : List ℕ) → field_by_name new name ≡ option_or (field_by_name old name) (cond (has_name name f) (Some f) None)
 
 -- the pick with this fate, and the field whose value a field gets
 abbrev pub pick_with : Fate → FieldReading → FieldPick

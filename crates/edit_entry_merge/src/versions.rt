@@ -4,7 +4,7 @@ ghost use Rattle.std.specs.Prelude.{◌≡◌, false, true, IfOk, IfSome, MatchO
 ghost use Rattle.bib_syntax.specs.Views.{field_of};
 ghost use Rattle.edit_entry_merge.specs.Choices as choices;
 ghost use Rattle.edit_entry_merge.specs.Versions as spec;
-ghost use Rattle.edit_entry_merge.specs.Working.{AddsFirst, AreIndexed, IsIndexed, HasFirst, field_at, is_new, lent_field, version_reading, versions_reading};
+ghost use Rattle.edit_entry_merge.specs.Working.{AddsFirst, AreIndexed, IsIndexed, HasFirst, field_by_name, is_new, lent_field, version_reading, versions_reading};
 
 use crate::choices::Side;
 use bib_syntax::raw::{Pair, RawEntry};
@@ -40,7 +40,7 @@ fn insert_field<'a, 's>(
     alloc: Global,
     field: &'a Pair<'s>,
 ) -> Result<bool, AllocError>
-    ensures new { IfOk result (λ new. new ≡ is_new (field_at fields.old (field_of field.now).name.text)) }
+    ensures new { IfOk result (λ new. new ≡ is_new (field_by_name fields.old (field_of field.now).name.text)) }
     ensures added { OnOk result (AddsFirst fields.old (field_of field.now) fields.new) }
 {
     let name = field.key.v.to_ascii_lowercase(alloc)?;

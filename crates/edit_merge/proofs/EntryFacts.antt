@@ -8,7 +8,7 @@ use Rattle.bib_syntax.proofs.FileFacts.{file_same}
 use Rattle.edit_entries.specs.Documents.{Document, IsDocument}
 use Rattle.edit_entry_merge.specs.Merges.{MergeReading, entry_merge}
 use Rattle.std.specs.Prelude.{zip}
-use Rattle.edit_merge.specs.Entries.{HasMergedEntries, HasMergedUnits, IsDocumentOf, IsMergeOf, IsSlotMerge, text_on, version_on}
+use Rattle.edit_merge.specs.Entries.{HasMergedEntries, HasMergedUnits, HasDocument, IsFieldMerge, IsSlotMerge, text_on, version_on}
 use Rattle.edit_merge.specs.Entries.HasMergedUnits.{none, some}
 use Rattle.edit_merge.specs.Picked.{Versions, slot_of}
 use Rattle.edit_merge.specs.declared.entries.Side.{Side}
@@ -16,18 +16,18 @@ use Rattle.edit_units.specs.Units.{UnitTexts}
 use Rattle.edit_versions.specs.Versions.{VersionReading, end_of, version_names, version_texts}
 
 -- a text without a document in the file grammar has no document
-pub no_document : {text : List ℕ} {d : Document} → (IsFile text → ⊥) → IsDocumentOf (Some text) (Some d) → ⊥
+pub no_document : {text : List ℕ} {d : Document} → (IsFile text → ⊥) → HasDocument (Some text) (Some d) → ⊥
 no_document {text} {d} no_file (same, read) = no_file (d.says, subst (λ t. File any (place t 0) d.says) same (file_any read))
 
 -- a text has one document
-pub same_document : {text : List ℕ} {d e : Document} → IsDocumentOf (Some text) (Some d) → IsDocumentOf (Some text) (Some e) → d ≡ e
+pub same_document : {text : List ℕ} {d e : Document} → HasDocument (Some text) (Some d) → HasDocument (Some text) (Some e) → d ≡ e
 same_document {text} {d} {e} (same, read) (same', read') =
     let texts : d.text ≡ e.text = same ∙ sym same' in
     let says : d.says ≡ e.says = file_same read (subst (λ t. File longest (place t 0) e.says) (sym texts) read') in
     ap (λ t. record { text = t; says = d.says }) texts ∙ ap (λ s. record { text = e.text; says = s }) says
 
 -- the documents of a base text that may be absent
-pub same_base : (base : Option (List ℕ)) (d e : Option Document) → IsDocumentOf base d → IsDocumentOf base e → d ≡ e
+pub same_base : (base : Option (List ℕ)) (d e : Option Document) → HasDocument base d → HasDocument base e → d ≡ e
 same_base None None None is other = refl
 same_base None None (Some e) is other = absurd other
 same_base None (Some d) e is other = absurd is
@@ -37,13 +37,13 @@ same_base (Some text) (Some d) (Some e) is other = ap Some (same_document is oth
 
 -- the merge of the documents of these texts is the merge of the texts
 pub merge_of_texts : (base : Option (List ℕ)) {ours theirs : List ℕ} (b : Option Document) (o t : Document) {m : MergeReading}
-    → IsDocumentOf base b → IsDocumentOf (Some ours) (Some o) → IsDocumentOf (Some theirs) (Some t) → m ≡ entry_merge b o t
-    → IsMergeOf base (Some ours) (Some theirs) m
+    → HasDocument base b → HasDocument (Some ours) (Some o) → HasDocument (Some theirs) (Some t) → m ≡ entry_merge b o t
+    → IsFieldMerge base (Some ours) (Some theirs) m
 merge_of_texts base b o t is_b is_o is_t made = λ b' o' t' is_b' is_o' is_t'.
     made ∙ ap (λ x. entry_merge x o t) (same_base base b b' is_b is_b') ∙ ap (λ x. entry_merge b' x t) (same_document is_o is_o')
     ∙ ap (entry_merge b' o') (same_document is_t is_t')
 
-pub no_base : {text : List ℕ} (b : Option Document) → (IsFile text → ⊥) → IsDocumentOf (Some text) b → ⊥
+pub no_base : {text : List ℕ} (b : Option Document) → (IsFile text → ⊥) → HasDocument (Some text) b → ⊥
 no_base None no_file is = is
 no_base (Some d) no_file is = no_document no_file is
 
@@ -77,8 +77,8 @@ none_left (n ∷ names) (u ∷ units) (inl ended) = absurd (omega (arith, ended)
 none_left (n ∷ names) (u ∷ units) (inr ended) = absurd (omega (arith, ended))
 
 -- at the end the text has all units
-pub all_merged : {side : Side} {vs : Versions} {all : List (List ℕ × UnitTexts)} {text : List ℕ} (names : List (List ℕ)) (units : List UnitTexts)
-    → (length names ≡ 0) ⊎ (length units ≡ 0) → IsAhead side vs all text (zip names units) → HasMergedUnits side vs all text
+pub all_merged : {side : Side} {vs : Versions} {all : List (List ℕ × UnitTexts)} {text : List ℕ} (names : List (List ℕ))
+    (units : List UnitTexts) → (length names ≡ 0) ⊎ (length units ≡ 0) → IsAhead side vs all text (zip names units) → HasMergedUnits side vs all text
 all_merged {side} {vs} {all} {text} names units ended ahead =
     subst (HasMergedUnits side vs all) (append-nil text)
     (ahead [] (subst (λ left. HasMergedUnits side vs left []) (sym (none_left names units ended)) none))

@@ -14,37 +14,38 @@ use Rattle.edit_units.specs.Units.{UnitTexts}
 use Rattle.edit_versions.specs.Versions.{VersionReading, end_of, own_part, text_of_unit, version_names, version_texts, version_unit}
 
 -- whether a choice is a conflict
-abbrev pub is_conflict : Choice → Bool
-is_conflict choice.Ours = false
-is_conflict choice.Theirs = false
-is_conflict choice.Conflict = true
+abbrev pub is_conflict_choice : Choice → Bool
+is_conflict_choice choice.Ours = false
+is_conflict_choice choice.Theirs = false
+is_conflict_choice choice.Conflict = true
 
 -- the bytes of the unit at an index, if there is an index
 abbrev pub bytes_at : VersionReading → Option ℕ → Option (List ℕ)
 bytes_at v index = option_map (text_of_unit v.text) (version_unit v index)
 
--- a document has this text and its reading, or both are absent. Each unit of a version has such a document (`units_are_parts` of `edit_units`)
-abbrev pub IsDocumentOf : Option (List ℕ) → Option Document → Type 0
-IsDocumentOf None None = ⊤
-IsDocumentOf None (Some d) = ⊥
-IsDocumentOf (Some text) None = ⊥
-IsDocumentOf (Some text) (Some d) = (d.text ≡ text) × IsDocument d
+-- a document has this text and its reading, or both are absent. Each unit of a version has a document (`units_are_parts` of
+-- `edit_units`)
+abbrev pub HasDocument : Option (List ℕ) → Option Document → Type 0
+HasDocument None None = ⊤
+HasDocument None (Some d) = ⊥
+HasDocument (Some text) None = ⊥
+HasDocument (Some text) (Some d) = (d.text ≡ text) × IsDocument d
 
 -- the merge of the texts of units by the fields of their entries: that of their documents. If a side lacks the unit, there is none
-abbrev pub IsMergeOf : Option (List ℕ) → Option (List ℕ) → Option (List ℕ) → MergeReading → Type 0
-IsMergeOf base None theirs m = m ≡ MergeReading.whole
-IsMergeOf base (Some o) None m = m ≡ MergeReading.whole
-IsMergeOf base (Some o) (Some t) m =
-    (b : Option Document) (ours theirs : Document) → IsDocumentOf base b → IsDocumentOf (Some o) (Some ours)
-    → IsDocumentOf (Some t) (Some theirs) → m ≡ entry_merge b ours theirs
+abbrev pub IsFieldMerge : Option (List ℕ) → Option (List ℕ) → Option (List ℕ) → MergeReading → Type 0
+IsFieldMerge base None theirs m = m ≡ MergeReading.whole
+IsFieldMerge base (Some o) None m = m ≡ MergeReading.whole
+IsFieldMerge base (Some o) (Some t) m =
+    (b : Option Document) (ours theirs : Document) → HasDocument base b → HasDocument (Some o) (Some ours)
+    → HasDocument (Some t) (Some theirs) → m ≡ entry_merge b ours theirs
 
 -- whether the units with a name may be merged by fields: they conflict, and no version has two units with their own name
 abbrev pub may_merge : Versions → List ℕ → Slot → Bool
-may_merge vs name s = is_conflict s.choice && not (is_repeated_in vs (own_part name))
+may_merge vs name s = is_conflict_choice s.choice && not (is_repeated_in vs (own_part name))
 
 -- the merge by fields at a place, if the units there may be merged so; otherwise there is none
 abbrev pub IsMergeIf : Bool → Versions → Slot → MergeReading → Type 0
-IsMergeIf true vs s m = IsMergeOf (bytes_at vs.base s.base) (bytes_at vs.ours s.ours) (bytes_at vs.theirs s.theirs) m
+IsMergeIf true vs s m = IsFieldMerge (bytes_at vs.base s.base) (bytes_at vs.ours s.ours) (bytes_at vs.theirs s.theirs) m
 IsMergeIf false vs s m = m ≡ MergeReading.whole
 
 -- the merge by fields at a place, for the units with a name

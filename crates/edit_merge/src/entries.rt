@@ -5,7 +5,7 @@ ghost use Rattle.std.specs.String.{string_bytes};
 ghost use Rattle.bib_syntax.specs.Grammar.{IsFile};
 ghost use Rattle.edit_entry_merge.specs.Views.{merge_of};
 ghost use Rattle.edit_merge.specs.Entries as spec;
-ghost use Rattle.edit_merge.specs.Entries.{HasMergedEntries, IsMergeOf, IsSlotMerge, text_on};
+ghost use Rattle.edit_merge.specs.Entries.{HasMergedEntries, IsFieldMerge, IsSlotMerge, text_on};
 ghost use Rattle.edit_merge.specs.Views.{versions_of};
 
 use crate::groups::{find_changes, is_repeated_in};
@@ -46,7 +46,7 @@ fn merge_texts(
     ours: &str,
     theirs: &str,
 ) -> Result<EntryMerge, AllocError>
-    ensures { IfOk result (λ m. IsMergeOf (option_map (λ t. t.now) base.entry) (Some ours.now) (Some theirs.now) (merge_of m)) }
+    ensures { IfOk result (λ m. IsFieldMerge (option_map (λ t. t.now) base.entry) (Some ours.now) (Some theirs.now) (merge_of m)) }
 {
     let Some(ours) = document(alloc, ours)? else {
         return Ok(EntryMerge::Whole);
@@ -69,7 +69,7 @@ fn merge_units(
     versions: Versions<'_, '_>,
     slot: Slot,
 ) -> Result<EntryMerge, AllocError>
-    ensures { IfOk result (λ m. IsMergeOf (spec.bytes_at (versions_of versions.entry).base slot.base) (spec.bytes_at (versions_of versions.entry).ours slot.ours)
+    ensures { IfOk result (λ m. IsFieldMerge (spec.bytes_at (versions_of versions.entry).base slot.base) (spec.bytes_at (versions_of versions.entry).ours slot.ours)
         (spec.bytes_at (versions_of versions.entry).theirs slot.theirs) (merge_of m)) }
 {
     let Some(ours) = versions.ours.text_at(slot.ours) else {
