@@ -78,7 +78,8 @@ none_left (n ∷ names) (u ∷ units) (inr ended) = absurd (omega (arith, ended)
 
 -- at the end the text has all units
 pub all_merged : {side : Side} {vs : Versions} {all : List (List ℕ × UnitTexts)} {text : List ℕ} (names : List (List ℕ))
-    (units : List UnitTexts) → (length names ≡ 0) ⊎ (length units ≡ 0) → IsAhead side vs all text (zip names units) → HasMergedUnits side vs all text
+    (units : List UnitTexts) → (length names ≡ 0) ⊎ (length units ≡ 0) → IsAhead side vs all text (zip names units)
+    → HasMergedUnits side vs all text
 all_merged {side} {vs} {all} {text} names units ended ahead =
     subst (HasMergedUnits side vs all) (append-nil text)
     (ahead [] (subst (λ left. HasMergedUnits side vs left []) (sym (none_left names units ended)) none))
