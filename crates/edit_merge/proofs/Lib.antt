@@ -1,4 +1,5 @@
 pub mod CleanFacts
+pub mod ExchangedFacts
 pub mod GroupFacts
 pub mod LostFacts
 pub mod OrderFacts

@@ -12,12 +12,12 @@ use Rattle.edit_merge.specs.declared.picking.Choice.TheVariants.{Ours, Theirs, C
 
 -- ---- white space
 
--- whether white space is that of the base, if the base has some
+-- whether the base has this white space
 abbrev pub is_same_space : Option (List ℕ) → List ℕ → Bool
 is_same_space None space = false
 is_same_space (Some base) space = bytes_eq space base
 
--- the white space of the side that changed it, or of ours if both did. If only one side has some, it is that one's
+-- the white space of the side that changed it, or of ours if both did. If only one side has some, it is that of this side
 abbrev pub picked_space : Option (List ℕ) → Option (List ℕ) → Option (List ℕ) → Option (List ℕ)
 picked_space b None t = t
 picked_space b (Some o) None = Some o

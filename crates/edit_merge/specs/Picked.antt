@@ -20,6 +20,10 @@ pub record Versions : Type 0 where
   pub ours : VersionReading
   pub theirs : VersionReading
 
+-- the versions with the sides exchanged
+abbrev pub exchanged : Versions → Versions
+exchanged vs = record { base = vs.base; ours = vs.theirs; theirs = vs.ours }
+
 -- the choice for the units at these indices
 abbrev pub choice_at : Versions → Option ℕ → Option ℕ → Option ℕ → Choice
 choice_at vs base ours theirs =

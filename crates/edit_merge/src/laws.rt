@@ -5,9 +5,9 @@ ghost use Rattle.std.specs.List.{Contains};
 ghost use Rattle.edit_entries.specs.Changes.{IsReadPlaceless};
 ghost use Rattle.edit_merge.specs.Clean.{HaveUnits, IsClean, merged_content};
 ghost use Rattle.edit_merge.specs.Merged.{MarkersReading, merged_text};
-ghost use Rattle.edit_merge.specs.Picked.{Versions, is_alike_named, merged_names, slot_of};
+ghost use Rattle.edit_merge.specs.Picked.{Versions, exchanged, is_alike_named, merged_names, order_choice, slot_of};
 ghost use Rattle.edit_merge.specs.Unchanged.{IsMerge};
-ghost use Rattle.edit_merge.specs.declared.picking.Choice.TheVariants.{Ours, Theirs};
+ghost use Rattle.edit_merge.specs.declared.picking.Choice.TheVariants.{Ours, Theirs, Conflict};
 ghost use Rattle.edit_units.specs.Units.{AreUnits};
 ghost use Rattle.edit_versions.specs.Versions.{VersionReading, version_names};
 
@@ -49,4 +49,10 @@ pub fn no_change_is_lost()
     ensures ours { (vs : Versions) (name : List ℕ) → (slot_of vs name).choice ≡ Theirs → is_alike_named vs.ours vs.base name ≡ true }
     ensures theirs { (vs : Versions) (name : List ℕ) → (slot_of vs name).choice ≡ Ours →
         (is_alike_named vs.theirs vs.base name ≡ true) ⊎ (is_alike_named vs.theirs vs.ours name ≡ true) }
+{}
+
+/// States that the same places are conflicts if the sides are exchanged, and so is the order.
+pub fn sides_can_be_exchanged()
+    ensures places { (vs : Versions) (name : List ℕ) → (slot_of vs name).choice ≡ Conflict → (slot_of (exchanged vs) name).choice ≡ Conflict }
+    ensures order { (vs : Versions) → order_choice vs ≡ Conflict → order_choice (exchanged vs) ≡ Conflict }
 {}

@@ -11,7 +11,7 @@ use crate::slots::Slot;
 use edit_versions::version::Version;
 use std::alloc::AllocError;
 
-// Returns whether white space is that of the base, if the base has some.
+// Returns whether the base has this white space.
 fn is_same_space(base: Option<&str>, space: &str) -> bool
     ensures { result ≡ merged.is_same_space (optional_text base.entry) space.now }
 {
