@@ -2113,8 +2113,9 @@ run 'CR LF' 0 "${merged//$'\n'/$'\r\n'}" merge crlf-merge0.bib crlf-merge1.bib c
 run 'a conflict with CR LF' 1 "${conflict//$'\n'/$'\r\n'}" merge crlf-field0.bib crlf-field1.bib crlf-field2.bib
 run_messages 'a conflict with CR LF: the message' 1 $'crlf-field1.bib:3: a: year: changed by both sides\n' merge crlf-field0.bib crlf-field1.bib crlf-field2.bib
 { printf '\xef\xbb\xbf'; cat merge1.bib; } >mark.bib
+{ printf '\xef\xbb\xbf'; cat merge0.bib; } >mark0.bib
 run 'a byte order mark of ours stays' 0 $'\xef\xbb\xbf'"$merged" merge merge0.bib mark.bib merge2.bib
-run 'a byte order mark of theirs does not count' 0 "$(cat merge0.bib)"$'\n' merge merge0.bib merge0.bib <(printf '\xef\xbb\xbf'; cat merge0.bib)
+run 'a byte order mark of theirs does not count' 0 "$(cat merge0.bib)"$'\n' merge merge0.bib merge0.bib mark0.bib
 
 printf '@misc{a, title={\xff}}\n' >merge-bytes.bib
 printf '@misc{a, title={A} year=2001}\n' >merge-syntax.bib
