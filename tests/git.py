@@ -1,9 +1,9 @@
 #!/usr/bin/env python3
 """Runs a built `bibkit` as git's merge driver: tests/git.py PROGRAM
 
-Each case is a new repository with the settings that `PROGRAM merge --install` prints. Two branches change one file, and git merges them. The
-file must have the expected text, and git must report a conflict exactly if there is one. Where the driver falls back to the merge of
-lines, the expected text is that of `git merge-file`. The status is 1 if a case fails.
+Each case is a new repository with the settings that `PROGRAM merge --install` prints. Two branches change one file, and git merges them.
+The file must have the expected text, and git must report a conflict exactly if there is one. If `bibkit` refuses a version, the
+expected text is that of `git merge-file`. The status is 1 if a case fails.
 """
 import os
 import pathlib
@@ -50,7 +50,6 @@ MERGES = [
     ("line ends of CR LF", *(text.replace("\n", "\r\n") for text in (BASE, TITLE, YEAR, BOTH)), False),
     ("both sides add the same entry", BASE, BASE + "\n" + TURING, YEAR + "\n" + TURING, YEAR + "\n" + TURING, False),
 ]
-
 # The name of a case; the base, ours and theirs. The program refuses one of them, and git merges the lines.
 REFUSED = [
     ("a missing comma", BASE + "\n" + TURING, AUTHOR + "\n" + TURING, BASE + "\n" + TURING.replace("},\n}", "}\n  note = n\n}")),
@@ -94,7 +93,7 @@ class Repository:
         self.git("checkout", "-q", "main")
         self.commit(ours, name)
 
-    def text(self, name="refs.bib"):
+    def text(self, name):
         return (self.folder / name).read_bytes().decode("utf-8", "surrogateescape")
 
 
@@ -128,7 +127,7 @@ def test_rows(cases, how):
         words = {"merge": ["-q", "--no-edit", "other"], "cherry-pick": ["other"], "rebase": ["-q", "main"]}[how]
         status, _ = it.git(how, *words)
         cases.check(f"{name}: {how}: the conflict", status != 0, has_conflict)
-        cases.check(f"{name}: {how}", it.text(), merged)
+        cases.check(f"{name}: {how}", it.text("refs.bib"), merged)
 
 
 def lines_merged(it, base, ours, theirs):
@@ -154,8 +153,7 @@ def test_refused(cases):
 
 def test_missing(cases, it):
     """On a machine without the program, git merges the lines."""
-    folders = it.env["PATH"].split(":")
-    it.env["PATH"] = ":".join(path for path in folders if not os.path.exists(os.path.join(path, "bibkit")))
+    it.env["PATH"] = ":".join(path for path in it.env["PATH"].split(":") if not os.path.exists(f"{path}/bibkit"))
     it.branches(BASE, TITLE, YEAR)
     cases.merge(it, "a machine without the program", *lines_merged(it, BASE, TITLE, YEAR))
 
@@ -225,12 +223,12 @@ def test_revert_and_stash(cases, it):
     for text in (BASE, TITLE, BOTH):
         it.commit(text)
     it.git("revert", "--no-edit", "HEAD~1")
-    cases.check("revert", it.text(), YEAR)
+    cases.check("revert", it.text("refs.bib"), YEAR)
     (it.folder / "refs.bib").write_bytes(BOTH.encode())
     it.git("stash", "-q")
     it.commit(AUTHOR.replace("1984},", "1986},"))
     it.git("stash", "pop", "-q")
-    cases.check("stash pop", it.text(), BOTH.replace("Donald E.", "Don"))
+    cases.check("stash pop", it.text("refs.bib"), BOTH.replace("Donald E.", "Don"))
 
 
 def main():
