@@ -159,7 +159,8 @@ def case(chance, program, folder, number):
         status, merged, said = run(program, folder, [texts[it] for it in order])
         expected = replayed(base, ours, theirs)
         if status != 0 or parsed(merged) != expected:
-            return f"case {number}: status {status}\n{said}--- base\n{texts[0]}--- ours\n{texts[order[1]]}--- theirs\n{texts[order[2]]}--- merged\n{merged}"
+            parts = zip(("base", "ours", "theirs", "merged"), (*(texts[it] for it in order), merged))
+            return f"case {number}: status {status}\n{said}" + "".join(f"--- {name}\n{text}" for name, text in parts)
     return None
 
 
