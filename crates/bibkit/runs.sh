@@ -2096,6 +2096,15 @@ printf '@report{a, title={A}, year=2002}\n' >type2.bib
 run 'two new types' 1 $'<<<<<<< ours\n@book{a, title={A}, year=2001}\n=======\n@report{a, title={A}, year=2002}\n>>>>>>> theirs\n' \
     merge merge3.bib type1.bib type2.bib
 run_messages 'two new types: the message' 1 $'type1.bib:1: a: changed by both sides\n' merge merge3.bib type1.bib type2.bib
+printf '@book{a, title={A}, year=2001, note={n}}\n' >type3.bib
+printf '@misc{a, title={A}, year=2001, note={n}}\n' >note.bib
+run 'a new type and a new field' 0 "$(cat type3.bib)"$'\n' merge merge3.bib type1.bib note.bib
+for number in 1 2 3; do
+    printf '@string{s = {x%s}}\n' $number >string$number.bib
+    printf '@misc{a, title={A}, title={B%s}, year=2001}\n' $number >twice$number.bib
+done
+run_messages 'a definition that both sides changed' 1 $'string2.bib:1: @string s: changed by both sides\n' merge string1.bib string2.bib string3.bib
+run_messages 'an entry with a field twice' 1 $'twice2.bib:1: a: changed by both sides\n' merge twice1.bib twice2.bib twice3.bib
 printf '@misc{k, title={A}, year=2001}\n' >key.bib
 run_messages 'a new key and a changed field' 1 $'key.bib:3: a: removed by ours, changed by theirs\n' merge merge3.bib key.bib type2.bib
 
