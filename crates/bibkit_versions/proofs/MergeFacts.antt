@@ -8,7 +8,8 @@ use Rattle.bibkit_versions.specs.Merging.{AreMergedBy, IsMergedFile, is_conflict
 
 -- the output for a merge of versions by units, of which these are the text and the places
 pub is_merge : {T E : Type 0} (r : Result T E) (text_of : T → List ℕ) (conflicts_of : T → Bool) (markers : MarkersReading) (vs : Versions)
-    {text : List ℕ} {places : List Slot} → AreMergedBy vs vs → text ≡ merged_text markers vs → places ≡ slots vs → IfOk r (λ o. text_of o ≡ text)
+    {text : List ℕ} {places : List Slot} → AreMergedBy vs vs → text ≡ merged_text markers vs → places ≡ slots vs
+    → IfOk r (λ o. text_of o ≡ text)
     → IfOk r (λ o. conflicts_of o ≡ list_any (λ s. is_conflict_choice s.choice) places)
     → IfOk r (λ o. IsMergedFile markers vs (text_of o) (conflicts_of o))
 is_merge (Ok o) text_of conflicts_of markers vs same merged places_are is has =
