@@ -1,18 +1,19 @@
 //! The command `merge`: the merged text of three versions of a file, and a message for each conflict.
 
-ghost use Rattle.std.specs.Prelude.{◌≡◌, IfOk, IfSome};
+ghost use Rattle.std.specs.Prelude.{◌≡◌, IfOk, MatchOption};
 ghost use Rattle.std.specs.List.{list_any};
 ghost use Rattle.std.specs.String.{string_bytes};
 ghost use Rattle.bibkit_versions.specs.Merging as spec;
-ghost use Rattle.bibkit_versions.specs.Merging.{IsMergedFile};
-ghost use Rattle.edit_merge.specs.Entries.{is_conflict_choice};
+ghost use Rattle.bib_syntax.specs.Grammar.{IsFile};
+ghost use Rattle.bibkit_versions.specs.Merging.{IsMergedFile, IsRefusedMerge, is_conflict_choice};
+ghost use Rattle.edit_merge.specs.Entries.{are_all_different};
 ghost use Rattle.edit_merge.specs.Merged.{merged_text};
 ghost use Rattle.edit_merge.specs.Views.{markers_of, versions_of};
 ghost use Rattle.edit_units.specs.Units.{AreUnits};
 
 use crate::labels::label_at;
 use edit_entry_merge::merging::EntryMerge;
-use edit_merge::entries::{Side, slot_merge, with_merged_entries};
+use edit_merge::entries::{Side, are_all_different, slot_merge, with_merged_entries};
 use edit_merge::merging::{Markers, Merged, merge};
 use edit_merge::picking::{Choice, Versions};
 use edit_merge::slots::Slot;
@@ -37,9 +38,16 @@ fn has_conflict(slots: &[Slot]) -> bool
     slots.iter().any(|slot| slot.choice == Choice::Conflict)
 }
 
+// Returns whether both sides changed the units at one of these places, and differently.
+fn is_changed_twice(versions: Versions<'_, '_>, slots: &[Slot]) -> bool
+    ensures { result ≡ list_any (are_all_different (versions_of versions.entry)) slots.now }
+{
+    slots.iter().any(|slot| are_all_different(versions, *slot))
+}
+
 // Returns the version of a text, or `None` if it has a syntax error.
 fn version_of<'t>(alloc: Global, text: &'t str) -> Result<Option<Version<'t>>, AllocError>
-    ensures { IfOk result (λ found. IfSome found (λ v. (v.text ≡ text.now) × AreUnits v.text v.units)) }
+    ensures { IfOk result (λ found. MatchOption found (IsFile text.now → ⊥) (λ v. (v.text ≡ text.now) × AreUnits v.text v.units)) }
 {
     match Version::parse(alloc, text) {
         Ok(version) => Ok(Some(version)),
@@ -186,8 +194,8 @@ fn output_by_fields(
     versions: Versions<'_, '_>,
     markers: Markers<'_>,
 ) -> Result<Option<Output>, AllocError>
-    ensures { IfOk result (λ found. IfSome found (λ o. IsMergedFile (markers_of markers.entry) (versions_of versions.entry)
-        (string_bytes o.text) o.has_conflict)) }
+    ensures { IfOk result (λ found. MatchOption found (IsRefusedMerge (versions_of versions.entry))
+        (λ o. IsMergedFile (markers_of markers.entry) (versions_of versions.entry) (string_bytes o.text) o.has_conflict)) }
 {
     let our_text = with_merged_entries(alloc, versions, Side::Ours)?;
     let their_text = with_merged_entries(alloc, versions, Side::Theirs)?;
@@ -214,7 +222,7 @@ pub fn merge_file(
     ensures { IfOk result (λ o. IsMergedFile (markers_of markers.entry) (versions_of versions.entry) (string_bytes o.text) o.has_conflict) }
 {
     let merged = merge(alloc, versions, markers)?;
-    if !has_conflict(&merged.slots) {
+    if !is_changed_twice(versions, &merged.slots) {
         return output_of(alloc, file, marker, versions, merged);
     }
     match output_by_fields(alloc, file, marker, versions, markers)? {

@@ -7,17 +7,10 @@ use Rattle.edit_entry_merge.specs.Merges.{MergeReading, entry_merge}
 use Rattle.edit_merge.specs.Picked.{Versions, is_repeated_in, slot_of}
 use Rattle.edit_merge.specs.declared.entries.Side.{Side}
 use Rattle.edit_merge.specs.declared.entries.Side.TheVariants.{Ours, Theirs}
-use Rattle.edit_merge.specs.declared.picking.Choice.{Choice}
-use Rattle.edit_merge.specs.declared.picking.Choice.TheVariants as choice
 use Rattle.edit_merge.specs.declared.slots.Slot.{Slot}
 use Rattle.edit_units.specs.Units.{UnitTexts}
+use Rattle.edit_versions.specs.Alike.{is_same}
 use Rattle.edit_versions.specs.Versions.{VersionReading, end_of, own_part, text_of_unit, version_names, version_texts, version_unit}
-
--- whether a choice is a conflict
-abbrev pub is_conflict_choice : Choice → Bool
-is_conflict_choice choice.Ours = false
-is_conflict_choice choice.Theirs = false
-is_conflict_choice choice.Conflict = true
 
 -- the bytes of the unit at an index, if there is an index
 abbrev pub bytes_at : VersionReading → Option ℕ → Option (List ℕ)
@@ -39,9 +32,17 @@ IsFieldMerge base (Some o) (Some t) m =
     (b : Option Document) (ours theirs : Document) → HasDocument base b → HasDocument (Some o) (Some ours)
     → HasDocument (Some t) (Some theirs) → m ≡ entry_merge b ours theirs
 
--- whether the units with a name may be merged by fields: they conflict, and no version has two units with their own name
+-- whether both sides changed the units at a place, and differently: no two versions have the same bytes there
+abbrev pub are_all_different : Versions → Slot → Bool
+are_all_different vs s =
+    let b = version_unit vs.base s.base in
+    let o = version_unit vs.ours s.ours in
+    let t = version_unit vs.theirs s.theirs in
+    not (is_same vs.theirs t vs.base b) && (not (is_same vs.ours o vs.base b) && not (is_same vs.theirs t vs.ours o))
+
+-- whether the units with a name may be merged by fields: both sides changed them, and no version has two units with their own name
 abbrev pub may_merge : Versions → List ℕ → Slot → Bool
-may_merge vs name s = is_conflict_choice s.choice && not (is_repeated_in vs (own_part name))
+may_merge vs name s = are_all_different vs s && not (is_repeated_in vs (own_part name))
 
 -- the merge by fields at a place, if the units there may be merged so; otherwise there is none
 abbrev pub IsMergeIf : Bool → Versions → Slot → MergeReading → Type 0

@@ -9,11 +9,12 @@ ghost use Rattle.edit_merge.specs.Entries.{HasMergedEntries, IsFieldMerge, IsSlo
 ghost use Rattle.edit_merge.specs.Views.{versions_of};
 
 use crate::groups::{find_changes, is_repeated_in};
-use crate::picking::{Choice, Versions};
+use crate::picking::Versions;
 use crate::slots::{Slot, slot_of};
 use edit_entries::document::RawDocument;
 use edit_entry_merge::merging::{EntryMerge, merge_entry};
 use edit_units::texts::UnitText;
+use edit_versions::comparison::is_same;
 use edit_versions::names::own_part;
 use std::alloc::{AllocError, Global};
 
@@ -81,8 +82,17 @@ fn merge_units(
     merge_texts(alloc, versions.base.text_at(slot.base), ours, theirs)
 }
 
-/// Returns the merge by fields at a place, for the units with this name. It is `EntryMerge::Whole` unless the units conflict, each version has
-/// at most one unit with this own name, and each unit has one entry. Returns an error only if out of memory.
+/// Returns whether both sides changed the units at a place, and differently: no two versions have the same bytes there.
+pub fn are_all_different(versions: Versions<'_, '_>, slot: Slot) -> bool
+    ensures { result ≡ spec.are_all_different (versions_of versions.entry) slot }
+{
+    !is_same(versions.theirs, slot.theirs, versions.base, slot.base)
+        && !is_same(versions.ours, slot.ours, versions.base, slot.base)
+        && !is_same(versions.theirs, slot.theirs, versions.ours, slot.ours)
+}
+
+/// Returns the merge by fields at a place, for the units with this name. It is `EntryMerge::Whole` unless both sides changed the units, each
+/// version has at most one unit with this own name, and each unit has one entry. Returns an error only if out of memory.
 pub fn slot_merge(
     alloc: Global,
     versions: Versions<'_, '_>,
@@ -91,7 +101,7 @@ pub fn slot_merge(
 ) -> Result<EntryMerge, AllocError>
     ensures { IfOk result (λ m. IsSlotMerge (versions_of versions.entry) name.now slot (merge_of m)) }
 {
-    if slot.choice != Choice::Conflict {
+    if !are_all_different(versions, slot) {
         return Ok(EntryMerge::Whole);
     }
     if is_repeated_in(alloc, versions, own_part(name))? {
