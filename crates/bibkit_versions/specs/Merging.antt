@@ -2,8 +2,9 @@
 -- The output of `merge`.
 use Rattle.std.specs.Prelude.{◌≡◌, ℕ, Bool, List}
 use Rattle.std.specs.List.{list_any}
+use Rattle.edit_entry_merge.specs.ConflictTexts.{MarkerLines}
 use Rattle.edit_merge.specs.Entries.{HasMergedEntries, is_conflict_choice}
-use Rattle.edit_merge.specs.Merged.{MarkersReading, merged_text}
+use Rattle.edit_merge.specs.Merged.{merged_text}
 use Rattle.edit_merge.specs.Picked.{Versions, slots}
 use Rattle.edit_merge.specs.declared.entries.Side.TheVariants.{Ours, Theirs}
 use Rattle.edit_units.specs.Units.{AreUnits}
@@ -21,7 +22,7 @@ pub data AreMergedBy (vs : Versions) : Versions → Type 0 where
       → AreMergedBy vs (record { base = vs.base; ours = ours; theirs = theirs })
 
 -- a text is a merge, and `conflicts` says whether it has conflicts
-pub record IsMergedFile (markers : MarkersReading) (vs : Versions) (text : List ℕ) (conflicts : Bool) : Type 0 where
+pub record IsMergedFile (markers : MarkerLines) (vs : Versions) (text : List ℕ) (conflicts : Bool) : Type 0 where
   pub merged : Versions
   pub are : AreMergedBy vs merged
   pub is : text ≡ merged_text markers merged
