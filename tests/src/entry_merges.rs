@@ -1,6 +1,6 @@
 //! Reads rows, a call and texts in each line with `¶` between them, and prints each with an answer. `entry` merges three versions of an
 //! entry: the base, ours and theirs. `none` is an absent base. It prints the merged text, or the names of the conflicting fields and the two
-//! texts, or `whole`. `lines` prints two texts as one, with marker lines.
+//! texts, or `whole`. `lines` prints two texts as one, with marker lines. `none` is an absent text.
 
 use crate::support::rows::Calls;
 use edit_entries::document::RawDocument;
@@ -54,13 +54,18 @@ fn merged(alloc: Global, base: &str, ours: &str, theirs: &str) -> Result<String,
     printed(alloc, merge)
 }
 
+// The text that a row writes, or `None` for `none`.
+fn text_of(text: &str) -> Option<&str> {
+    if text == "none" { None } else { Some(text) }
+}
+
 impl Calls for EntryMerges {
     fn answer(alloc: Global, call: &str, text: &str) -> Result<Option<String>, AllocError> {
         let Some((first, rest)) = text.split_once('¶') else {
             return Ok(None);
         };
         match call {
-            "lines" => Ok(Some(conflict_text(alloc, MARKERS, first, rest)?)),
+            "lines" => Ok(Some(conflict_text(alloc, MARKERS, text_of(first), text_of(rest))?)),
             "entry" => match rest.split_once('¶') {
                 Some((ours, theirs)) => Ok(Some(merged(alloc, first, ours, theirs)?)),
                 None => Ok(None),

@@ -3,7 +3,8 @@
 //! the units of a text.
 
 use crate::support::rows::Calls;
-use edit_merge::merging::{Markers, Merged, merge};
+use edit_entry_merge::conflict_text::Markers;
+use edit_merge::merging::{Merged, merge};
 use edit_merge::picking::{Choice, Versions};
 use edit_versions::version::Version;
 use std::alloc::{AllocError, Global};
@@ -12,7 +13,7 @@ pub struct Merges;
 
 const MARKERS: Markers<'static> = Markers {
     ours: "<<<<<<< ours",
-    between: "=======",
+    middle: "=======",
     theirs: ">>>>>>> theirs",
 };
 

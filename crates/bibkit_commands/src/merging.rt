@@ -5,7 +5,7 @@ use crate::stops::{Stop, bytes_of, error_line, print_output, say, syntax_line};
 use bibkit_edits::reading::{text_after_mark, with_mark};
 use bibkit_versions::merging::{Output, merge_file};
 use edit_entries::line_ends::with_line_ends_of;
-use edit_merge::merging::Markers;
+use edit_entry_merge::conflict_text::Markers;
 use edit_merge::picking::Versions;
 use edit_versions::version::Version;
 use std::alloc::{AllocError, Global};
@@ -146,7 +146,7 @@ fn merged(
     let size = merging.marker_size;
     let first = marker(alloc, '<', size, " ours")?;
     let before = ended_marker(alloc, our_text, &first)?;
-    let between = ended_marker(alloc, our_text, &marker(alloc, '=', size, "")?)?;
+    let middle = ended_marker(alloc, our_text, &marker(alloc, '=', size, "")?)?;
     let after = ended_marker(alloc, our_text, &marker(alloc, '>', size, " theirs")?)?;
     let versions = Versions {
         base: &base,
@@ -155,7 +155,7 @@ fn merged(
     };
     let markers = Markers {
         ours: &before,
-        between: &between,
+        middle: &middle,
         theirs: &after,
     };
     Ok(merge_file(alloc, file, &first, versions, markers)?)

@@ -4,7 +4,8 @@ use Rattle.std.specs.Prelude.{◌≡◌, ℕ, Bool, true, false, List}
 use Rattle.std.specs.List.{list_any}
 use Rattle.bib_syntax.specs.Grammar.{IsFile}
 use Rattle.edit_merge.specs.Entries.{HasMergedEntries, are_all_different}
-use Rattle.edit_merge.specs.Merged.{MarkersReading, merged_text}
+use Rattle.edit_entry_merge.specs.ConflictTexts.{MarkerLines}
+use Rattle.edit_merge.specs.Merged.{merged_text}
 use Rattle.edit_merge.specs.Picked.{Versions, slots}
 use Rattle.edit_merge.specs.declared.entries.Side.{Side}
 use Rattle.edit_merge.specs.declared.entries.Side.TheVariants.{Ours, Theirs}
@@ -44,7 +45,7 @@ pub data AreMergedBy (vs : Versions) : Versions → Type 0 where
       → AreMergedBy vs (record { base = vs.base; ours = ours; theirs = theirs })
 
 -- a text is a merge, and `conflicts` says whether it has conflicts
-pub record IsMergedFile (markers : MarkersReading) (vs : Versions) (text : List ℕ) (conflicts : Bool) : Type 0 where
+pub record IsMergedFile (markers : MarkerLines) (vs : Versions) (text : List ℕ) (conflicts : Bool) : Type 0 where
   pub merged : Versions
   pub are : AreMergedBy vs merged
   pub is : text ≡ merged_text markers merged

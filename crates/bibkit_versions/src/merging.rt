@@ -6,15 +6,17 @@ ghost use Rattle.std.specs.String.{string_bytes};
 ghost use Rattle.bibkit_versions.specs.Merging as spec;
 ghost use Rattle.bib_syntax.specs.Grammar.{IsFile};
 ghost use Rattle.bibkit_versions.specs.Merging.{IsMergedFile, IsRefusedMerge, is_conflict_choice};
+ghost use Rattle.edit_entry_merge.specs.ConflictTexts.{marker_lines};
 ghost use Rattle.edit_merge.specs.Entries.{are_all_different};
 ghost use Rattle.edit_merge.specs.Merged.{merged_text};
-ghost use Rattle.edit_merge.specs.Views.{markers_of, versions_of};
+ghost use Rattle.edit_merge.specs.Views.{versions_of};
 ghost use Rattle.edit_units.specs.Units.{AreUnits};
 
 use crate::labels::label_at;
+use edit_entry_merge::conflict_text::Markers;
 use edit_entry_merge::merging::EntryMerge;
 use edit_merge::entries::{Side, are_all_different, slot_merge, with_merged_entries};
-use edit_merge::merging::{Markers, Merged, merge};
+use edit_merge::merging::{Merged, merge};
 use edit_merge::picking::{Choice, Versions};
 use edit_merge::slots::Slot;
 use edit_versions::version::Version;
@@ -120,6 +122,13 @@ fn push_message(
     messages.push_str("\n")
 }
 
+// Returns whether the merge has marker lines for the units at a place: they conflict, and their texts differ. One of several units with a
+// name may be the same on both sides.
+fn has_markers(versions: Versions<'_, '_>, slot: Slot) -> bool {
+    slot.choice == Choice::Conflict
+        && versions.ours.text_at(slot.ours) != versions.theirs.text_at(slot.theirs)
+}
+
 // Returns the messages for the conflicts of a merge of these versions.
 fn conflict_messages(
     alloc: Global,
@@ -132,7 +141,7 @@ fn conflict_messages(
     let mut messages = String::new(alloc);
     let mut numbers = lines.iter();
     'slots: for slot in &merged.slots {
-        if slot.choice == Choice::Conflict {
+        if has_markers(versions, *slot) {
             let line = numbers.next().copied().unwrap_or(1);
             push_message(&mut messages, alloc, file, line, versions, *slot)?;
         }
@@ -175,7 +184,7 @@ fn output_by_units<'v, 's>(
     theirs: &'v Version<'s>,
     markers: Markers<'_>,
 ) -> Result<Output, AllocError>
-    ensures text { IfOk result (λ o. string_bytes o.text ≡ merged_text (markers_of markers.entry)
+    ensures text { IfOk result (λ o. string_bytes o.text ≡ merged_text (marker_lines markers.entry)
         (record { base = base.now; ours = ours.now; theirs = theirs.now })) }
     ensures conflict { IfOk result (λ o. o.has_conflict
         ≡ spec.has_conflict (record { base = base.now; ours = ours.now; theirs = theirs.now })) }
@@ -195,7 +204,7 @@ fn output_by_fields(
     markers: Markers<'_>,
 ) -> Result<Option<Output>, AllocError>
     ensures { IfOk result (λ found. MatchOption found (IsRefusedMerge (versions_of versions.entry))
-        (λ o. IsMergedFile (markers_of markers.entry) (versions_of versions.entry) (string_bytes o.text) o.has_conflict)) }
+        (λ o. IsMergedFile (marker_lines markers.entry) (versions_of versions.entry) (string_bytes o.text) o.has_conflict)) }
 {
     let our_text = with_merged_entries(alloc, versions, Side::Ours)?;
     let their_text = with_merged_entries(alloc, versions, Side::Theirs)?;
@@ -219,7 +228,7 @@ pub fn merge_file(
     versions: Versions<'_, '_>,
     markers: Markers<'_>,
 ) -> Result<Output, AllocError>
-    ensures { IfOk result (λ o. IsMergedFile (markers_of markers.entry) (versions_of versions.entry) (string_bytes o.text) o.has_conflict) }
+    ensures { IfOk result (λ o. IsMergedFile (marker_lines markers.entry) (versions_of versions.entry) (string_bytes o.text) o.has_conflict) }
 {
     let merged = merge(alloc, versions, markers)?;
     if !is_changed_twice(versions, &merged.slots) {

@@ -8,6 +8,7 @@ mod LineFacts
 mod MergeFacts
 mod MixedFacts
 mod NameFacts
+mod PartFacts
 mod ReadFacts
 mod UnchangedFacts
 mod VersionFacts

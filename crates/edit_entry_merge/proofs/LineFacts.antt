@@ -1,6 +1,6 @@
 -- Lines that two lists share at their start and at their end, and lines that are joined.
 use Rattle.std.proofs.Common.{◌≡◌, ℕ, zero, suc, ◌+◌, ◌<◌, Bool, true, false, cond, List, [], ◌∷◌, ◌++◌, length, take, drop, get_or, refl, sym, ap, ◌∙◌, arith, append_assoc, reverse}
-use Rattle.std.specs.Prelude.{bytes_eq, ◌==◌, not, IfOk, Result, Ok, Err}
+use Rattle.std.specs.Prelude.{bytes_eq, ◌==◌, not, IfOk, Result, Ok, Err, Some}
 use Rattle.std.specs.Borrow.{Bor}
 use Rattle.std.specs.List.{onto_first}
 use Rattle.std.proofs.lemmas.Bool.Decides.{nat_tests}
@@ -145,7 +145,8 @@ parts_are ls ms rs qs start k j ls_rest ms_rest same_start same_end longest_star
   their_lines =
       cut ms qs j ms_rest ∙ ap (λ l. l ++ (take j qs ++ drop j qs)) (sym same_start)
       ∙ ap (λ l. take start ls ++ (take j qs ++ l)) (sym same_end);
-  start_is_longest = begins k j rs qs longest_start;
+  start_is_longest = ap (λ l. begin_with_same l (take j qs ++ drop k rs)) (take-append-drop k rs)
+      ∙ ap (λ l. begin_with_same rs (take j qs ++ l)) same_end ∙ ap (begin_with_same rs) (take-append-drop j qs) ∙ longest_start;
   end_is_longest = longest_end;
 }
   where
@@ -153,13 +154,6 @@ parts_are ls ms rs qs start k j ls_rest ms_rest same_start same_end longest_star
     cut xs ys m rest =
         sym (take-append-drop start xs) ∙ ap (λ l. take start xs ++ l) (sym rest)
         ∙ ap (λ l. take start xs ++ l) (sym (take-append-drop m ys))
-
-    begins : (k j : ℕ) (xs ys : List (List ℕ)) → begin_with_same xs ys ≡ false → begin_with_same (take k xs) (take j ys) ≡ false
-    begins zero j xs ys other = refl
-    begins (suc k) j [] ys other = refl
-    begins (suc k) zero (x ∷ xs) ys other = refl
-    begins (suc k) (suc j) (x ∷ xs) [] other = refl
-    begins (suc k) (suc j) (x ∷ xs) (y ∷ ys) other = other
 
 -- a joined list of marked lines is a marked text
 pub marked : {S E : Type 0} (bytes : S → List ℕ) (r : Result S E) (m : MarkerLines) (ours theirs all : List (List ℕ)) (p : ConflictParts)
@@ -171,18 +165,22 @@ marked bytes (Err e) m ours theirs all p is lines are = tt
 -- the differing lines of equal lists are none
 pub none_differ : (ls : List (List ℕ)) (p : ConflictParts) → AreConflictParts ls ls p → (p.ours ≡ []) × (p.theirs ≡ [])
 none_differ ls p are =
-    let same : p.ours ≡ p.theirs =
-    append_cancel_right p.ours p.theirs p.end
-    (append_cancel_left p.start (p.ours ++ p.end) (p.theirs ++ p.end) (sym are.our_lines ∙ are.their_lines)) in
+    let rests = append_cancel_left p.start (p.ours ++ p.end) (p.theirs ++ p.end) (sym are.our_lines ∙ are.their_lines) in
+    let same : p.ours ≡ p.theirs = append_cancel_right p.ours p.theirs p.end rests in
     let none : p.theirs ≡ [] =
-    empty p.theirs (ap (λ l. begin_with_same l p.theirs) (sym same) ∙ are.start_is_longest) in
+    front_empty p.theirs
+    (empty (p.theirs ++ p.end) (ap (λ l. begin_with_same l (p.theirs ++ p.end)) (sym rests) ∙ are.start_is_longest)) in
     (same ∙ none, none)
   where
     empty : (ms : List (List ℕ)) → begin_with_same ms ms ≡ false → ms ≡ []
     empty [] other = refl
     empty (m ∷ ms) other = absurd (let clash : true ≡ false = sym ((bytes_eq-Decides m m).1 refl) ∙ other in cc)
 
-pub equal_marked : (m : MarkerLines) (text new : List ℕ) → IsConflictText m text text new → new ≡ text
+    front_empty : (ls : List (List ℕ)) → ls ++ p.end ≡ [] → ls ≡ []
+    front_empty [] is = refl
+    front_empty (l ∷ ls) is = absurd (cc)
+
+pub equal_marked : (m : MarkerLines) (text new : List ℕ) → IsConflictText m (Some text) (Some text) new → new ≡ text
 equal_marked m text new marked =
     let p = marked.parts in
     let none = none_differ (lines text) p marked.are in

@@ -1,6 +1,6 @@
 //! Two texts as one, with marker lines around the lines in which they differ.
 
-ghost use Rattle.std.specs.Prelude.{◌≡◌, ◌++◌, ◌≤◌, ◌-◌, ℕ, IfOk, OnOk, List, drop, false, length, map, take};
+ghost use Rattle.std.specs.Prelude.{◌≡◌, ◌++◌, ◌≤◌, ◌-◌, ℕ, IfOk, OnOk, List, drop, false, length, map, option_map, take};
 ghost use Rattle.std.specs.String.{string_bytes};
 ghost use Rattle.edit_entry_merge.specs.ConflictTexts as spec;
 ghost use Rattle.edit_entry_merge.specs.ConflictTexts.{IsConflictText, IsMarkedText, begin_with_same, between_markers, end_alike, lines_as_text, marker_lines};
@@ -19,11 +19,14 @@ pub struct Markers<'m> {
     pub theirs: &'m str,
 }
 
-// Returns the lines of a text: the texts between its line feeds.
-fn lines_of(alloc: Global, text: &str) -> Result<Vec<&str>, AllocError>
-    ensures { IfOk result (λ lines. lent_lines lines.items ≡ spec.lines text.now) }
+// Returns the lines of a text, the texts between its line feeds, or none if there is no text.
+fn lines_of(alloc: Global, text: Option<&str>) -> Result<Vec<&str>, AllocError>
+    ensures { IfOk result (λ lines. lent_lines lines.items ≡ spec.optional_lines (option_map (λ t. t.now) text.entry)) }
 {
-    text.split('\n').collect(alloc)
+    match text {
+        Some(text) => text.split('\n').collect(alloc),
+        None => Ok(Vec::new(alloc)),
+    }
 }
 
 // Returns the number of lines that two lists share at their start.
@@ -136,14 +139,18 @@ fn marked_text(
 
 /// Returns two texts as one, with marker lines around the lines in which they differ. Lines are separated by line feeds. The lines that both
 /// texts have at their start and at their end occur once, outside of the markers. Each text is the result without the markers and the other
-/// text's part. If the texts are equal, there are no markers. Returns an error only if out of memory.
+/// text's part. If the texts are equal, there are no markers. If a text is absent, its part is empty. Returns an error only if out of
+/// memory.
 pub fn conflict_text(
     alloc: Global,
     markers: Markers<'_>,
-    ours: &str,
-    theirs: &str,
+    ours: Option<&str>,
+    theirs: Option<&str>,
 ) -> Result<String, AllocError>
-    ensures { IfOk result (λ text. IsConflictText (marker_lines markers.entry) ours.now theirs.now (string_bytes text)) }
+    ensures meaning { IfOk result (λ text. IsConflictText (marker_lines markers.entry)
+        (option_map (λ t. t.now) ours.entry) (option_map (λ t. t.now) theirs.entry) (string_bytes text)) }
+    ensures text { IfOk result (λ text. string_bytes text ≡ spec.conflict_text (marker_lines markers.entry)
+        (option_map (λ t. t.now) ours.entry) (option_map (λ t. t.now) theirs.entry)) }
 {
     let our_lines = lines_of(alloc, ours)?;
     let their_lines = lines_of(alloc, theirs)?;

@@ -1,11 +1,11 @@
 //! Laws of merges. These functions have no code: their clauses are theorems about definitions.
 
-ghost use Rattle.std.specs.Prelude.{◌≡◌, ◌++◌, ℕ, Bool, List, Some, true, unwrap_or};
+ghost use Rattle.std.specs.Prelude.{◌≡◌, ◌++◌, ℕ, Bool, List, Option, Some, true, unwrap_or};
 ghost use Rattle.std.specs.List.{find};
 ghost use Rattle.std.specs.Str.{IsUtf8};
 ghost use Rattle.edit_entries.specs.Changes.{IsReadPlaceless};
 ghost use Rattle.edit_entries.specs.Documents.{Document, IsDocument, has_name};
-ghost use Rattle.edit_entry_merge.specs.ConflictTexts.{AreConflictParts, ConflictParts, IsConflictText, MarkerLines, lines_as_text, lines};
+ghost use Rattle.edit_entry_merge.specs.ConflictTexts.{AreConflictParts, ConflictParts, IsConflictText, MarkerLines, conflict_text, lines_as_text, lines};
 ghost use Rattle.edit_entry_merge.specs.Frames.{are_same_frames};
 ghost use Rattle.edit_entry_merge.specs.Merges.{MergeReading, entry_merge, merged_reading};
 ghost use Rattle.edit_entry_merge.specs.Mixed.{mixed_text};
@@ -46,5 +46,11 @@ pub fn conflict_parts_are_the_texts()
 
 /// States that two equal texts have no markers.
 pub fn equal_texts_have_no_markers()
-    ensures { (m : MarkerLines) (text new : List ℕ) → IsConflictText m text text new → new ≡ text }
+    ensures { (m : MarkerLines) (text new : List ℕ) → IsConflictText m (Some text) (Some text) new → new ≡ text }
+{}
+
+/// States that the function `conflict_text` of the definitions says such a text: both texts as one, with marker lines around the lines in
+/// which they differ.
+pub fn conflict_texts_have_markers_where_they_differ()
+    ensures { (m : MarkerLines) (ours theirs : Option (List ℕ)) → IsConflictText m ours theirs (conflict_text m ours theirs) }
 {}

@@ -10,7 +10,8 @@ use Rattle.edit_units.proofs.CutFacts.{units_are_parts}
 use Rattle.edit_units.proofs.JoinFacts.{parts_are_read}
 use Rattle.edit_versions.specs.Versions.{VersionReading, end_of, texts_at, version_texts, version_unit}
 use Rattle.edit_merge.specs.Clean.{HaveUnits, IsClean, IsPicked, contents_together, merged_content, picked_content, unit_content}
-use Rattle.edit_merge.specs.Merged.{MarkersReading, MergedPart, end_behind, has_feed, is_same_space, is_text_slot, merged_blank, merged_end, merged_start, merged_text, part_with, picked_space, slot_parts, slot_space, slot_text, space_at, space_between, start_of, text_behind, text_of_merge}
+use Rattle.edit_entry_merge.specs.ConflictTexts.{MarkerLines}
+use Rattle.edit_merge.specs.Merged.{MergedPart, end_behind, has_feed, is_same_space, is_text_slot, merged_blank, merged_end, merged_start, merged_text, part_with, picked_space, slot_parts, slot_space, slot_text, space_at, space_between, start_of, text_behind, text_of_merge}
 use Rattle.edit_merge.specs.Picked.{Versions, slots}
 use Rattle.edit_merge.specs.declared.picking.Choice.{Choice}
 use Rattle.edit_merge.specs.declared.picking.Choice.TheVariants.{Ours, Theirs, Conflict}
@@ -169,7 +170,7 @@ part_read : (space : List ℕ) (is_text : Bool) {u : Option UnitReading} {t : Op
 part_read space is_text ends IsReadAt.absent = ArePartsRead.none
 part_read space is_text ends (IsReadAt.there read) = ArePartsRead.some (record { space = ends; text = read }) ArePartsRead.none
 
-slot_read : (markers : MarkersReading) (vs : Versions) (s : Slot) → HaveUnits vs → IsPicked s.choice
+slot_read : (markers : MarkerLines) (vs : Versions) (s : Slot) → HaveUnits vs → IsPicked s.choice
     → ArePartsRead (slot_parts markers vs s) (picked_content vs s s.choice)
 slot_read markers vs s have picked = by s.choice picked
   where
@@ -185,7 +186,7 @@ slot_read markers vs s have picked = by s.choice picked
     by Theirs picked = part_read (slot_space vs s) (is_text_slot vs s) space (unit_read vs.theirs s.theirs have.theirs)
     by Conflict picked = absurd picked
 
-slots_read : (markers : MarkersReading) (vs : Versions) (ss : List Slot) → HaveUnits vs → AllByRecursion (λ s. IsPicked s.choice) ss
+slots_read : (markers : MarkerLines) (vs : Versions) (ss : List Slot) → HaveUnits vs → AllByRecursion (λ s. IsPicked s.choice) ss
     → ArePartsRead (flat_map (slot_parts markers vs) ss) (flat_map (λ s. picked_content vs s s.choice) ss)
 slots_read markers vs [] have all = ArePartsRead.none
 slots_read markers vs (s ∷ ss) have all = parts_append (slot_read markers vs s have all.0) (slots_read markers vs ss have all.1)
@@ -242,7 +243,7 @@ picked_white : (same : Bool) (ours theirs : List ℕ) → IsWhite ours → IsWhi
 picked_white true ours theirs wo wt = wt
 picked_white false ours theirs wo wt = wo
 
-pub clean_merges_are_read : (markers : MarkersReading) (vs : Versions) → HaveUnits vs → IsClean vs
+pub clean_merges_are_read : (markers : MarkerLines) (vs : Versions) → HaveUnits vs → IsClean vs
     → IsReadPlaceless (merged_content vs) (merged_text markers vs)
 clean_merges_are_read markers vs have clean =
     text_read vs

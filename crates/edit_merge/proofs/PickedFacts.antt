@@ -6,7 +6,8 @@ use Rattle.std.proofs.lemmas.List.{length-map}
 use Rattle.edit_units.specs.Units.{AreUnits, UnitReading, UnitTexts, texts_from}
 use Rattle.edit_versions.proofs.IndexFacts.{IsAmong, names_lead_to_units}
 use Rattle.edit_versions.specs.Versions.{VersionReading, has_unit_named, named_index, own_name, texts_at, unique_names, version_names, version_texts, version_unit}
-use Rattle.edit_merge.specs.Merged.{MarkersReading, MergedPart, is_text_slot, merged_text, part_with, slot_parts, slot_space, slot_text, space_at, text_of_merge}
+use Rattle.edit_entry_merge.specs.ConflictTexts.{MarkerLines}
+use Rattle.edit_merge.specs.Merged.{MergedPart, is_text_slot, merged_text, part_with, slot_parts, slot_space, slot_text, space_at, text_of_merge}
 use Rattle.edit_merge.specs.Picked.{Versions, order_by, order_choice, slot_of}
 use Rattle.edit_merge.proofs.SideFacts.{AreMadeFor, HasSpaceOf, IsNothing, parts_are_text, parts_made}
 
@@ -35,11 +36,11 @@ none_among test (n ∷ ns) name none (inr here) = none_among test ns name (neith
 -- ---- what is picked from each slot
 
 -- the parts of the slot of a name
-abbrev pub parts_of : MarkersReading → Versions → List ℕ → List MergedPart
+abbrev pub parts_of : MarkerLines → Versions → List ℕ → List MergedPart
 parts_of markers vs name = slot_parts markers vs (slot_of vs name)
 
 -- the slot of each of these names has what a version has
-pub record IsPickedFrom (markers : MarkersReading) (vs : Versions) (v : VersionReading) (names : List (List ℕ)) : Type 0 where
+pub record IsPickedFrom (markers : MarkerLines) (vs : Versions) (v : VersionReading) (names : List (List ℕ)) : Type 0 where
   pub text : (name : List ℕ) → IsAmong name names
       → slot_text markers vs (slot_of vs name) (slot_of vs name).choice ≡ option_map (λ p. p.text) (texts_at v (named_index v name))
   pub space : (name space : List ℕ) → space_at v (named_index v name) ≡ Some space → slot_space vs (slot_of vs name) ≡ space
@@ -51,7 +52,7 @@ no_index : (found : Option ℕ) → is_some found ≡ false → found ≡ None
 no_index None none = refl
 no_index (Some i) none = absurd (cc)
 
-pub nothing_picked : (markers : MarkersReading) (vs : Versions) (v : VersionReading) (names : List (List ℕ))
+pub nothing_picked : (markers : MarkerLines) (vs : Versions) (v : VersionReading) (names : List (List ℕ))
     → IsPickedFrom markers vs v names → AllByRecursion (IsNothing (parts_of markers vs) (has_unit_named v)) names
 nothing_picked markers vs v names from = all_among (IsNothing (parts_of markers vs) (has_unit_named v)) names (λ name here absent.
     ap (part_with (slot_space vs (slot_of vs name)) (is_text_slot vs (slot_of vs name)))
@@ -65,7 +66,7 @@ later_space v i t is later =
     ∙ ap (option_map (λ p. p.space)) is
 
 -- the part of each name of the version is that of its unit
-each_made : (markers : MarkersReading) (vs : Versions) (v : VersionReading) → length v.units < 2 ^ 64
+each_made : (markers : MarkerLines) (vs : Versions) (v : VersionReading) → length v.units < 2 ^ 64
     → IsPickedFrom markers vs v (version_names v) → AreMadeFor (parts_of markers vs) 0 (version_names v) v.units (version_texts v)
 each_made markers vs v fits from = λ i name u t named unit texts.
     let index : named_index v name ≡ Some i = names_lead_to_units v fits i name named in
@@ -92,13 +93,13 @@ texts_long : (text : List ℕ) (at : ℕ) (us : List UnitReading) → length (te
 texts_long text at [] = refl
 texts_long text at (u ∷ us) = ap suc (texts_long text u.end us)
 
-mapped_parts : (vs : Versions) (markers : MarkersReading) (names : List (List ℕ))
+mapped_parts : (vs : Versions) (markers : MarkerLines) (names : List (List ℕ))
     → flat_map (slot_parts markers vs) (map (slot_of vs) names) ≡ flat_map (parts_of markers vs) names
 mapped_parts vs markers [] = refl
 mapped_parts vs markers (n ∷ ns) = ap (λ l. parts_of markers vs n ++ l) (mapped_parts vs markers ns)
 
 -- a merge that has the slots of a version in order, and its white space, is its text
-pub picked_text : (markers : MarkersReading) (vs : Versions) (v : VersionReading) → AreUnits v.text v.units → length v.units < 2 ^ 64
+pub picked_text : (markers : MarkerLines) (vs : Versions) (v : VersionReading) → AreUnits v.text v.units → length v.units < 2 ^ 64
     → IsPickedFrom markers vs v (version_names v) → HasSpaceOf vs v
     → flat_map (parts_of markers vs) (order_by vs (order_choice vs)) ≡ flat_map (parts_of markers vs) (version_names v)
     → merged_text markers vs ≡ v.text

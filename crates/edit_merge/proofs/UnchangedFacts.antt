@@ -11,7 +11,8 @@ use Rattle.edit_versions.proofs.TextFacts.{text_there}
 use Rattle.edit_versions.specs.Alike.{are_alike_in_layout, are_same_texts, have_same_words, is_alike, is_same}
 use Rattle.edit_versions.specs.Versions.{VersionReading, end_of, has_unit_named, indices_of, named_index, own_part, text_of_unit, texts_at, version_names, version_unit}
 use Rattle.edit_merge.specs.Clean.{IsPicked}
-use Rattle.edit_merge.specs.Merged.{MarkersReading, end_behind, is_without_blocks, is_same_space, picked_space, slot_text, space_at, start_of}
+use Rattle.edit_entry_merge.specs.ConflictTexts.{MarkerLines}
+use Rattle.edit_merge.specs.Merged.{end_behind, is_without_blocks, is_same_space, picked_space, slot_text, space_at, start_of}
 use Rattle.edit_merge.specs.Picked.{Versions, are_equal_names, choice_at, choose, group_choice, is_alike_order, is_changed_group, is_changed_name, is_repeated_in, is_same_named, order_by, order_choice, slot_of, woven}
 use Rattle.edit_merge.specs.Unchanged.{IsMerge}
 use Rattle.edit_merge.specs.declared.slots.Slot.{Slot}
@@ -133,7 +134,7 @@ our_order base side =
     (is_alike_order side base))
     (names_same (version_names base))
 
-ours_picked : (markers : MarkersReading) (base side : VersionReading) (names : List (List ℕ))
+ours_picked : (markers : MarkerLines) (base side : VersionReading) (names : List (List ℕ))
     → IsPickedFrom markers (theirs_unchanged base side) side names
 ours_picked markers base side names =
     let vs = theirs_unchanged base side in
@@ -160,7 +161,7 @@ our_space base side = record {
     by true is = sym ((bytes_eq-Decides (end_of side) (end_of base)).0 is)
     by false is = refl
 
-pub unchanged_theirs_gives_ours : (markers : MarkersReading) (base side : VersionReading) → AreUnits side.text side.units
+pub unchanged_theirs_gives_ours : (markers : MarkerLines) (base side : VersionReading) → AreUnits side.text side.units
     → length side.units < 2 ^ 64 → IsMerge markers (theirs_unchanged base side) side.text
 unchanged_theirs_gives_ours markers base side are fits =
     let vs = theirs_unchanged base side in
@@ -246,7 +247,7 @@ their_choice base side name = by (is_repeated_in vs own) refl
     }
 
 -- the text of the slot of a name is that of their unit
-their_text : (markers : MarkersReading) (base side : VersionReading) (name : List ℕ)
+their_text : (markers : MarkerLines) (base side : VersionReading) (name : List ℕ)
     → IsAmong name (version_names side) ⊎ IsAmong name (version_names base)
     → slot_text markers (ours_unchanged base side) (slot_of (ours_unchanged base side) name)
     (slot_of (ours_unchanged base side) name).choice
@@ -272,7 +273,7 @@ their_text markers base side name here = ap (slot_text markers vs s) picked.choi
         (option_map (text_of_unit base.text) (version_unit base (named_index base name))) (same refl))
         ∙ sym (text_there side (named_index side name))
 
-theirs_picked : (markers : MarkersReading) (base side : VersionReading) (names : List (List ℕ))
+theirs_picked : (markers : MarkerLines) (base side : VersionReading) (names : List (List ℕ))
     → ((name : List ℕ) → IsAmong name names → IsAmong name (version_names side) ⊎ IsAmong name (version_names base))
     → IsPickedFrom markers (ours_unchanged base side) side names
 theirs_picked markers base side names sides = record {
@@ -295,7 +296,7 @@ their_space base side = record {
 }
 
 -- what is made from names is the same for the names of both versions, if these are equal
-their_order : (markers : MarkersReading) (base side : VersionReading)
+their_order : (markers : MarkerLines) (base side : VersionReading)
     → flat_map (parts_of markers (ours_unchanged base side)) (order_by (ours_unchanged base side) (order_choice (ours_unchanged base side)))
     ≡ flat_map (parts_of markers (ours_unchanged base side)) (version_names side)
 their_order markers base side = by (are_equal_names (version_names side) (version_names base)) refl
@@ -338,7 +339,7 @@ their_order_picked base side =
     (names_same (version_names base)))
     (either_picked same)
 
-pub unchanged_ours_gives_theirs : (markers : MarkersReading) (base side : VersionReading) → AreUnits side.text side.units
+pub unchanged_ours_gives_theirs : (markers : MarkerLines) (base side : VersionReading) → AreUnits side.text side.units
     → length side.units < 2 ^ 64 → IsMerge markers (ours_unchanged base side) side.text
 unchanged_ours_gives_theirs markers base side are fits =
     let vs = ours_unchanged base side in
@@ -396,7 +397,7 @@ equal_choice base side name = by (is_repeated_in vs own)
         (sym (ap (λ a. is_alike side o base b || a) (unit_alike side o) ∙ or_true (is_alike side o base b)))
         (chosen (is_same side o base b) (is_same side o base b) (is_alike side o base b))
 
-either_text : (markers : MarkersReading) (base side : VersionReading) (name : List ℕ) (choice : Choice) → IsEither choice
+either_text : (markers : MarkerLines) (base side : VersionReading) (name : List ℕ) (choice : Choice) → IsEither choice
     → slot_text markers (equal_sides base side) (slot_of (equal_sides base side) name) choice
     ≡ option_map (λ p. p.text) (texts_at side (named_index side name))
 either_text markers base side name Ours IsEither.ours = refl
@@ -408,7 +409,7 @@ is_picked Ours IsEither.ours = tt
 is_picked Theirs IsEither.theirs = tt
 is_picked Conflict is = elim is [ ]
 
-equal_picked : (markers : MarkersReading) (base side : VersionReading) (names : List (List ℕ))
+equal_picked : (markers : MarkerLines) (base side : VersionReading) (names : List (List ℕ))
     → IsPickedFrom markers (equal_sides base side) side names
 equal_picked markers base side names = record {
   text = λ name here.
@@ -448,7 +449,7 @@ equal_order base side Ours = refl
 equal_order base side Theirs = refl
 equal_order base side Conflict = refl
 
-pub equal_sides_give_their_text : (markers : MarkersReading) (base side : VersionReading) → AreUnits side.text side.units
+pub equal_sides_give_their_text : (markers : MarkerLines) (base side : VersionReading) → AreUnits side.text side.units
     → length side.units < 2 ^ 64 → IsMerge markers (equal_sides base side) side.text
 equal_sides_give_their_text markers base side are fits =
     let vs = equal_sides base side in

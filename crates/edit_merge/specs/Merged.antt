@@ -1,8 +1,10 @@
 -- Meaning: words of public contracts.
--- The text of a merge: the picked units with white space between them. A conflict has the units of both sides between lines of markers.
+-- The text of a merge: the picked units with white space between them. A conflict has the texts of both sides as one, with marker lines
+-- around the lines in which they differ.
 use Rattle.std.specs.Prelude.{◌==◌, ◌&&◌, ℕ, Bool, false, true, not, List, [], ◌∷◌, ◌++◌, Option, Some, None, bytes_eq, codes, cond, drop, length, max, option_map, unwrap_or}
 use Rattle.std.specs.List.{flat_map, list_any}
 use Rattle.bib_text.specs.Characters as char
+use Rattle.edit_entry_merge.specs.ConflictTexts.{MarkerLines, conflict_text}
 use Rattle.edit_units.specs.Units.{UnitReading, UnitTexts}
 use Rattle.edit_versions.specs.Versions.{VersionReading, end_of, texts_at, version_unit}
 use Rattle.edit_merge.specs.Picked.{Versions, slots}
@@ -59,12 +61,6 @@ merged_blank vs = cond (bytes_eq (end_of vs.ours) (end_of vs.base)) (end_of vs.t
 
 -- ---- the parts
 
--- the lines that mark the two sides of a conflict, without line feeds
-pub record MarkersReading : Type 0 where
-  pub ours : List ℕ
-  pub between : List ℕ
-  pub theirs : List ℕ
-
 -- a part of the merged text: white space, and a text after it. `is_text` is whether its units have no block
 pub record MergedPart : Type 0 where
   pub space : List ℕ
@@ -80,21 +76,15 @@ is_without_blocks (Some u) = length u.blocks == 0
 abbrev pub is_text_slot : Versions → Slot → Bool
 is_text_slot vs s = is_without_blocks (version_unit vs.ours s.ours) && is_without_blocks (version_unit vs.theirs s.theirs)
 
--- a text and a line feed, if it is there
-abbrev pub ended_text : Option UnitTexts → List ℕ
-ended_text None = []
-ended_text (Some p) = p.text ++ char.line_feed ∷ []
-
--- the text of a conflict
-abbrev pub conflict_text : MarkersReading → Option UnitTexts → Option UnitTexts → List ℕ
-conflict_text markers o t =
-    markers.ours ++ (char.line_feed ∷ (ended_text o ++ (markers.between ++ (char.line_feed ∷ (ended_text t ++ markers.theirs)))))
+-- the text of a unit, if it is there
+abbrev pub unit_text : Option UnitTexts → Option (List ℕ)
+unit_text found = option_map (λ p. p.text) found
 
 -- the text of a slot, or `None` if what is picked is absent
-abbrev pub slot_text : MarkersReading → Versions → Slot → Choice → Option (List ℕ)
-slot_text markers vs s Ours = option_map (λ p. p.text) (texts_at vs.ours s.ours)
-slot_text markers vs s Theirs = option_map (λ p. p.text) (texts_at vs.theirs s.theirs)
-slot_text markers vs s Conflict = Some (conflict_text markers (texts_at vs.ours s.ours) (texts_at vs.theirs s.theirs))
+abbrev pub slot_text : MarkerLines → Versions → Slot → Choice → Option (List ℕ)
+slot_text markers vs s Ours = unit_text (texts_at vs.ours s.ours)
+slot_text markers vs s Theirs = unit_text (texts_at vs.theirs s.theirs)
+slot_text markers vs s Conflict = Some (conflict_text markers (unit_text (texts_at vs.ours s.ours)) (unit_text (texts_at vs.theirs s.theirs)))
 
 -- the part of a text, if it is there
 abbrev pub part_with : List ℕ → Bool → Option (List ℕ) → List MergedPart
@@ -102,11 +92,11 @@ part_with space is_text None = []
 part_with space is_text (Some text) = record { space = space; text = text; is_text = is_text } ∷ []
 
 -- the merged parts of a slot: one, or none if what is picked is absent
-abbrev pub slot_parts : MarkersReading → Versions → Slot → List MergedPart
+abbrev pub slot_parts : MarkerLines → Versions → Slot → List MergedPart
 slot_parts markers vs s = part_with (slot_space vs s) (is_text_slot vs s) (slot_text markers vs s s.choice)
 
 -- all merged parts, in order
-abbrev pub merged_parts : MarkersReading → Versions → List MergedPart
+abbrev pub merged_parts : MarkerLines → Versions → List MergedPart
 merged_parts markers vs = flat_map (slot_parts markers vs) (slots vs)
 
 -- ---- the text
@@ -131,5 +121,5 @@ text_of_merge vs [] = merged_blank vs
 text_of_merge vs (p ∷ ps) = merged_start vs ++ (p.text ++ text_behind p.is_text ps (merged_end vs))
 
 -- the merged text
-abbrev pub merged_text : MarkersReading → Versions → List ℕ
+abbrev pub merged_text : MarkerLines → Versions → List ℕ
 merged_text markers vs = text_of_merge vs (merged_parts markers vs)

@@ -4,7 +4,8 @@ ghost use Rattle.std.specs.Prelude.{◌≡◌, ◌⊎◌, ◌<◌, ◌^◌, ℕ,
 ghost use Rattle.std.specs.List.{Contains};
 ghost use Rattle.edit_entries.specs.Changes.{IsReadPlaceless};
 ghost use Rattle.edit_merge.specs.Clean.{HaveUnits, IsClean, merged_content};
-ghost use Rattle.edit_merge.specs.Merged.{MarkersReading, merged_text};
+ghost use Rattle.edit_entry_merge.specs.ConflictTexts.{MarkerLines};
+ghost use Rattle.edit_merge.specs.Merged.{merged_text};
 ghost use Rattle.edit_merge.specs.Picked.{Versions, exchanged, is_alike_named, merged_names, order_choice, slot_of};
 ghost use Rattle.edit_merge.specs.Unchanged.{IsMerge};
 ghost use Rattle.edit_merge.specs.declared.picking.Choice.TheVariants.{Ours, Theirs, Conflict};
@@ -13,25 +14,25 @@ ghost use Rattle.edit_versions.specs.Versions.{VersionReading, version_names};
 
 /// States that the text of a merge without a conflict is the text of a file with the content of the picked units, in order.
 pub fn clean_merges_are_read()
-    ensures { (markers : MarkersReading) (vs : Versions) → HaveUnits vs → IsClean vs →
+    ensures { (markers : MarkerLines) (vs : Versions) → HaveUnits vs → IsClean vs →
         IsReadPlaceless (merged_content vs) (merged_text markers vs) }
 {}
 
 /// States that the merge is our text, byte for byte and without a conflict, if they changed nothing.
 pub fn unchanged_theirs_gives_ours()
-    ensures { (markers : MarkersReading) (base side : VersionReading) → AreUnits side.text side.units → length side.units < 2 ^ 64 →
+    ensures { (markers : MarkerLines) (base side : VersionReading) → AreUnits side.text side.units → length side.units < 2 ^ 64 →
         IsMerge markers (record { base = base; ours = side; theirs = base }) side.text }
 {}
 
 /// States that the merge is their text, byte for byte and without a conflict, if we changed nothing.
 pub fn unchanged_ours_gives_theirs()
-    ensures { (markers : MarkersReading) (base side : VersionReading) → AreUnits side.text side.units → length side.units < 2 ^ 64 →
+    ensures { (markers : MarkerLines) (base side : VersionReading) → AreUnits side.text side.units → length side.units < 2 ^ 64 →
         IsMerge markers (record { base = base; ours = base; theirs = side }) side.text }
 {}
 
 /// States that the merge is the text of both sides, byte for byte and without a conflict, if they are equal.
 pub fn equal_sides_give_their_text()
-    ensures { (markers : MarkersReading) (base side : VersionReading) → AreUnits side.text side.units → length side.units < 2 ^ 64 →
+    ensures { (markers : MarkerLines) (base side : VersionReading) → AreUnits side.text side.units → length side.units < 2 ^ 64 →
         IsMerge markers (record { base = base; ours = side; theirs = side }) side.text }
 {}
 

@@ -3,31 +3,21 @@
 ghost use Rattle.std.specs.Prelude.{◌≡◌, ◌++◌, IfOk, OnOk, map, option_map};
 ghost use Rattle.std.specs.List.{flat_map};
 ghost use Rattle.std.specs.String.{string_bytes};
+ghost use Rattle.edit_entry_merge.specs.ConflictTexts.{marker_lines};
 ghost use Rattle.edit_merge.specs.Merged as merged;
 ghost use Rattle.edit_merge.specs.PartViews.{parts_view, part_view};
 ghost use Rattle.edit_merge.specs.Picked as picked;
-ghost use Rattle.edit_merge.specs.Views.{markers_of, versions_of};
+ghost use Rattle.edit_merge.specs.Views.{versions_of};
 ghost use Rattle.edit_versions.specs.Versions as versions;
 ghost use Rattle.edit_versions.specs.Views.{texts_view};
 
 use crate::picking::{Choice, Versions};
 use crate::slots::{OrderedSlots, Slot, slots};
 use crate::spaces::{merged_blank, merged_end, merged_start, push_space, slot_space};
+use edit_entry_merge::conflict_text::{Markers, conflict_text};
 use edit_units::texts::UnitText;
 use edit_versions::version::Version;
 use std::alloc::{AllocError, Global};
-
-/// The lines that mark the two sides of a conflict, without line feeds. They are written as they are. A text with conflicts isn't meant to
-/// be parsed, and a marker with an at sign may look like the start of a block.
-#[derive(Debug, Clone, Copy)]
-pub struct Markers<'a> {
-    /// The line before the text of our side.
-    pub ours: &'a str,
-    /// The line between both texts.
-    pub between: &'a str,
-    /// The line after the text of their side.
-    pub theirs: &'a str,
-}
 
 // A part of the merged text: white space, and a text after it.
 #[derive(Drop)]
@@ -35,37 +25,6 @@ pub(crate) struct Part<'s> {
     space: &'s str,
     text: String,
     is_text: bool,
-}
-
-// Appends a text and a line feed, if the text is there.
-fn push_lines(text: &mut String, unit: Option<UnitText<'_>>) -> Result<(), AllocError>
-    ensures { OnOk result (string_bytes text.new ≡ string_bytes text.old ++ merged.ended_text (texts_view unit.entry)) }
-{
-    if let Some(unit) = unit {
-        text.push_str(unit.text)?;
-        text.push('\n')?;
-    }
-    Ok(())
-}
-
-// Returns the text of a conflict.
-fn conflict_text(
-    alloc: Global,
-    markers: Markers<'_>,
-    ours: Option<UnitText<'_>>,
-    theirs: Option<UnitText<'_>>,
-) -> Result<String, AllocError>
-    ensures { IfOk result (λ text. string_bytes text ≡
-        merged.conflict_text (markers_of markers.entry) (texts_view ours.entry) (texts_view theirs.entry)) }
-{
-    let mut text = String::from_str(alloc, markers.ours)?;
-    text.push('\n')?;
-    push_lines(&mut text, ours)?;
-    text.push_str(markers.between)?;
-    text.push('\n')?;
-    push_lines(&mut text, theirs)?;
-    text.push_str(markers.theirs)?;
-    Ok(text)
 }
 
 // Returns whether a unit has no block, or is absent.
@@ -85,13 +44,23 @@ fn is_text_slot(versions: Versions<'_, '_>, slot: Slot) -> bool
     is_without_blocks(versions.ours, slot.ours) && is_without_blocks(versions.theirs, slot.theirs)
 }
 
-// Returns a copy of the text of a unit, if it is there.
-fn text_of_unit(alloc: Global, unit: Option<UnitText<'_>>) -> Result<Option<String>, AllocError>
-    ensures { IfOk result (λ text. option_map string_bytes text ≡ option_map (λ p. p.text) (texts_view unit.entry)) }
+// Returns a copy of a text, if it is there.
+fn copied(alloc: Global, text: Option<&str>) -> Result<Option<String>, AllocError>
+    ensures { IfOk result (λ copy. option_map string_bytes copy ≡ option_map (λ t. t.now) text.entry) }
+{
+    match text {
+        Some(text) => Ok(Some(String::from_str(alloc, text)?)),
+        None => Ok(None),
+    }
+}
+
+// Returns the text of a unit, if it is there.
+fn unit_text<'s>(unit: Option<UnitText<'s>>) -> Option<&'s str>
+    ensures { option_map (λ t. t.now) result ≡ merged.unit_text (texts_view unit.entry) }
 {
     match unit {
-        Some(unit) => Ok(Some(String::from_str(alloc, unit.text)?)),
-        None => Ok(None),
+        Some(unit) => Some(unit.text),
+        None => None,
     }
 }
 
@@ -103,13 +72,13 @@ fn slot_text(
     slot: Slot,
 ) -> Result<Option<String>, AllocError>
     ensures { IfOk result (λ text. option_map string_bytes text ≡
-        merged.slot_text (markers_of markers.entry) (versions_of versions.entry) slot slot.choice) }
+        merged.slot_text (marker_lines markers.entry) (versions_of versions.entry) slot slot.choice) }
 {
-    let ours = versions.ours.texts_at(slot.ours);
-    let theirs = versions.theirs.texts_at(slot.theirs);
+    let ours = unit_text(versions.ours.texts_at(slot.ours));
+    let theirs = unit_text(versions.theirs.texts_at(slot.theirs));
     match slot.choice {
-        Choice::Ours => text_of_unit(alloc, ours),
-        Choice::Theirs => text_of_unit(alloc, theirs),
+        Choice::Ours => copied(alloc, ours),
+        Choice::Theirs => copied(alloc, theirs),
         Choice::Conflict => Ok(Some(conflict_text(alloc, markers, ours, theirs)?)),
     }
 }
@@ -122,7 +91,7 @@ fn slot_part<'s>(
     slot: Slot,
 ) -> Result<Option<Part<'s>>, AllocError>
     ensures { IfOk result (λ part. parts_view part ≡
-        merged.slot_parts (markers_of markers.entry) (versions_of versions.entry) slot) }
+        merged.slot_parts (marker_lines markers.entry) (versions_of versions.entry) slot) }
 {
     match slot_text(alloc, markers, versions, slot)? {
         Some(text) => Ok(Some(Part {
@@ -142,7 +111,7 @@ fn parts_of<'s>(
     slots: &[Slot],
 ) -> Result<Vec<Part<'s>>, AllocError>
     ensures { IfOk result (λ parts. map part_view parts.items ≡
-        flat_map (merged.slot_parts (markers_of markers.entry) (versions_of versions.entry)) slots.now) }
+        flat_map (merged.slot_parts (marker_lines markers.entry) (versions_of versions.entry)) slots.now) }
 {
     let mut parts = Vec::new(alloc);
     'slots: for slot in slots {
@@ -203,14 +172,15 @@ pub struct Merged {
 }
 
 /// Merges three versions of a file. A unit that only one side changed, added or removed is as this side has it. So is a unit that the other
-/// side changed in its layout only. If both changed it, and differently, it is a conflict: its text on both sides is between the `markers`.
+/// side changed in its layout only. If both changed it, and differently, it is a conflict: the lines in which its texts differ are between
+/// the `markers`. They are written as they are. A text with conflicts isn't meant to be parsed.
 /// Several units with one name, such as entries with the same key, are chosen together. Returns an error only if out of memory.
 pub fn merge(
     alloc: Global,
     versions: Versions<'_, '_>,
     markers: Markers<'_>,
 ) -> Result<Merged, AllocError>
-    ensures text { IfOk result (λ m. string_bytes m.text ≡ merged.merged_text (markers_of markers.entry) (versions_of versions.entry)) }
+    ensures text { IfOk result (λ m. string_bytes m.text ≡ merged.merged_text (marker_lines markers.entry) (versions_of versions.entry)) }
     ensures slots { IfOk result (λ m. m.slots.items ≡ picked.slots (versions_of versions.entry)) }
     ensures order { IfOk result (λ m. m.order ≡ picked.order_choice (versions_of versions.entry)) }
 {
