@@ -2152,7 +2152,7 @@ if command -v git >/dev/null; then
     mkdir installed
     (cd installed && git init -q && sh -e ../install.sh && sh -e ../install.sh)
     holds 'the line for git occurs once' has installed/.gitattributes $'*.bib merge=bibkit diff=bibtex\n'
-    holds 'git knows the driver' grep -q 'driver = "bibkit merge --write --path %P' installed/.git/config
+    holds 'git knows the driver' grep -q 'driver = "bibkit merge --write --path=%P' installed/.git/config
     holds 'the merges of git' python3 "$tests/git.py" "$program"
 else
     skip git 3

@@ -29,7 +29,7 @@ static INSTALL: &str = "\
 grep -qs '^[*].bib merge=bibkit' .gitattributes || printf '*.bib merge=bibkit diff=bibtex\\n' >> .gitattributes
 git config merge.bibkit.name 'bibkit merge'
 git config merge.bibkit.recursive binary
-git config merge.bibkit.driver 'bibkit merge --write --path %P --marker-size %L %O %A %B || \
+git config merge.bibkit.driver 'bibkit merge --write --path=%P --marker-size %L %O %A %B || \
 { test $? -eq 1 && exit 1; git merge-file --marker-size=%L -L ours -L base -L theirs %A %O %B; }'
 ";
 
@@ -192,16 +192,20 @@ fn wrong(alloc: Global, reason: &str) -> Result<Stop, AllocError> {
 
 // Merges the files with these names. Fails with status 2 unless there are three.
 fn merge_named(rt: &HostRuntime, merging: Merging<'_>, files: &[&str]) -> Result<u8, Stop> {
+    let alloc = rt.alloc();
+    let inputs = files.iter().filter(|file| **file == "-").count();
     match files {
-        [base, ours, theirs] if !(merging.is_written && *ours == "-") => {
-            merge_files(rt, merging, base, ours, theirs)
-        }
-        [_, _, _] => Err(wrong(
-            rt.alloc(),
+        [_, ours, _] if merging.is_written && *ours == "-" => Err(wrong(
+            alloc,
             "`merge --write` requires the name of a file with our version",
         )?),
+        [_, _, _] if inputs > 1 => Err(wrong(
+            alloc,
+            "`merge` can read only one version from standard input",
+        )?),
+        [base, ours, theirs] => merge_files(rt, merging, base, ours, theirs),
         _ => Err(wrong(
-            rt.alloc(),
+            alloc,
             "`merge` requires three files: the base, our version and their version",
         )?),
     }
