@@ -2,9 +2,10 @@
 use Rattle.std.proofs.Common.{◌≡◌, ◌⊎◌, inl, inr, ℕ, List, [], ◌∷◌, ◌++◌, append_assoc, append-nil, arith, length, MatchOption, Option, Some, None, refl, sym, ap, ◌∙◌, subst}
 use Rattle.bib_text.specs.Places.{place}
 use Rattle.bib_syntax.specs.Grammar.{File, IsFile, any, longest}
+use Rattle.bib_syntax.specs.Reading.{FileReading}
 use Rattle.bib_syntax.proofs.AnyFacts.{file_any}
 use Rattle.bib_syntax.proofs.FileFacts.{file_same}
-use Rattle.edit_entries.specs.Documents.{Document}
+use Rattle.edit_entries.specs.Documents.{Document, IsDocument}
 use Rattle.edit_entry_merge.specs.Merges.{MergeReading, entry_merge}
 use Rattle.std.specs.Prelude.{zip}
 use Rattle.edit_merge.specs.Entries.{HasMergedEntries, HasMergedUnits, HasDocument, IsFieldMerge, IsSlotMerge, text_on, version_on}

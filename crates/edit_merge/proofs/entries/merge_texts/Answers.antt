@@ -1,6 +1,6 @@
-use Rattle.std.proofs.Common.{IfOk, Some, None, option_map, subst, sym}
+use Rattle.std.proofs.Common.{◌≡◌, IfOk, List, ℕ, Option, Some, None, option_map, subst, sym}
 use Rattle.std.proofs.lemmas.Result.{IfOk-weaker}
-use Rattle.edit_entries.specs.Documents.{IsDocument}
+use Rattle.edit_entries.specs.Documents.{Document, IsDocument}
 use Rattle.edit_entry_merge.specs.Views.{merge_of}
 use Rattle.edit_merge.specs.Entries.{HasDocument, IsFieldMerge}
 use Rattle.edit_merge.proofs.EntryFacts.{merge_of_texts, no_base, no_document, none_found, some_found}

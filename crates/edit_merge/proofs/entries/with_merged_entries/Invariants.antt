@@ -1,4 +1,4 @@
-use Rattle.std.proofs.Common.{◌++◌, ℕ, List, map}
+use Rattle.std.proofs.Common.{◌≡◌, ◌++◌, ℕ, List, map}
 use Rattle.std.specs.Prelude.{zip}
 use Rattle.std.specs.String.{string_bytes}
 use Rattle.edit_merge.specs.Entries.{HasMergedUnits}
