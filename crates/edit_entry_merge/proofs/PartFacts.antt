@@ -104,7 +104,8 @@ rests_differ (l ∷ ls) (m ∷ ms) = by_test (bytes_eq l m) refl (rests_differ l
   where
     by_test : (same : Bool) → bytes_eq l m ≡ same
         → begin_with_same (drop (shared_lines ls ms) ls) (drop (shared_lines ls ms) ms) ≡ false
-        → begin_with_same (drop (cond same (1 + shared_lines ls ms) 0) (l ∷ ls)) (drop (cond same (1 + shared_lines ls ms) 0) (m ∷ ms)) ≡ false
+        → begin_with_same (drop (cond same (1 + shared_lines ls ms) 0) (l ∷ ls)) (drop (cond same (1 + shared_lines ls ms) 0) (m ∷ ms))
+        ≡ false
     by_test true is rest =
         ap (λ k. begin_with_same (drop k (l ∷ ls)) (drop k (m ∷ ms))) (one_more (shared_lines ls ms)) ∙ rest
     by_test false is rest = is
@@ -130,7 +131,8 @@ shared_within_other (l ∷ ls) (m ∷ ms) = by_test (bytes_eq l m) (shared_withi
 -- the first and the last elements of a list are those of the reversed list
 ends_of : (rs : List (List ℕ)) (k : ℕ) → rs ≡ reverse (drop k (reverse rs)) ++ reverse (take k (reverse rs))
 ends_of rs k =
-    sym (reverse-reverse rs) ∙ ap reverse (sym (take-append-drop k (reverse rs))) ∙ reverse-append (take k (reverse rs)) (drop k (reverse rs))
+    sym (reverse-reverse rs) ∙ ap reverse (sym (take-append-drop k (reverse rs)))
+    ∙ reverse-append (take k (reverse rs)) (drop k (reverse rs))
 
 -- the parts that the function cuts out are the parts
 pub cut_parts_are : (ls ms : List (List ℕ)) → AreConflictParts ls ms (conflict_parts ls ms)

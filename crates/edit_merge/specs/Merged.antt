@@ -77,14 +77,15 @@ abbrev pub is_text_slot : Versions → Slot → Bool
 is_text_slot vs s = is_without_blocks (version_unit vs.ours s.ours) && is_without_blocks (version_unit vs.theirs s.theirs)
 
 -- the text of a unit, if it is there
-abbrev pub unit_text : Option UnitTexts → Option (List ℕ)
-unit_text found = option_map (λ p. p.text) found
+abbrev pub found_text : Option UnitTexts → Option (List ℕ)
+found_text found = option_map (λ p. p.text) found
 
 -- the text of a slot, or `None` if what is picked is absent
 abbrev pub slot_text : MarkerLines → Versions → Slot → Choice → Option (List ℕ)
-slot_text markers vs s Ours = unit_text (texts_at vs.ours s.ours)
-slot_text markers vs s Theirs = unit_text (texts_at vs.theirs s.theirs)
-slot_text markers vs s Conflict = Some (conflict_text markers (unit_text (texts_at vs.ours s.ours)) (unit_text (texts_at vs.theirs s.theirs)))
+slot_text markers vs s Ours = found_text (texts_at vs.ours s.ours)
+slot_text markers vs s Theirs = found_text (texts_at vs.theirs s.theirs)
+slot_text markers vs s Conflict =
+    Some (conflict_text markers (found_text (texts_at vs.ours s.ours)) (found_text (texts_at vs.theirs s.theirs)))
 
 -- the part of a text, if it is there
 abbrev pub part_with : List ℕ → Bool → Option (List ℕ) → List MergedPart

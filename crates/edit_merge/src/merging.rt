@@ -55,8 +55,8 @@ fn copied(alloc: Global, text: Option<&str>) -> Result<Option<String>, AllocErro
 }
 
 // Returns the text of a unit, if it is there.
-fn unit_text<'s>(unit: Option<UnitText<'s>>) -> Option<&'s str>
-    ensures { option_map (λ t. t.now) result ≡ merged.unit_text (texts_view unit.entry) }
+fn found_text<'s>(unit: Option<UnitText<'s>>) -> Option<&'s str>
+    ensures { option_map (λ t. t.now) result ≡ merged.found_text (texts_view unit.entry) }
 {
     match unit {
         Some(unit) => Some(unit.text),
@@ -74,8 +74,8 @@ fn slot_text(
     ensures { IfOk result (λ text. option_map string_bytes text ≡
         merged.slot_text (marker_lines markers.entry) (versions_of versions.entry) slot slot.choice) }
 {
-    let ours = unit_text(versions.ours.texts_at(slot.ours));
-    let theirs = unit_text(versions.theirs.texts_at(slot.theirs));
+    let ours = found_text(versions.ours.texts_at(slot.ours));
+    let theirs = found_text(versions.theirs.texts_at(slot.theirs));
     match slot.choice {
         Choice::Ours => copied(alloc, ours),
         Choice::Theirs => copied(alloc, theirs),
