@@ -2144,6 +2144,8 @@ run_messages 'a missing version' 2 $'bibkit: nothing.bib: there is no such file\
 for words in '' 'merge0.bib' 'merge0.bib merge1.bib' 'merge0.bib merge1.bib merge2.bib merge3.bib'; do
     run_messages "three files are required: $words" 2 $'bibkit: `merge` requires three files: the base, our version and their version\n' merge $words
 done
+run_messages 'standard input twice: the base and ours' 2 $'bibkit: `merge` can read only one version from standard input\n' merge - - merge2.bib
+run_messages 'standard input twice: the base and theirs' 2 $'bibkit: `merge` can read only one version from standard input\n' merge - merge1.bib -
 run_messages '--write requires a file' 2 $'bibkit: `merge --write` requires the name of a file with our version\n' merge --write merge0.bib - merge2.bib
 
 "$program" merge --install >install.sh
