@@ -14,8 +14,6 @@ pub data FileCommand : Type 0 where
   cited_command : FileCommand
   select_command : FileCommand
   stats_command : FileCommand
-  diff_command : FileCommand
-  merge_command : FileCommand
   keys_command : FileCommand
 
 -- the commands that read files by their names, except `keys`
@@ -23,8 +21,7 @@ abbrev pub commands : List (List ℕ × FileCommand)
 commands =
     (codes "lint", lint_command) ∷ (codes "fmt", fmt_command) ∷ (codes "convert", convert_command) ∷ (codes "resolve", resolve_command)
     ∷ (codes "get", get_command) ∷ (codes "grep", grep_command) ∷ (codes "cited", cited_command)
-    ∷ (codes "select", select_command) ∷ (codes "stats", stats_command) ∷ (codes "diff", diff_command)
-    ∷ (codes "merge", merge_command) ∷ []
+    ∷ (codes "select", select_command) ∷ (codes "stats", stats_command) ∷ []
 
 -- the command with this name; any other name is that of `keys`
 unfoldable pub reading_command_named : List ℕ → FileCommand

@@ -6,19 +6,17 @@ ghost use Rattle.bibkit_settings.specs.StyleSettings as style;
 ghost use Rattle.bibkit_commands.specs.Arguments.{arguments_of, argument_number, argument_value};
 ghost use Rattle.bibkit_commands.specs.Asked as spec;
 ghost use Rattle.bibkit_commands.specs.Asked.{AreStyleSettingsOf, IsAskedBy, IsConversionOf, IsConvertOf, IsFormatOf, IsGetOf, IsKeysOf};
-ghost use Rattle.bibkit_commands.specs.Asked.{IsMergingOf, IsSortOf, IsSortRefused, dialect_for, files_of, mode_asked, source_for, target_for, wrong_formats};
+ghost use Rattle.bibkit_commands.specs.Asked.{IsSortOf, IsSortRefused, dialect_for, files_of, mode_asked, source_for, target_for, wrong_formats};
 ghost use Rattle.bibkit_commands.specs.CommandLine.{IsCommandLineOf, IsCommandOf};
 ghost use Rattle.bibkit_commands.specs.Commands.{reading_command_named};
 ghost use Rattle.bibkit_commands.specs.EditsAsked.{IsEditingOf};
 
 use crate::argument_values::{given_texts, has_flag, number, number_in, text, texts, value};
 use crate::converting::Converting;
-use crate::differing::Diffing;
 use crate::edit_arguments::edits_of;
 use crate::edits::{Editing, Mode};
 use crate::importing::Source;
 use crate::lint_arguments::lint_asked;
-use crate::merging::Merging;
 use crate::selecting::{Printed, Selecting};
 use bib_csl::sentence_items::TitleCase;
 use bib_queries::request::{Request as Excerpts, Search};
@@ -28,7 +26,6 @@ use bibkit_core::request::{Cited, Request};
 use bibkit_settings::commands::{command, is_editing};
 use bibkit_settings::settings::Settings;
 use bibkit_settings::style_settings::{StyleSettings, delimiters_named, width_of};
-use bibkit_versions::diff::Format;
 use clap::{ArgMatches, Error};
 use edit_format::style::Delimiters;
 use edit_orders::order::{Order, OrderError};
@@ -99,10 +96,6 @@ pub enum Asked<'a> {
         /// The keys of the entries to print. If it is `None`, the keys of all selected entries are printed.
         keys: Option<Vec<&'a str>>,
     },
-    /// Prints the changes from one version of a file to another one.
-    Diff(Diffing),
-    /// Merges three versions of a file.
-    Merge(Merging<'a>),
     /// Runs another request.
     Other(Request<'a>),
     /// Reports that the command line is wrong, for this reason.
@@ -379,28 +372,6 @@ fn get_asked<'a>(alloc: Global, matches: &ArgMatches<'a>) -> Result<Asked<'a>, A
     })
 }
 
-// Returns the format of changes with this name, or lines for any other name and for a missing one.
-fn change_format(name: Option<&str>) -> Format
-    ensures { result ≡ spec.change_format (option_map (λ name. name.now) name.entry) }
-{
-    match name {
-        Some("json") => Format::Json,
-        _ => Format::Text,
-    }
-}
-
-// Returns the request of `merge`.
-fn merging_asked<'a>(matches: &ArgMatches<'a>) -> Merging<'a>
-    ensures { IsMergingOf (arguments_of matches.now) result }
-{
-    Merging {
-        path: value(matches, "path"),
-        marker_size: number(matches, "marker-size").unwrap_or(7),
-        is_written: has_flag(matches, "write"),
-        is_install: has_flag(matches, "install"),
-    }
-}
-
 // Returns the request of the command `name`, which reads files.
 fn request_of<'a>(
     alloc: Global,
@@ -435,13 +406,6 @@ fn request_of<'a>(
             }));
         }
         "stats" => Request::Stats,
-        "diff" => {
-            return Ok(Asked::Diff(Diffing {
-                format: change_format(value(matches, "format")),
-                is_git: has_flag(matches, "git"),
-            }));
-        }
-        "merge" => return Ok(Asked::Merge(merging_asked(matches))),
         _ => return keys_asked(alloc, matches),
     };
     Ok(Asked::Other(request))

@@ -7,7 +7,6 @@
 mod argument_values;
 mod arguments;
 mod converting;
-mod differing;
 mod document;
 mod edit_arguments;
 mod edits;
@@ -18,7 +17,6 @@ mod formatting;
 mod importing;
 mod joining;
 mod lint_arguments;
-mod merging;
 mod misspellings;
 mod readable;
 mod recoding;

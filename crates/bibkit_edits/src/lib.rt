@@ -10,5 +10,5 @@ pub mod edit;
 pub mod editing;
 pub mod left_notes;
 pub mod printing;
-pub mod reading;
+mod reading;
 pub mod uninherited_notes;

@@ -1,7 +1,6 @@
-use Rattle.std.proofs.Common.{ap, refl, ◌∙◌}
-use Rattle.bibkit_commands.specs.Asked.{change_format}
+use Rattle.std.proofs.Common.{ap, refl}
 use Rattle.bibkit_commands.specs.Commands.{reading_command_named}
-use Rattle.bibkit_commands.specs.Commands.FileCommand.{cited_command, convert_command, diff_command, fmt_command, get_command, grep_command, keys_command, merge_command}
+use Rattle.bibkit_commands.specs.Commands.FileCommand.{cited_command, convert_command, fmt_command, get_command, grep_command, keys_command}
 use Rattle.bibkit_commands.specs.Commands.FileCommand.{lint_command, resolve_command, select_command, stats_command}
 use Rattle.bibkit_commands.proofs.AskedFacts.{asked_as, asked_by, named_keys}
 use Rattle.bibkit_commands.proofs.arguments.request_of.Goals as goal
@@ -38,16 +37,6 @@ returns-in-select c =
     asked_as select_command c.args.name.now _ _ (ap reading_command_named c.in-select.is)
     (c.in_ok-texts-in-select.ensures, c.has_flag-in-select.ensures, c.has_flag-in-select-2.ensures)
 
-pub returns-in-diff : goal.returns-in-diff
-unfolding reading_command_named
-returns-in-diff c =
-    asked_as diff_command c.args.name.now _ _ (ap reading_command_named c.in-diff.is)
-    (c.change_format.ensures ∙ ap change_format c.value.ensures, c.has_flag-in-diff.ensures)
-
-pub returns-in-merge : goal.returns-in-merge
-unfolding reading_command_named
-returns-in-merge c = asked_as merge_command c.args.name.now _ _ (ap reading_command_named c.in-merge.is) c.merging_asked.ensures
-
 pub returns-in_default : goal.returns-in_default
 returns-in_default c =
     let isnt = c.in_default in
@@ -64,7 +53,7 @@ returns-in_default c =
               isnt.not-get,
               (
                 isnt.not-grep,
-                (isnt.not-cited, (isnt.not-select, (isnt.not-stats, (isnt.not-diff, (isnt.not-merge, tt))))),
+                (isnt.not-cited, (isnt.not-select, (isnt.not-stats, tt))),
               ),
             ),
           ),
