@@ -49,8 +49,7 @@ pub fn equal_texts_have_no_markers()
     ensures { (m : MarkerLines) (text new : List ℕ) → IsConflictText m (Some text) (Some text) new → new ≡ text }
 {}
 
-/// States that the function `conflict_text` of the definitions says such a text: both texts as one, with marker lines around the lines in
-/// which they differ.
+/// States that the definition `conflict_text` returns two texts as one, with marker lines around the lines in which they differ.
 pub fn conflict_texts_have_markers_where_they_differ()
     ensures { (m : MarkerLines) (ours theirs : Option (List ℕ)) → IsConflictText m ours theirs (conflict_text m ours theirs) }
 {}

@@ -1,7 +1,7 @@
 //! Merges three versions of an entry by its fields: the common base, and the two sides that changed it.
 //!
 //! `versions` finds the entry of each version and its fields by name. `choices` compares the three values of a field and chooses one side,
-//! or neither if both sides changed the field differently. `frames` compares what is around the fields: the text around the entry, its
+//! or neither if both sides changed the field differently. `frames` compares the rest of the unit: the text around the entry, its
 //! type, key and comments. The text of the side whose frame is chosen is edited (`edits`): fields get the values of the other side,
 //! are removed, or are added. `picks` says which. `merging` puts all of this together.
 //!

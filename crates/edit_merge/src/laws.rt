@@ -44,8 +44,8 @@ pub fn every_unit_has_a_place()
         Contains (version_names vs.theirs) name → Contains (merged_names vs) name }
 {}
 
-/// States that no change is lost: where the other side is picked, a unit is alike that of the base, or that of the other side. This also
-/// holds for absent units, so no removal is undone.
+/// States for each name that no change is lost: where one side is picked, the unit that the other side has with this name is alike that of
+/// the base, or the picked one. This also holds for absent units. A text that a side moves to a unit with another name isn't followed.
 pub fn no_change_is_lost()
     ensures ours { (vs : Versions) (name : List ℕ) → (slot_of vs name).choice ≡ Theirs → is_alike_named vs.ours vs.base name ≡ true }
     ensures theirs { (vs : Versions) (name : List ℕ) → (slot_of vs name).choice ≡ Ours →
