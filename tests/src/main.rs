@@ -13,6 +13,7 @@ mod contents;
 mod conversions;
 mod documents;
 mod entries;
+mod entry_merges;
 mod excerpts;
 mod exports;
 mod formats;
@@ -22,6 +23,7 @@ mod imports;
 mod items;
 mod json_imports;
 mod keys;
+mod merges;
 mod orders;
 mod recodings;
 mod records;
@@ -47,12 +49,14 @@ fn rows(alloc: Global, layer: &str, input: &str) -> Result<String, AllocError> {
         "values" => answered::<values::Values>(alloc, input),
         "documents" => answered::<documents::Documents>(alloc, input),
         "conversions" => answered::<conversions::Conversions>(alloc, input),
+        "entry_merges" => answered::<entry_merges::EntryMerges>(alloc, input),
         "excerpts" => answered::<excerpts::Excerpts>(alloc, input),
         "exports" => answered::<exports::Exports>(alloc, input),
         "formats" => answered::<formats::Formats>(alloc, input),
         "imports" => answered::<imports::Imports>(alloc, input),
         "items" => answered::<items::CslItems>(alloc, input),
         "json_imports" => answered::<json_imports::JsonImports>(alloc, input),
+        "merges" => answered::<merges::Merges>(alloc, input),
         "orders" => answered::<orders::Orders>(alloc, input),
         "keys" => answered::<keys::Keys>(alloc, input),
         "recodings" => answered::<recodings::Recodings>(alloc, input),

@@ -1,13 +1,14 @@
 -- How a parser moves past the parts of a braced text one by one, with a count of the open braces.
-use Rattle.std.proofs.Common.{◌≡◌, ◌-◌, arith, ℕ, zero, suc, true, refl, sym, subst, MatchOption, Option, None, Some}
+use Rattle.std.proofs.Common.{◌≡◌, ◌-◌, ⊎_elim, arith, ℕ, zero, suc, true, refl, sym, subst, MatchOption, Option, None, Some}
 use Rattle.bib_text.specs.Places.{Place, CharAt, Run, Stops, AtEnd}
 use Rattle.bib_text.specs.Places.Run.{stop, step}
 use Rattle.bib_text.specs.Braces.{Parts, is_plain}
 use Rattle.bib_text.specs.Braces.Parts.{none, plain, hidden, nested}
-use Rattle.bib_syntax.specs.OpenBraces.{ClosesOpen, SameBraced}
-use Rattle.bib_syntax.specs.OpenBraces.ClosesOpen.{last, level}
+use Rattle.bib_text.specs.OpenBraces.{ClosesOpen}
+use Rattle.bib_text.specs.OpenBraces.ClosesOpen.{last, level}
+use Rattle.bib_syntax.specs.OpenBraces.{SameBraced}
 use Rattle.bib_text.proofs.PlaceFacts.{same_char, char_clash, pass_clash, no_char_at_end}
-use Rattle.bib_text.proofs.BraceFacts.{no_parts, parts_end}
+use Rattle.bib_text.proofs.BraceFacts.{closed_back, closes_suc, closes_zero, opened_back, parts_end, parts_hidden, parts_open, parts_plain, plain_is}
 
 pub same_braced : (n : ℕ) (u : Place) → SameBraced n u n u
 same_braced n u = record { there = λ x y p c. p; back = λ x y p c. p }
@@ -29,12 +30,14 @@ run_there : {u v x : Place} → Run is_plain u v → Parts v x → Parts u x
 run_there stop parts = parts
 run_there (step char passes rest) parts = plain char passes (run_there rest parts)
 
+-- parts from a character other than a closing brace up to a closing brace aren't empty
+not_closed : {u v x y : Place} {c : ℕ} → CharAt u c v → (c ≡ 125 → ⊥) → CharAt x 125 y → u ≡ x → ⊥
+not_closed {y = y} char other brace same = other (same_char char (subst (λ p. CharAt p 125 y) (sym same) brace)).0
+
 -- parts from a plain character up to a closing brace are also parts from the place after this character
 pub plain_back : {u v x y : Place} {c : ℕ} → CharAt u c v → is_plain c ≡ true → Parts u x → CharAt x 125 y → Parts v x
-plain_back char passes none brace = absurd (pass_clash is_plain char passes brace refl)
-plain_back {u} {v} {x} char passes (plain char' passes' parts) brace = subst (λ p. Parts p x) (same_char char' char).1 parts
-plain_back char passes (hidden slash any parts) brace = absurd (pass_clash is_plain char passes slash refl)
-plain_back char passes (nested open' inner close rest) brace = absurd (pass_clash is_plain char passes open' refl)
+plain_back char passes parts brace =
+    ⊎_elim (λ same. absurd (not_closed char (plain_is 125 passes refl) brace same)) (λ q. q) (parts_plain char passes parts)
 
 run_back : {u v x y : Place} → Run is_plain u v → Parts u x → CharAt x 125 y → Parts v x
 run_back stop parts brace = parts
@@ -47,43 +50,18 @@ braced_run n run = record {
   back = λ x y p c. closes_map (λ a b parts close. run_back run parts close) p c;
 }
 
-opened_there : {n : ℕ} {u v w x y : Place} → CharAt u 123 v → Parts v w → CharAt w 125 x → ClosesOpen n x y → ClosesOpen n u y
-opened_there brace inner close (last parts) = last (nested brace inner close parts)
-opened_there brace inner close (level parts close' rest) = level (nested brace inner close parts) close' rest
-
--- the parts in a pair of braces, and the parts after the closing brace
-pub record BracePair (v x : Place) : Type 0 where
-  pub inner_end : Place
-  pub following : Place
-  pub inner : Parts v inner_end
-  pub close : CharAt inner_end 125 following
-  pub rest : Parts following x
-
 -- in parts that begin with an opening brace and end before a closing brace, the opening brace has its own closing brace
-pub opened_parts : {u v x y : Place} → CharAt u 123 v → Parts u x → CharAt x 125 y → BracePair v x
-opened_parts brace none closing = absurd (char_clash brace closing refl)
-opened_parts brace (plain char passes parts) closing = absurd (pass_clash is_plain char passes brace refl)
-opened_parts brace (hidden slash any parts) closing = absurd (char_clash brace slash refl)
-opened_parts {u} {v} {x} brace (nested {w = w} {x = b} brace' inner close rest) closing =
-    record { inner_end = w; following = b; inner = subst (λ p. Parts p w) (same_char brace' brace).1 inner; close = close; rest = rest }
-
-opened_back : {n : ℕ} {u v x y : Place} → CharAt u 123 v → ClosesOpen n u x → CharAt x 125 y → ClosesOpen (suc n) v x
-opened_back brace (last parts) closing = let o = opened_parts brace parts closing in level o.inner o.close (last o.rest)
-opened_back brace (level parts close' rest) closing =
-    let o = opened_parts brace parts close' in level o.inner o.close (level o.rest close' rest)
-
--- if the text after an opening brace closes `suc n` open braces, the text from this brace on closes `n`
-pub closes_suc : {n : ℕ} {u v x : Place} → CharAt u 123 v → ClosesOpen (suc n) v x → ClosesOpen n u x
-closes_suc brace (level parts close rest) = opened_there brace parts close rest
+pub opened_parts : {u v x y : Place} → CharAt u 123 v → Parts u x → CharAt x 125 y
+    → (w : Place) × (z : Place) × Parts v w × CharAt w 125 z × Parts z x
+opened_parts char parts brace =
+    ⊎_elim (λ same. absurd (not_closed char (λ clash. omega (arith, clash)) brace same)) (λ q. q) (parts_open char parts)
 
 -- moving past an opening brace opens one brace
 pub braced_open : {u v : Place} (n : ℕ) → CharAt u 123 v → SameBraced n u (suc n) v
-braced_open n brace = record { there = λ x y p c. closes_suc brace p; back = λ x y p c. opened_back brace p c }
-
-closed_back : {n : ℕ} {u v x : Place} → CharAt u 125 v → ClosesOpen (suc n) u x → ClosesOpen n v x
-closed_back {n} {u} {v} {x} close (level {w = w} parts close' rest) =
-    let moved : CharAt u 125 w = subst (λ p. CharAt p 125 w) (sym (no_parts close parts)) close' in
-    subst (λ p. ClosesOpen n p x) (same_char moved close).1 rest
+braced_open n brace = record {
+  there = λ x y p c. closes_suc brace p;
+  back = λ x y p c. opened_back (not_closed brace (λ clash. omega (arith, clash)) c) brace p;
+}
 
 -- moving past a closing brace closes one brace
 pub braced_close : {u v : Place} (n : ℕ) → CharAt u 125 v → SameBraced (suc n) u n v
@@ -96,12 +74,8 @@ closes_end {n} {u} {x} {y} end (level {w = w} parts close rest) closing =
 
 -- parts from a backslash up to a closing brace are parts from the place after the character that it escapes
 pub hidden_back : {u v w x y : Place} {c : ℕ} → CharAt u 92 v → CharAt v c w → Parts u x → CharAt x 125 y → Parts w x
-hidden_back slash char none brace = absurd (char_clash slash brace refl)
-hidden_back slash char (plain char' passes' parts) brace = absurd (pass_clash is_plain char' passes' slash refl)
-hidden_back {u} {v} {w} {x} slash char (hidden {w = w'} {c = c'} slash' char' parts) brace =
-    let moved : CharAt v c' w' = subst (λ p. CharAt p c' w') (same_char slash' slash).1 char' in
-    subst (λ p. Parts p x) (same_char moved char).1 parts
-hidden_back slash char (nested open' inner close rest) brace = absurd (char_clash slash open' refl)
+hidden_back slash char parts brace =
+    ⊎_elim (λ same. absurd (not_closed slash (λ clash. omega (arith, clash)) brace same)) (λ q. q) (parts_hidden slash char parts)
 
 hidden_end : {u v x y : Place} → CharAt u 92 v → AtEnd v → Parts u x → CharAt x 125 y → ⊥
 hidden_end slash end none brace = char_clash slash brace refl
@@ -138,10 +112,6 @@ pub braced_stuck : {n : ℕ} {u x y : Place} → Stops is_plain u → ((v : Plac
     → ((v : Place) → CharAt u 125 v → ⊥) → ((v : Place) → CharAt u 92 v → ⊥) → ClosesOpen n u x → CharAt x 125 y → ⊥
 braced_stuck stops brace close slash (last parts) closing = parts_stuck stops brace close slash parts closing
 braced_stuck stops brace close slash (level parts end rest) closing = parts_stuck stops brace close slash parts end
-
--- a text that closes no open brace is parts
-pub closes_zero : {u x : Place} → ClosesOpen zero u x → Parts u x
-closes_zero (last parts) = parts
 
 -- if no brace is open at a closing brace, the text up to this brace is parts of a braced text
 pub found_parts : {u v w : Place} {n : ℕ} → SameBraced zero u n v → n ≡ 0 → CharAt v 125 w → Parts u v

@@ -7,7 +7,7 @@ use Rattle.bib_text.specs.Braces.{is_plain}
 use Rattle.bib_text.proofs.PlaceFacts.{same_place, ahead_run}
 use Rattle.bib_syntax.specs.Closings.{NeverCloses, ClosesAt, IsClosing, AreClosings}
 use Rattle.bib_syntax.specs.OpenBraces.{SameBraced, AreOpen, AreBracesAt, ClosesLast}
-use Rattle.bib_syntax.specs.OpenBraces.ClosesOpen.{last}
+use Rattle.bib_text.specs.OpenBraces.ClosesOpen.{last}
 use Rattle.bib_syntax.specs.declared.raw.closings.Closing.{Closing}
 use Rattle.bib_syntax.proofs.BraceFacts.{same_braced, braced_then, braced_run, braced_open, braced_close, braced_hidden, found_parts, closes_end}
 

@@ -54,9 +54,9 @@ parts_same (parts.plain char p rest) c second d = parts_same rest c (brace.plain
 parts_same (parts.hidden slash any rest) c second d = parts_same rest c (brace.hidden_back slash any second d) d
 parts_same {u} {v} {w} (parts.nested o inner close rest) c second d =
     let opened = brace.opened_parts o second d in
-    let end = parts_same inner close opened.inner opened.close in
-    let following = (same_char (moved (λ a b. CharAt a 125 b) end close) opened.close).1 in
-    parts_same rest c (moved Parts (sym following) opened.rest) d
+    let end = parts_same inner close opened.2 opened.3 in
+    let following = (same_char (moved (λ a b. CharAt a 125 b) end close) opened.3).1 in
+    parts_same rest c (moved Parts (sym following) opened.4) d
 
 pub quoted_parts_same : {u v w x y : Place} → QuotedParts u v → CharAt v 34 x → QuotedParts u w → CharAt w 34 y → v ≡ w
 quoted_parts_same quotes.none c quotes.none d = refl

@@ -12,7 +12,8 @@ use Rattle.bib_syntax.specs.Grammar.{Block, File, LineComment, longest}
 use Rattle.bib_syntax.specs.Grammar.{File as file}
 use Rattle.bib_syntax.specs.Lines.{AreLinesFrom, InLine, IsLine, LineReading, continues_line, lines_together}
 use Rattle.bib_syntax.specs.Lines.{InLine as in_line}
-use Rattle.bib_syntax.specs.LineViews.{IsPartRead, line_of}
+use Rattle.bib_syntax.specs.LineParts.{IsPartRead}
+use Rattle.bib_syntax.specs.LineViews.{line_of}
 use Rattle.bib_syntax.specs.Reading.{FileReading, empty_reading, then}
 use Rattle.bib_syntax.specs.Views.{file_of}
 use Rattle.bib_syntax.specs.SyntaxErrors.{FileFails as file_fail}

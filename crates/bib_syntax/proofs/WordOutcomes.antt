@@ -6,9 +6,11 @@ use Rattle.std.proofs.lemmas.Bool.{cases_Bool}
 use Rattle.bib_text.specs.Places.{Place, CharAt, Run, Longest, AtEnd}
 use Rattle.bib_text.specs.Places.Run.{step}
 use Rattle.bib_text.specs.Braces.{Parts, is_plain}
+use Rattle.bib_text.proofs.BraceFacts.{closes_zero}
 use Rattle.bib_text.proofs.PlaceFacts.{no_char_at_end, pass_clash, run_one, stops_at, stops_at_end}
 use Rattle.bib_syntax.specs.Characters.{is_id_start, is_id_continue}
-use Rattle.bib_syntax.specs.OpenBraces.{ClosesOpen, SameBraced}
+use Rattle.bib_text.specs.OpenBraces.{ClosesOpen}
+use Rattle.bib_syntax.specs.OpenBraces.{SameBraced}
 use Rattle.bib_syntax.specs.Reading.{Part, part, Piece}
 use Rattle.bib_syntax.specs.Grammar.{Identifier, Number, QuotedParts, Quoted, Braced, NoDigit, Element, longest}
 use Rattle.bib_syntax.specs.Grammar.{Number as number}
@@ -199,7 +201,7 @@ BracedAt u v = (p : Part) × Braced u p v
 -- a braced text whose opening brace is known matches or fails
 braced_opened : {n : ℕ} {u v : Place} → CharAt u 123 v → BraceCase zero n v → Outcome n (BracedAt u) (BracedFails u)
 braced_opened {u = u} {v = v} opens (inl f) =
-    let parts = brace.closes_zero f.rule.1 in
+    let parts = closes_zero f.rule.1 in
     let braced : Braced u (part v f.rule.0) f.place = record {
       inside = _;
       following = f.rule.0;

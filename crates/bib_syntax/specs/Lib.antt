@@ -7,9 +7,9 @@ pub mod Failures
 pub mod Files
 pub mod Grammar
 pub mod Kept
+pub mod LineParts
 pub mod LineViews
 pub mod Lines
-pub mod Views
 pub mod OpenBraces
 pub mod Reading
 pub mod Recovering
@@ -17,3 +17,4 @@ pub mod Recovery
 pub mod Slices
 pub mod Stretches
 pub mod SyntaxErrors
+pub mod Views

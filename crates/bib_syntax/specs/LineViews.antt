@@ -1,23 +1,9 @@
 -- Meaning: words of public contracts.
--- The lines that values of the code represent, and how a part of a line is added to it.
-use Rattle.std.specs.Prelude.{◌≡◌, ℕ, ◌-◌, ◌<◌, List, ◌++◌, length}
-use Rattle.std.specs.declared.ops.Range.{Range}
-use Rattle.bib_text.specs.Places.{Place}
-use Rattle.bib_syntax.specs.Lines.{InLine, LineReading}
-use Rattle.bib_syntax.specs.Reading.{FileReading, then}
+-- The lines that values of the code represent.
+use Rattle.bib_syntax.specs.Lines.{LineReading}
 use Rattle.bib_syntax.specs.Views.{file_of}
 use Rattle.bib_syntax.specs.declared.raw.lines.RawLine.{RawLine}
 
 -- the reading of a line
 abbrev pub line_of : RawLine → LineReading
 line_of l = record { start = l.span.start; end = l.span.end; blocks = l.blocks.items; says = file_of l.raw }
-
--- one or more characters from `u` to `v` are a part of a line, which is added to the line `old`
-pub record IsPartRead (u : Place) (old : RawLine) (v : Place) (new : RawLine) : Type 0 where
-  pub blocks : List (Range ℕ)
-  pub says : FileReading
-  pub part : InLine u blocks says v
-  pub more : length v.text - v.at < length u.text - u.at
-  pub spans : new.blocks.items ≡ old.blocks.items ++ blocks
-  pub content : file_of new.raw ≡ then (file_of old.raw) says
-  pub place : new.span ≡ old.span

@@ -1,6 +1,6 @@
 -- Meaning: words of public contracts.
--- A file line by line. Only a line feed outside of blocks ends a line. So a line with blocks begins on the line of the first of them, and
--- ends on the line on which the last of them ends.
+-- A file line by line, where a line feed within a block ends no line. So a line may contain several blocks, and each block is in one line
+-- as a whole, even if it has line feeds.
 use Rattle.std.specs.Prelude.{◌≡◌, ℕ, Bool, true, not, ◌&&◌, ◌==◌, List, [], ◌∷◌}
 use Rattle.std.specs.declared.ops.Range.{Range}
 use Rattle.bib_text.specs.Characters as char

@@ -1,16 +1,11 @@
 -- Machinery: words of private contracts.
 -- The braces of a text that are open at a place, and where closed ones close.
 use Rattle.std.specs.Prelude.{◌≡◌, ℕ, zero, suc, List, [], ◌∷◌, ◌++◌, reverse, ⊤, ◌⊎◌, Some}
+use Rattle.bib_text.specs.OpenBraces.{ClosesOpen}
 use Rattle.bib_text.specs.Places.{Place, place, CharAt}
-use Rattle.bib_text.specs.Braces.{Parts}
 use Rattle.bib_syntax.specs.Closings.{AreClosings}
 use Rattle.bib_text.specs.Characters as char
 use Rattle.bib_syntax.specs.declared.raw.closings.Closing.{Closing}
-
--- from `u` to `v`, parts and a closing brace for each of this number of open braces, and then parts
-pub data ClosesOpen : ℕ → Place → Place → Type 0 where
-  last : {u v : Place} → Parts u v → ClosesOpen zero u v
-  level : {n : ℕ} {u v w x : Place} → Parts u v → CharAt v char.close_brace w → ClosesOpen n w x → ClosesOpen (suc n) u x
 
 -- up to each closing brace, the text from `u` closes `n` open braces if and only if the text from `v` closes `m`
 pub record SameBraced (n : ℕ) (u : Place) (m : ℕ) (v : Place) : Type 0 where

@@ -7,16 +7,18 @@ use Rattle.std.specs.Str.{IsUtf8, chars}
 use Rattle.std.proofs.lemmas.Bool.{cases_eq, lt-ltb, ne_eqb}
 use Rattle.std.proofs.lemmas.Str.{drop_past_char, encode_ascii, encodes-chars, length-encode}
 use Rattle.bib_text.specs.Places.{CharAt, Place, place}
-use Rattle.bib_text.specs.Braces.{IsParts, close_braces, has_balanced_braces}
+use Rattle.bib_text.specs.Braces.{IsParts, Parts, close_braces, has_balanced_braces}
+use Rattle.bib_text.specs.OpenBraces.{ClosesOpen}
+use Rattle.bib_text.specs.OpenBraces.ClosesOpen.{last}
 use Rattle.bib_text.proofs.BoolFacts.{iff_cases}
-use Rattle.bib_text.proofs.BraceFacts.{Closes, closes_close_none, closes_close, closes_end, closes_hidden, closes_open, closes_plain, closes_slash_end, is_plain_from}
+use Rattle.bib_text.proofs.BraceFacts.{closes_close_none, closes_close, closes_end, closes_hidden, closes_open, closes_plain, closes_slash_end, closes_zero, is_plain_from}
 use Rattle.bib_text.proofs.EncodedFacts.{Encoded, encoded}
 use Rattle.bib_text.proofs.PlaceFacts.{char_here, same_place}
 use Rattle.bib_text.proofs.TextFacts.{ahead}
 
 -- ---- one byte
 
-other_byte : (b depth : ℕ) (bs : List ℕ) → (b ≡ 92 → ⊥) → (b ≡ 123 → ⊥) → (b ≡ 125 → ⊥)
+pub other_byte : (b depth : ℕ) (bs : List ℕ) → (b ≡ 92 → ⊥) → (b ≡ 123 → ⊥) → (b ≡ 125 → ⊥)
     → close_braces false depth (b ∷ bs) ≡ close_braces false depth bs
 other_byte b depth bs no_slash no_open no_close =
     let hidden : Bool = close_braces true depth bs in
@@ -107,8 +109,8 @@ by_step {A} {B} {b} {b'} step same decided = subst (λ x. MatchBool x A (A → �
 -- the test decides whether the text up to `e` closes the open braces. The text begins at `u`, or, if its first byte is escaped, at the
 -- backslash before `u`
 abbrev Decided : Bool → ℕ → List ℕ → Place → Place → Type 0
-Decided false n bytes u e = MatchBool (close_braces false n bytes) (Closes n u e) (Closes n u e → ⊥)
-Decided true n bytes u e = (s : Place) → CharAt s 92 u → MatchBool (close_braces true n bytes) (Closes n s e) (Closes n s e → ⊥)
+Decided false n bytes u e = MatchBool (close_braces false n bytes) (ClosesOpen n u e) (ClosesOpen n u e → ⊥)
+Decided true n bytes u e = (s : Place) → CharAt s 92 u → MatchBool (close_braces true n bytes) (ClosesOpen n s e) (ClosesOpen n s e → ⊥)
 
 -- the first of some characters, and the place after it
 record First (c : ℕ) (cs rest : List ℕ) (u e : Place) : Type 0 where
@@ -136,27 +138,27 @@ first c cs rest u e here text at =
     }
 
 close_decided : (n : ℕ) (bytes : List ℕ) (e : Place) {u v : Place} → CharAt u 125 v → v.at ≤ e.at
-    → ((m : ℕ) → MatchBool (close_braces false m bytes) (Closes m v e) (Closes m v e → ⊥))
-    → MatchBool (close_braces false n (encode_utf8 125 ++ bytes)) (Closes n u e) (Closes n u e → ⊥)
+    → ((m : ℕ) → MatchBool (close_braces false m bytes) (ClosesOpen m v e) (ClosesOpen m v e → ⊥))
+    → MatchBool (close_braces false n (encode_utf8 125 ++ bytes)) (ClosesOpen n u e) (ClosesOpen n u e → ⊥)
 close_decided zero bytes e {u} {v} char within rest =
-    subst (λ x. MatchBool x (Closes 0 u e) (Closes 0 u e → ⊥)) (sym (none_to_close bytes)) (closes_close_none e within char)
+    subst (λ x. MatchBool x (ClosesOpen 0 u e) (ClosesOpen 0 u e → ⊥)) (sym (none_to_close bytes)) (closes_close_none e within char)
 close_decided (suc m) bytes e {u} {v} char within rest = by_step (over_close m bytes) (closes_close m e char) (rest m)
 
-pub closes_decided : (is_hidden : Bool) (n : ℕ) (cs rest : List ℕ) (u e : Place) → ahead u ≡ encode_utf8_all cs ++ rest
+closes_decided : (is_hidden : Bool) (n : ℕ) (cs rest : List ℕ) (u e : Place) → ahead u ≡ encode_utf8_all cs ++ rest
     → e.text ≡ u.text → e.at ≡ u.at + length (encode_utf8_all cs) → Decided is_hidden n (encode_utf8_all cs) u e
 closes_decided false n [] rest u e here text at = closes_end n e (same_place {u = u} {v = e} (sym text) (omega (arith, at)))
 closes_decided true n [] rest u e here text at = λ s slash.
     closes_slash_end n e slash (same_place {u = u} {v = e} (sym text) (omega (arith, at)))
 closes_decided true n (c ∷ cs) rest u e here text at = λ s slash.
     let f = first c cs rest u e here text at in
-    let last : u.at ≤ e.at = omega (arith, at) in
-    by_step (over_hidden c n (encode_utf8_all cs)) (closes_hidden n e last slash f.char)
+    let within : u.at ≤ e.at = omega (arith, at) in
+    by_step (over_hidden c n (encode_utf8_all cs)) (closes_hidden n e within slash f.char)
     (closes_decided false n cs rest f.next e f.after f.text f.at)
 closes_decided false n (c ∷ cs) rest u e here text at =
     let f = first c cs rest u e here text at in
     let bytes : List ℕ = encode_utf8_all cs in
     elim (cases_eq c 92) [
-      | inl slash ↦ subst (λ x. MatchBool x (Closes n u e) (Closes n u e → ⊥))
+      | inl slash ↦ subst (λ x. MatchBool x (ClosesOpen n u e) (ClosesOpen n u e → ⊥))
           (sym (ap (λ d. close_braces false n (encode_utf8 d ++ bytes)) slash ∙ over_slash n bytes))
           (closes_decided true n cs rest f.next e f.after f.text f.at u (subst (λ d. CharAt u d f.next) slash f.char))
       | inr no_slash ↦ elim (cases_eq c 123) [
@@ -164,7 +166,7 @@ closes_decided false n (c ∷ cs) rest u e here text at =
             (closes_open n e f.within (subst (λ d. CharAt u d f.next) opens f.char))
             (closes_decided false (suc n) cs rest f.next e f.after f.text f.at)
         | inr no_open ↦ elim (cases_eq c 125) [
-          | inl closes ↦ subst (λ d. MatchBool (close_braces false n (encode_utf8 d ++ bytes)) (Closes n u e) (Closes n u e → ⊥))
+          | inl closes ↦ subst (λ d. MatchBool (close_braces false n (encode_utf8 d ++ bytes)) (ClosesOpen n u e) (ClosesOpen n u e → ⊥))
               (sym closes)
               (close_decided n bytes e (subst (λ d. CharAt u d f.next) closes f.char) f.within
               (λ m. closes_decided false m cs rest f.next e f.after f.text f.at))
@@ -175,6 +177,13 @@ closes_decided false n (c ∷ cs) rest u e here text at =
       ]
     ]
 
+-- the test of some characters decides whether they are parts of a braced text
+pub parts_tested : (cs rest : List ℕ) (u e : Place) → ahead u ≡ encode_utf8_all cs ++ rest → e.text ≡ u.text
+    → e.at ≡ u.at + length (encode_utf8_all cs)
+    → MatchBool (close_braces false 0 (encode_utf8_all cs)) (Parts u e) (Parts u e → ⊥)
+parts_tested cs rest u e here text at =
+    iff_cases (close_braces false 0 (encode_utf8_all cs)) (last, closes_zero) (closes_decided false 0 cs rest u e here text at)
+
 -- in UTF-8 text, a result of the test decides `IsParts`
 pub parts_decided : (is : Bool) (text : List ℕ) → IsUtf8 text → is ≡ has_balanced_braces text
     → MatchBool is (IsParts text) (IsParts text → ⊥)
@@ -182,4 +191,28 @@ parts_decided is text utf8 same =
     let bytes : List ℕ = encode_utf8_all (chars text) in
     subst (λ b. MatchBool b (IsParts text) (IsParts text → ⊥)) (sym same)
     (subst (λ t. MatchBool (has_balanced_braces t) (IsParts t) (IsParts t → ⊥)) (encodes-chars text utf8)
-    (closes_decided false 0 (chars text) [] (place bytes 0) (place bytes (length bytes)) (sym (append-nil bytes)) refl (omega arith)))
+    (parts_tested (chars text) [] (place bytes 0) (place bytes (length bytes)) (sym (append-nil bytes)) refl (omega arith)))
+
+-- the test is the same for characters as for their bytes
+pub tested_by_bytes : (is_hidden : Bool) (depth : ℕ) (cs : List ℕ)
+    → close_braces is_hidden depth (encode_utf8_all cs) ≡ close_braces is_hidden depth cs
+tested_by_bytes false depth [] = refl
+tested_by_bytes true depth [] = refl
+tested_by_bytes true depth (c ∷ cs) = over_hidden c depth (encode_utf8_all cs) ∙ tested_by_bytes false depth cs
+tested_by_bytes false depth (c ∷ cs) =
+    let bytes : List ℕ = encode_utf8_all cs in
+    elim (cases_eq c 92) [
+      | inl slash ↦ subst (λ d. close_braces false depth (encode_utf8 d ++ bytes) ≡ close_braces false depth (d ∷ cs)) (sym slash)
+          (over_slash depth bytes ∙ tested_by_bytes true depth cs)
+      | inr no_slash ↦ elim (cases_eq c 123) [
+        | inl opens ↦ subst (λ d. close_braces false depth (encode_utf8 d ++ bytes) ≡ close_braces false depth (d ∷ cs)) (sym opens)
+            (over_open depth bytes ∙ tested_by_bytes false (suc depth) cs)
+        | inr no_open ↦ elim (cases_eq c 125) [
+          | inl closes ↦ subst (λ d. close_braces false depth (encode_utf8 d ++ bytes) ≡ close_braces false depth (d ∷ cs)) (sym closes)
+              (ap (λ t. close_braces false depth (t ++ bytes)) (encode_ascii 125 (omega arith))
+              ∙ ap (λ x. nat_lt 0 depth && x) (tested_by_bytes false (depth - 1) cs))
+          | inr no_close ↦ over_other c depth bytes no_slash no_open no_close ∙ tested_by_bytes false depth cs
+              ∙ sym (other_byte c depth cs no_slash no_open no_close)
+        ]
+      ]
+    ]

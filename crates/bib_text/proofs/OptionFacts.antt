@@ -1,5 +1,5 @@
 -- Facts about options and results.
-use Rattle.std.proofs.Common.{◌≡◌, Bool, true, false, cond, Option, Some, None, refl, option_map, is_some, Result, Ok, Err}
+use Rattle.std.proofs.Common.{◌≡◌, Bool, true, false, cond, Option, Some, None, refl, option_map, is_some, Ok, Err}
 use Rattle.std.specs.Option.{option_or}
 
 -- a value is no error

@@ -4,7 +4,8 @@ ghost use Rattle.std.specs.Prelude.{◌≡◌, MatchBool};
 ghost use Rattle.bib_text.specs.Braces.{IsParts, has_balanced_braces};
 
 /// Returns whether the unescaped braces of a text are balanced and no unescaped backslash ends it. A backslash escapes the next
-/// character. Such a text can be written between two braces. Does not allocate.
+/// character. By the file grammar, such a text can be written between two braces. BibTeX escapes nothing: it also counts a brace after a
+/// backslash. Does not allocate.
 pub fn has_balanced_braces(text: &str) -> bool
     ensures parts { MatchBool result (IsParts text.now) (IsParts text.now → ⊥) }
     ensures test { result ≡ has_balanced_braces text.now }

@@ -9,7 +9,7 @@ use Rattle.bib_text.specs.Places.{Place, place, CharAt, between}
 use Rattle.bib_text.specs.Braces.{IsParts, Parts, has_balanced_braces}
 use Rattle.bib_text.specs.Braces.{Parts as parts}
 use Rattle.bib_text.proofs.BraceFacts.{ahead_parts, plain_is}
-use Rattle.bib_text.proofs.BraceTestFacts.{closes_decided}
+use Rattle.bib_text.proofs.BraceTestFacts.{parts_tested}
 use Rattle.bib_text.proofs.EncodedFacts.{Encoded, encoded}
 use Rattle.bib_text.proofs.PlaceFacts.{ahead_then, ahead_char, test_clash}
 use Rattle.bib_syntax.specs.Grammar.{QuotedParts}
@@ -85,7 +85,7 @@ content_decided {u} {v} x within =
     let spelt = quoted_characters x within in
     let s = stands_between (ahead_quoted_parts x) within in
     subst (λ t. MatchBool (has_balanced_braces t) (Parts u v) (Parts u v → ⊥)) (sym spelt.1)
-    (closes_decided false 0 spelt.0 (drop v.at u.text) u v (s.here ∙ ap (λ t. t ++ drop v.at u.text) spelt.1) s.same
+    (parts_tested spelt.0 (drop v.at u.text) u v (s.here ∙ ap (λ t. t ++ drop v.at u.text) spelt.1) s.same
     (s.next ∙ ap (λ t. u.at + length t) spelt.1))
 
 pub parts_of_quoted : {u v : Place} → QuotedParts u v → v.at ≤ length u.text → has_balanced_braces (between u v) ≡ true → Parts u v

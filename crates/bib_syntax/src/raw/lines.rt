@@ -5,7 +5,8 @@ ghost use Rattle.bib_text.specs.Characters as char;
 ghost use Rattle.bib_text.specs.Places.{CharAt, EndsOr, Place, place};
 ghost use Rattle.bib_syntax.specs.Errors.{Refuses, out_of_memory};
 ghost use Rattle.bib_syntax.specs.Grammar.{IsFile, IsRawReading};
-ghost use Rattle.bib_syntax.specs.LineViews.{IsPartRead, line_of};
+ghost use Rattle.bib_syntax.specs.LineParts.{IsPartRead};
+ghost use Rattle.bib_syntax.specs.LineViews.{line_of};
 ghost use Rattle.bib_syntax.specs.Lines.{AreLinesFrom, IsLine, lines_together};
 ghost use Rattle.bib_syntax.specs.SyntaxErrors.{FileFails, IsReported, Reports};
 

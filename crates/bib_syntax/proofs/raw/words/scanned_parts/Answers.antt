@@ -6,7 +6,7 @@ use Rattle.bib_text.specs.Braces.{is_plain}
 use Rattle.bib_text.proofs.PlaceFacts.{Ahead, ahead_here, ahead_then, ahead_char, ahead_run, ahead_same, ahead_taken, boundary_ahead, left_smaller, after_char_small}
 use Rattle.bib_syntax.proofs.BraceFacts.{braced_then, braced_run, braced_open, braced_hidden, braced_same, braced_less, braced_stuck, found_parts}
 use Rattle.bib_syntax.specs.OpenBraces.{SameBraced}
-use Rattle.bib_syntax.specs.OpenBraces.ClosesOpen.{last}
+use Rattle.bib_text.specs.OpenBraces.ClosesOpen.{last}
 use Rattle.bib_syntax.proofs.ErrorFacts.{braced_at_end, reported_at_end}
 use Rattle.bib_syntax.proofs.ReadingFacts.{error_back, taken_if, part_from, not_after}
 use Rattle.bib_syntax.proofs.raw.words.scanned_parts.Goals as goal

@@ -1,0 +1,7 @@
+pub mod Diff
+pub mod FactViews
+pub mod Facts
+pub mod Labels
+pub mod Lines
+pub mod Merging
+pub mod Objects

@@ -1,0 +1,52 @@
+-- Meaning: words of public contracts.
+-- The output of `merge`.
+use Rattle.std.specs.Prelude.{◌≡◌, ℕ, Bool, true, false, List}
+use Rattle.std.specs.List.{list_any}
+use Rattle.bib_syntax.specs.Grammar.{IsFile}
+use Rattle.edit_merge.specs.Entries.{HasMergedEntries, are_all_different}
+use Rattle.edit_entry_merge.specs.ConflictTexts.{MarkerLines}
+use Rattle.edit_merge.specs.Merged.{merged_text}
+use Rattle.edit_merge.specs.Picked.{Versions, slots}
+use Rattle.edit_merge.specs.declared.entries.Side.{Side}
+use Rattle.edit_merge.specs.declared.entries.Side.TheVariants.{Ours, Theirs}
+use Rattle.edit_merge.specs.declared.picking.Choice.{Choice}
+use Rattle.edit_merge.specs.declared.picking.Choice.TheVariants as choice
+use Rattle.edit_units.specs.Units.{AreUnits}
+use Rattle.edit_versions.specs.Versions.{VersionReading}
+
+-- whether a choice is a conflict
+abbrev pub is_conflict_choice : Choice → Bool
+is_conflict_choice choice.Ours = false
+is_conflict_choice choice.Theirs = false
+is_conflict_choice choice.Conflict = true
+
+-- whether a merge by units has a conflict
+abbrev pub has_conflict : Versions → Bool
+has_conflict vs = list_any (λ s. is_conflict_choice s.choice) (slots vs)
+
+-- whether both sides changed the units at a place, and differently
+abbrev pub is_changed_twice : Versions → Bool
+is_changed_twice vs = list_any (are_all_different vs) (slots vs)
+
+-- a text of a side with merged entries isn't the text of a file
+pub record IsRefusedMerge (vs : Versions) : Type 0 where
+  pub side : Side
+  pub text : List ℕ
+  pub merged : HasMergedEntries side vs text
+  pub refused : IsFile text → ⊥
+
+-- Versions whose merge by units is the merge of `vs`: those in which entries that both sides changed are merged by their fields. If there
+-- are no such entries, or a text with them isn't that of a file, they are the same versions
+pub data AreMergedBy (vs : Versions) : Versions → Type 0 where
+  unneeded : is_changed_twice vs ≡ false → AreMergedBy vs vs
+  refused : IsRefusedMerge vs → AreMergedBy vs vs
+  by_fields : {ours theirs : VersionReading} → HasMergedEntries Ours vs ours.text → AreUnits ours.text ours.units
+      → HasMergedEntries Theirs vs theirs.text → AreUnits theirs.text theirs.units
+      → AreMergedBy vs (record { base = vs.base; ours = ours; theirs = theirs })
+
+-- a text is a merge, and `conflicts` says whether it has conflicts
+pub record IsMergedFile (markers : MarkerLines) (vs : Versions) (text : List ℕ) (conflicts : Bool) : Type 0 where
+  pub merged : Versions
+  pub are : AreMergedBy vs merged
+  pub is : text ≡ merged_text markers merged
+  pub has : conflicts ≡ has_conflict merged

@@ -1,0 +1,12 @@
+//! Commands of `bibkit` on several versions of a file.
+//!
+//! `diff` prints the changes from one version to another one (`edit_changes`). `labels` has the names of units and the texts of values,
+//! `lines` the lines of the output, and `objects` its JSON objects.
+#![tactic(auto)]
+
+pub mod diff;
+mod facts;
+mod labels;
+mod lines;
+pub mod merging;
+mod objects;

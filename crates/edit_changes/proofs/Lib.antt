@@ -1,0 +1,3 @@
+pub mod FieldFacts
+pub mod LawFacts
+pub mod ListFacts

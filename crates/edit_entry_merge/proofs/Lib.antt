@@ -1,0 +1,14 @@
+mod ChosenFacts
+mod ClosingFacts
+mod CopiedFacts
+mod CopyFacts
+mod CountFacts
+mod EditsFacts
+mod LineFacts
+mod MergeFacts
+mod MixedFacts
+mod NameFacts
+mod PartFacts
+mod ReadFacts
+mod UnchangedFacts
+mod VersionFacts

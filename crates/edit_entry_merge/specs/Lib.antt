@@ -1,0 +1,10 @@
+pub mod Choices
+pub mod ConflictTexts
+pub mod Frames
+pub mod Lines
+pub mod Merges
+pub mod Mixed
+pub mod Picks
+pub mod Versions
+pub mod Views
+pub mod Working

@@ -1,0 +1,10 @@
+pub mod CleanFacts
+pub mod EntryFacts
+pub mod ExchangedFacts
+pub mod GroupFacts
+pub mod LostFacts
+pub mod OrderFacts
+pub mod PickedFacts
+pub mod SideFacts
+pub mod UnchangedFacts
+pub mod WovenFacts
