@@ -10,14 +10,14 @@ use Rattle.edit_units.specs.Units.{UnitReading}
 use Rattle.edit_versions.specs.Alike.{single_entry}
 use Rattle.edit_versions.specs.Versions.{VersionReading, has_unit_named, indices_of, version_names, version_unit, words_with_spaces}
 
--- a piece as text: its words, after a sign that says whether it is a literal
+-- a piece as text: its words, after a line feed and a sign that says whether it is a literal; no word has a line feed
 abbrev pub piece_content : Piece → List ℕ
-piece_content (literal p) = codes "=" ++ words_with_spaces p.text
-piece_content (abbreviation p) = codes "#" ++ words_with_spaces p.text
+piece_content (literal p) = codes "\n=" ++ words_with_spaces p.text
+piece_content (abbreviation p) = codes "\n#" ++ words_with_spaces p.text
 
--- a field as text: its name in ASCII lowercase, and the words of its pieces
+-- a field as text: its name in ASCII lowercase, after a line feed, and the words of its pieces
 abbrev pub field_content : FieldReading → List ℕ
-field_content f = codes " " ++ (str_to_ascii_lowercase f.name.text ++ flat_map piece_content f.value.pieces)
+field_content f = codes "\n" ++ (str_to_ascii_lowercase f.name.text ++ flat_map piece_content f.value.pieces)
 
 -- the content of an entry without its key, as text: its type in ASCII lowercase, and its fields
 abbrev pub keyless_content : EntryReading → List ℕ

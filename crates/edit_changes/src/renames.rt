@@ -18,7 +18,7 @@ use edit_versions::version::Version;
 use std::alloc::{AllocError, Global};
 use std::marker::Model;
 
-// Appends the words of a piece, after a sign that says whether it is a literal.
+// Appends the words of a piece, after a line feed and a sign that says whether it is a literal. No word has a line feed.
 fn push_piece(
     alloc: Global,
     content: &mut Text,
@@ -27,8 +27,8 @@ fn push_piece(
     ensures { OnOk result (content.new ≡ content.old ++ spec.piece_content (piece_of piece.now)) }
 {
     let (sign, text) = match piece.v {
-        RawChunk::Normal(text) => ("=", text),
-        RawChunk::Abbreviation(name) => ("#", name),
+        RawChunk::Normal(text) => ("\n=", text),
+        RawChunk::Abbreviation(name) => ("\n#", name),
     };
     let words = words_with_spaces(alloc, text)?;
     content.push_str(sign)?;
@@ -49,12 +49,12 @@ fn push_pieces(
     Ok(())
 }
 
-// Appends the name of a field in ASCII lowercase, and the words of its value.
+// Appends the name of a field in ASCII lowercase, after a line feed, and the words of its value.
 fn push_field(alloc: Global, content: &mut Text, field: &Pair<'_>) -> Result<(), AllocError>
     ensures { OnOk result (content.new ≡ content.old ++ spec.field_content (field_of field.now)) }
 {
     let name = field.key.v.to_ascii_lowercase(alloc)?;
-    content.push_str(" ")?;
+    content.push_str("\n")?;
     content.push_str(name.as_str())?;
     push_pieces(alloc, content, &field.value.v)
 }
