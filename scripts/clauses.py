@@ -313,10 +313,13 @@ class Definitions:
             yield from self.reached(part, seen)
 
     def fields(self, it):
-        """The fields whose texts an expression reads: the literal texts next to `entry` in a call. `options` decides only on prefixes."""
+        """The fields whose texts an expression reads: the literal texts next to `entry` in a call, and the fields of variables in the table.
+        `options` decides only on prefixes."""
         for call in self.reached(it, set()):
             if isinstance(call, list) and "entry" in call:
                 yield from (str(name) for name in call if isinstance(name, Text) and name != "options")
+                variables = [part[1] for part in call if isinstance(part, list) and part[0] == "field_in_table"]
+                yield from (self.names("field_in_table")[constructor(it)] for it in variables if constructor(it))
             elif isinstance(call, list) and "entry.key" in call:
                 yield KEY
 

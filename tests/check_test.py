@@ -506,7 +506,7 @@ RULES = {
         (changed("AB, N1, N1, RN, KW", "AB, N1, N2, RN, KW"), "tags: `addendum` has `"),
         (changed("GOVDOC; UNPB, MANSCPT |", "GOVDOC, MANSCPT; UNPB |"), "types of RIS: `MANSCPT` has `"),
         (changed("ET | version for COMP, otherwise edition", "ET | edition"), "tags of RIS: `ET` has `version` in `variable_of`, but not here"),
-        (changed('"status" Plain "pubstate"', '"status" Plain "state"', "crates/bib_csl/specs/Tables.antt"), "variables: `status` has `"),
+        (changed('"status" Plain "pubstate"', '"status" Plain "state"', "crates/bib_csl/specs/Tables.antt"), "`status`"),
         (changed("| tag | variable |", "| tags | variables |"), "the section `Records of RIS as entries` has no table `tag | variable`"),
         (changed("These variables change:", "These change:"), "the section `Titles in sentence case` has no sentence `These variables"),
         (changed('bytes_eq name (codes "enquote")', 'starts_with name (codes "enquote")', "crates/bib_csl/specs/Markup.antt"),

@@ -10,6 +10,7 @@ use Rattle.bib_csl.specs.declared.item.Field.{Field}
 use Rattle.bib_csl.specs.declared.variables.Variable.TheVariants.{Doi, Url, Pmid, Isbn, Issn, Archive, ArchiveLocation, CallNumber}
 use Rattle.bib_csl.specs.Adding.{given_plain}
 use Rattle.bib_csl.specs.Fields.{given}
+use Rattle.bib_csl.specs.Tables.{field_in_table}
 use Rattle.bib_csl.specs.Texts.{field, shown_field, either}
 use Rattle.bib_csl.specs.Ways.{way_as_address}
 
@@ -48,7 +49,7 @@ address_in archive eprint =
 
 -- the field `url`, or else the address in the archive
 unfoldable pub named_address : Entry → List ℕ
-named_address entry = either (shown_field (field entry (codes "url"))) (address_in (archive_of entry) (eprint_of entry))
+named_address entry = either (shown_field (field entry (field_in_table Url))) (address_in (archive_of entry) (eprint_of entry))
 
 -- the address: `url`, or else that in the archive, or else `howpublished` if it is an address
 unfoldable pub url_of : Entry → List ℕ
@@ -83,7 +84,7 @@ bare_doi text = unwrap_or (from_ten text) text
 -- the DOI, the address, the PubMed number, the ISBN and the ISSN
 unfoldable pub identifier_fields : Entry → List Field
 identifier_fields entry =
-    given Doi (bare_doi (shown_field (field entry (codes "doi")))) ++
+    given Doi (bare_doi (shown_field (field entry (field_in_table Doi)))) ++
     (given Url (url_of entry) ++
     (given Pmid (pubmed_number entry) ++
     (given_plain Isbn entry ++

@@ -16,6 +16,7 @@ use Rattle.bib_csl.specs.Fields.{given}
 use Rattle.bib_csl.specs.Identifiers.{named_address}
 use Rattle.bib_csl.specs.Named.{pair, text_named}
 use Rattle.bib_csl.specs.Publishing.{named_publisher}
+use Rattle.bib_csl.specs.Tables.{field_in_table}
 use Rattle.bib_csl.specs.Texts.{field, shown_field, rich_text, either, joined_by_mark}
 use Rattle.bib_csl.specs.Ways.{begins_with_address, way_as_address, way_of}
 
@@ -92,8 +93,8 @@ way_in_note entry = if is_way_printed entry then [] else way_of entry
 -- the fields `note` and `addendum`, and `way_in_note`; between them are full stops, as by `joined_by_mark`
 unfoldable pub note_of : Entry → List ℕ
 note_of entry =
-    joined_by_mark (codes ".") (joined_by_mark (codes ".") (rich_text entry (codes "note")) (rich_text entry (codes "addendum")))
-    (way_in_note entry)
+    let note = rich_text entry (field_in_table variable.Note) in
+    joined_by_mark (codes ".") (joined_by_mark (codes ".") note (rich_text entry (codes "addendum"))) (way_in_note entry)
 
 -- the abstract, the annotation, the note, the publication status, the keywords and the language
 unfoldable pub note_fields : Entry → List Field
@@ -101,6 +102,6 @@ note_fields entry =
     given_rich variable.Abstract entry ++
     (given_rich_or variable.Annote entry (codes "annote") ++
     (given variable.Note (note_of entry) ++
-    (given variable.Status (status_named (shown_field (field entry (codes "pubstate")))) ++
+    (given variable.Status (status_named (shown_field (field entry (field_in_table variable.Status)))) ++
     (given_plain variable.Keyword entry ++
     given variable.Language (language_of (language_value entry))))))

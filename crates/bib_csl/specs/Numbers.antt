@@ -13,6 +13,7 @@ use Rattle.bib_csl.specs.declared.item_types.ItemType.{ItemType}
 use Rattle.bib_csl.specs.declared.variables.Variable.TheVariants.{Volume, NumberOfVolumes, PartNumber, Issue, Number, CollectionNumber, Edition, ChapterNumber, Page, NumberOfPages, Version}
 use Rattle.bib_csl.specs.Adding.{given_rich}
 use Rattle.bib_csl.specs.Fields.{given}
+use Rattle.bib_csl.specs.Tables.{field_in_table}
 use Rattle.bib_csl.specs.Texts.{either, field, joined, marked_chunks, rich_text}
 use Rattle.bib_csl.specs.Types.{counts_issues, counts_series}
 
@@ -73,6 +74,6 @@ unfoldable pub page_fields : Entry → List Field
 page_fields entry =
     given_rich Edition entry ++
     (given_rich ChapterNumber entry ++
-    (given Page (pages (field entry (codes "pages"))) ++
+    (given Page (pages (field entry (field_in_table Page))) ++
     (given_rich NumberOfPages entry ++
     given_rich Version entry)))

@@ -11,6 +11,7 @@ use Rattle.bib_csl.specs.declared.variables.Variable.TheVariants.{Publisher, Pub
 use Rattle.bib_csl.specs.Adding.{given_listed}
 use Rattle.bib_csl.specs.Fields.{given}
 use Rattle.bib_csl.specs.Named.{pair}
+use Rattle.bib_csl.specs.Tables.{field_in_table}
 use Rattle.bib_csl.specs.Texts.{either, field, listed_field, rich_text}
 use Rattle.bib_csl.specs.Ways.{way_as_publisher}
 
@@ -63,7 +64,7 @@ genre_of_type other = []
 
 -- the genre: by the field `type`, or else by the entry type
 unfoldable pub genre_of : Entry → List ℕ
-genre_of entry = either (genre_named (rich_text entry (codes "type"))) (genre_of_type entry.entry_type)
+genre_of entry = either (genre_named (rich_text entry (field_in_table Genre))) (genre_of_type entry.entry_type)
 
 -- the publisher and its place
 unfoldable pub publisher_fields : Entry → List Field

@@ -8,6 +8,7 @@ use Rattle.bib_csl.specs.declared.item_types.ItemType.{ItemType}
 use Rattle.bib_csl.specs.declared.variables.Variable.TheVariants.{Title, TitleShort, VolumeTitle, ContainerTitle, ContainerTitleShort, CollectionTitle, OriginalTitle, Event, EventTitle, EventPlace}
 use Rattle.bib_csl.specs.Adding.{given_rich, given_title}
 use Rattle.bib_csl.specs.Fields.{given}
+use Rattle.bib_csl.specs.Tables.{field_in_table}
 use Rattle.bib_csl.specs.Texts.{marked_field, title_text, either, joined_by_mark, series_named}
 use Rattle.bib_csl.specs.Types.{is_article, is_in_book, is_volume}
 
@@ -73,7 +74,7 @@ title_fields kind entry =
 
 -- the title of the series
 unfoldable pub series_title : Entry → List ℕ
-series_title entry = series_named (title_text entry (codes "series"))
+series_title entry = series_named (title_text entry (field_in_table CollectionTitle))
 
 -- the title of the container, its short form and the title of the series
 unfoldable pub container_fields : ItemType → Entry → List Field

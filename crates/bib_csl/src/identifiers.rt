@@ -80,7 +80,7 @@ fn address_in(alloc: Global, archive: &str, eprint: &str) -> Result<Text, AllocE
 pub(crate) fn named_address(alloc: Global, entry: &Entry) -> Result<Text, AllocError>
     ensures { IfOk result (λ text. text ≡ spec.named_address entry.now) }
 {
-    let url = plain_text(alloc, entry, "url")?;
+    let url = plain_text(alloc, entry, Variable::Url.field())?;
     if !url.is_empty() {
         return Ok(url);
     }
@@ -164,7 +164,7 @@ pub(crate) fn add_identifiers(
 ) -> Result<(), AllocError>
     ensures { OnOk result (fields.new ≡ fields.old ++ spec.identifier_fields entry.now) }
 {
-    let doi = plain_text(alloc, entry, "doi")?;
+    let doi = plain_text(alloc, entry, Variable::Doi.field())?;
     add_text(fields, Variable::Doi, bare_doi(alloc, doi.as_str())?)?;
     add_text(fields, Variable::Url, url_of(alloc, entry)?)?;
     add_text(fields, Variable::Pmid, pubmed_number(alloc, entry)?)?;

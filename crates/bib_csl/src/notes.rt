@@ -112,7 +112,7 @@ pub fn language_value(entry: &Entry) -> Option<ChunksRef<'_>>
 fn note_of(alloc: Global, entry: &Entry) -> Result<Text, AllocError>
     ensures { IfOk result (λ text. text ≡ spec.note_of entry.now) }
 {
-    let note = rich_text(alloc, entry, "note")?;
+    let note = rich_text(alloc, entry, Variable::Note.field())?;
     let both = joined_by_mark(alloc, ".", note, rich_text(alloc, entry, "addendum")?)?;
     joined_by_mark(alloc, ".", both, way_in_note(alloc, entry)?)
 }
@@ -129,7 +129,7 @@ pub(crate) fn add_notes(
     add_rich(alloc, Variable::Abstract, entry, fields)?;
     add_rich_or(alloc, Variable::Annote, entry, "annote", fields)?;
     add_text(fields, Variable::Note, note_of(alloc, entry)?)?;
-    let status = plain_text(alloc, entry, "pubstate")?;
+    let status = plain_text(alloc, entry, Variable::Status.field())?;
     add_text(fields, Variable::Status, status_named(alloc, status)?)?;
     add_plain(alloc, Variable::Keyword, entry, fields)?;
     let language = language_of(alloc, language_value(entry))?;

@@ -157,7 +157,11 @@ pub(crate) fn add_pages(
 {
     add_rich(alloc, Variable::Edition, entry, fields)?;
     add_rich(alloc, Variable::ChapterNumber, entry, fields)?;
-    add_text(fields, Variable::Page, pages(alloc, entry.get("pages"))?)?;
+    add_text(
+        fields,
+        Variable::Page,
+        pages(alloc, entry.get(Variable::Page.field()))?,
+    )?;
     add_rich(alloc, Variable::NumberOfPages, entry, fields)?;
     add_rich(alloc, Variable::Version, entry, fields)
 }

@@ -110,7 +110,7 @@ fn genre_of_type(entry_type: &EntryType) -> &'static str
 pub fn genre_of(alloc: Global, entry: &Entry) -> Result<Text, AllocError>
     ensures { IfOk result (λ text. text ≡ spec.genre_of entry.now) }
 {
-    let kind = rich_text(alloc, entry, "type")?;
+    let kind = rich_text(alloc, entry, Variable::Genre.field())?;
     let named = first_of(genre_named(kind.as_str()), genre_of_type(&entry.entry_type));
     Text::from_str(alloc, named)
 }

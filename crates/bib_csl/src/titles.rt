@@ -127,7 +127,10 @@ fn container_title(alloc: Global, kind: ItemType, entry: &Entry) -> Result<Text,
 fn series_title(alloc: Global, entry: &Entry) -> Result<Text, AllocError>
     ensures { IfOk result (λ text. text ≡ spec.series_title entry.now) }
 {
-    series_named(alloc, title_text(alloc, entry, "series")?)
+    series_named(
+        alloc,
+        title_text(alloc, entry, Variable::CollectionTitle.field())?,
+    )
 }
 
 // Returns the name of the event, such as a conference.
