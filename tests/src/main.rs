@@ -23,6 +23,7 @@ mod imports;
 mod items;
 mod json_imports;
 mod keys;
+mod merge_renames;
 mod merges;
 mod orders;
 mod recodings;
@@ -56,6 +57,7 @@ fn rows(alloc: Global, layer: &str, input: &str) -> Result<String, AllocError> {
         "imports" => answered::<imports::Imports>(alloc, input),
         "items" => answered::<items::CslItems>(alloc, input),
         "json_imports" => answered::<json_imports::JsonImports>(alloc, input),
+        "merge_renames" => answered::<merge_renames::MergeRenames>(alloc, input),
         "merges" => answered::<merges::Merges>(alloc, input),
         "orders" => answered::<orders::Orders>(alloc, input),
         "keys" => answered::<keys::Keys>(alloc, input),

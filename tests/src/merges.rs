@@ -1,6 +1,6 @@
 //! Reads rows, a call and a text in each line, and prints each with an answer. For `merge` and `order` the text is three versions of a file
-//! with `¶` between them: the base, ours and theirs. `merge` prints the merged text, `order` whose order it has, and `names` the names of
-//! the units of a text.
+//! with `¶` between them: the base, ours and theirs. `merge` prints the merged text, `order` whose order it has, and `lost` the lost
+//! names. `names` prints the names of the units of a text.
 
 use crate::support::rows::Calls;
 use edit_entry_merge::conflict_text::Markers;
@@ -38,7 +38,7 @@ fn merged(
         ours: &ours,
         theirs: &theirs,
     };
-    Ok(Some(merge(alloc, versions, MARKERS)?))
+    Ok(Some(merge(alloc, versions, versions, MARKERS)?))
 }
 
 // The word for a choice.
@@ -65,12 +65,28 @@ fn names(alloc: Global, text: &str) -> Result<String, AllocError> {
     Ok(names)
 }
 
+// The lost names of a merge, with a line feed between them.
+fn lost(alloc: Global, found: &Merged) -> Result<String, AllocError> {
+    let mut names = String::new(alloc);
+    for name in &found.lost {
+        if let Some(name) = name {
+            if !names.is_empty() {
+                names.push('\n')?;
+            }
+            names.push_str(name)?;
+        }
+    }
+    Ok(names)
+}
+
 // What a call prints for three versions.
 fn shown(alloc: Global, call: &str, found: Option<Merged>) -> Result<String, AllocError> {
     match found {
         Some(found) => {
             if call == "merge" {
                 Ok(found.text)
+            } else if call == "lost" {
+                lost(alloc, &found)
             } else {
                 String::from_str(alloc, word(found.order))
             }
@@ -84,7 +100,7 @@ impl Calls for Merges {
         if call == "names" {
             return Ok(Some(names(alloc, text)?));
         }
-        if call != "merge" && call != "order" {
+        if call != "merge" && call != "order" && call != "lost" {
             return Ok(None);
         }
         let Some((base, sides)) = text.split_once('¶') else {

@@ -1,1 +1,2 @@
 pub mod MergeFacts
+pub mod RenamingFacts

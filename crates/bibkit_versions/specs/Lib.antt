@@ -4,4 +4,5 @@ pub mod Facts
 pub mod Labels
 pub mod Lines
 pub mod Merging
+pub mod NewVersions
 pub mod Objects

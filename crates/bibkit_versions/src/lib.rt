@@ -1,7 +1,8 @@
 //! Commands of `bibkit` on several versions of a file.
 //!
 //! `diff` prints the changes from one version to another one (`edit_changes`). `labels` has the names of units and the texts of values,
-//! `lines` the lines of the output, and `objects` its JSON objects.
+//! `lines` the lines of the output, and `objects` its JSON objects. `merging` merges three versions (`edit_merge`); `renaming` has the
+//! versions after the renames of entries.
 #![tactic(auto)]
 
 pub mod diff;
@@ -10,3 +11,4 @@ mod labels;
 mod lines;
 pub mod merging;
 mod objects;
+mod renaming;

@@ -5,19 +5,22 @@ ghost use Rattle.std.specs.List.{list_any};
 ghost use Rattle.std.specs.String.{string_bytes};
 ghost use Rattle.bibkit_versions.specs.Merging as spec;
 ghost use Rattle.bib_syntax.specs.Grammar.{IsFile};
-ghost use Rattle.bibkit_versions.specs.Merging.{IsMergedFile, IsRefusedMerge, is_conflict_choice};
+ghost use Rattle.bibkit_versions.specs.Merging.{IsMergeByFields, IsMergedFile, IsRefusedMerge, is_conflict_choice};
 ghost use Rattle.edit_entry_merge.specs.ConflictTexts.{marker_lines};
 ghost use Rattle.edit_merge.specs.Entries.{are_all_different};
+ghost use Rattle.edit_merge.specs.Lost.{kept_slots};
 ghost use Rattle.edit_merge.specs.Merged.{merged_text};
 ghost use Rattle.edit_merge.specs.Views.{versions_of};
 ghost use Rattle.edit_units.specs.Units.{AreUnits};
 
 use crate::labels::label_at;
+use crate::renaming::{new_version, version_of};
 use edit_entry_merge::conflict_text::Markers;
 use edit_entry_merge::merging::EntryMerge;
 use edit_merge::entries::{Side, are_all_different, slot_merge, with_merged_entries};
 use edit_merge::merging::{Merged, merge};
 use edit_merge::picking::{Choice, Versions};
+use edit_merge::renames::renamed_texts;
 use edit_merge::slots::Slot;
 use edit_versions::version::Version;
 use std::alloc::{AllocError, Global};
@@ -47,19 +50,6 @@ fn is_changed_twice(versions: Versions<'_, '_>, slots: &[Slot]) -> bool
     slots.iter().any(|slot| are_all_different(versions, *slot))
 }
 
-// Returns the version of a text, or `None` if it has a syntax error.
-fn version_of<'t>(alloc: Global, text: &'t str) -> Result<Option<Version<'t>>, AllocError>
-    ensures { IfOk result (λ found. MatchOption found (IsFile text.now → ⊥) (λ v. (v.text ≡ text.now) × AreUnits v.text v.units)) }
-{
-    match Version::parse(alloc, text) {
-        Ok(version) => Ok(Some(version)),
-        Err(error) => {
-            error.unless_out_of_memory()?;
-            Ok(None)
-        }
-    }
-}
-
 // Returns the numbers of the lines that equal a marker, from 1.
 fn lines_with(alloc: Global, text: &str, marker: &str) -> Result<Vec<usize>, AllocError> {
     let mut numbers = Vec::new(alloc);
@@ -71,9 +61,13 @@ fn lines_with(alloc: Global, text: &str, marker: &str) -> Result<Vec<usize>, All
     Ok(numbers)
 }
 
-// Returns what both sides did to the units at a place with a conflict.
-fn what_happened(slot: Slot) -> &'static str {
+// Returns what both sides did to the units at a place with a conflict. `is_lost` is whether it is one because the merge uses a name that only
+// one of the units defines.
+fn what_happened(slot: Slot, is_lost: bool) -> &'static str {
     match (slot.base, slot.ours, slot.theirs) {
+        (_, None, _) if is_lost => "removed by ours, but used",
+        (_, _, None) if is_lost => "removed by theirs, but used",
+        _ if is_lost => "a name is removed by one side, but used",
         (_, None, _) => "removed by ours, changed by theirs",
         (_, _, None) => "changed by ours, removed by theirs",
         (None, _, _) => "added by both sides",
@@ -107,6 +101,7 @@ fn push_message(
     line: usize,
     versions: Versions<'_, '_>,
     slot: Slot,
+    is_lost: bool,
 ) -> Result<(), AllocError> {
     let (version, index) = match (slot.ours, slot.theirs) {
         (Some(index), _) => (versions.ours, index),
@@ -118,7 +113,7 @@ fn push_message(
     if let Some(name) = version.names().get(index) {
         push_fields(messages, alloc, versions, name.as_str(), slot)?;
     }
-    messages.push_str(what_happened(slot))?;
+    messages.push_str(what_happened(slot, is_lost))?;
     messages.push_str("\n")
 }
 
@@ -140,10 +135,11 @@ fn conflict_messages(
     let lines = lines_with(alloc, &merged.text, marker)?;
     let mut messages = String::new(alloc);
     let mut numbers = lines.iter();
-    'slots: for slot in &merged.slots {
+    'slots: for (slot, lost) in merged.slots.iter().zip(&merged.lost) {
         if has_markers(versions, *slot) {
             let line = numbers.next().copied().unwrap_or(1);
-            push_message(&mut messages, alloc, file, line, versions, *slot)?;
+            let is_lost = lost.is_some();
+            push_message(&mut messages, alloc, file, line, versions, *slot, is_lost)?;
         }
     }
     if merged.order == Choice::Conflict {
@@ -174,7 +170,7 @@ fn output_of(
     })
 }
 
-// Returns the output for a merge of these versions by units.
+// Returns the output for a merge of these versions by units. `originals` are the versions before their entries were merged by fields.
 fn output_by_units<'v, 's>(
     alloc: Global,
     file: &str,
@@ -182,15 +178,17 @@ fn output_by_units<'v, 's>(
     base: &'v Version<'s>,
     ours: &'v Version<'s>,
     theirs: &'v Version<'s>,
+    originals: Versions<'_, '_>,
     markers: Markers<'_>,
 ) -> Result<Output, AllocError>
     ensures text { IfOk result (λ o. string_bytes o.text ≡ merged_text (marker_lines markers.entry)
-        (record { base = base.now; ours = ours.now; theirs = theirs.now })) }
-    ensures conflict { IfOk result (λ o. o.has_conflict
-        ≡ spec.has_conflict (record { base = base.now; ours = ours.now; theirs = theirs.now })) }
+        (record { base = base.now; ours = ours.now; theirs = theirs.now })
+        (kept_slots (record { base = base.now; ours = ours.now; theirs = theirs.now }) (versions_of originals.entry))) }
+    ensures conflict { IfOk result (λ o. o.has_conflict ≡ spec.has_conflict
+        (kept_slots (record { base = base.now; ours = ours.now; theirs = theirs.now }) (versions_of originals.entry))) }
 {
     let versions = Versions { base, ours, theirs };
-    let merged = merge(alloc, versions, markers)?;
+    let merged = merge(alloc, versions, originals, markers)?;
     output_of(alloc, file, marker, versions, merged)
 }
 
@@ -204,7 +202,7 @@ fn output_by_fields(
     markers: Markers<'_>,
 ) -> Result<Option<Output>, AllocError>
     ensures { IfOk result (λ found. MatchOption found (IsRefusedMerge (versions_of versions.entry))
-        (λ o. IsMergedFile (marker_lines markers.entry) (versions_of versions.entry) (string_bytes o.text) o.has_conflict)) }
+        (λ o. IsMergeByFields (marker_lines markers.entry) (versions_of versions.entry) (string_bytes o.text) o.has_conflict)) }
 {
     let our_text = with_merged_entries(alloc, versions, Side::Ours)?;
     let their_text = with_merged_entries(alloc, versions, Side::Theirs)?;
@@ -214,13 +212,51 @@ fn output_by_fields(
     let Some(theirs) = version_of(alloc, &their_text)? else {
         return Ok(None);
     };
-    let output = output_by_units(alloc, file, marker, versions.base, &ours, &theirs, markers)?;
+    let base = versions.base;
+    let output = output_by_units(alloc, file, marker, base, &ours, &theirs, versions, markers)?;
     Ok(Some(output))
 }
 
-/// Merges three versions of the file `file`. The units of the file are merged one by one. An entry that both sides changed is merged by its
-/// fields. `markers` are the lines around conflicts, and `marker` is the first of them as `str::lines` returns it. Returns an error only if
-/// out of memory.
+// Returns the output for versions after the renames. Entries that both sides changed are merged by their fields.
+fn output_of_renamed(
+    alloc: Global,
+    file: &str,
+    marker: &str,
+    versions: Versions<'_, '_>,
+    markers: Markers<'_>,
+) -> Result<Output, AllocError>
+    ensures { IfOk result (λ o. IsMergeByFields (marker_lines markers.entry) (versions_of versions.entry) (string_bytes o.text) o.has_conflict) }
+{
+    let merged = merge(alloc, versions, versions, markers)?;
+    if !is_changed_twice(versions, &merged.slots) {
+        return output_of(alloc, file, marker, versions, merged);
+    }
+    match output_by_fields(alloc, file, marker, versions, markers)? {
+        Some(output) => Ok(output),
+        None => output_of(alloc, file, marker, versions, merged),
+    }
+}
+
+// Returns the output for these versions after the renames.
+fn output_of_versions<'v, 's>(
+    alloc: Global,
+    file: &str,
+    marker: &str,
+    base: &'v Version<'s>,
+    ours: &'v Version<'s>,
+    theirs: &'v Version<'s>,
+    markers: Markers<'_>,
+) -> Result<Output, AllocError>
+    ensures { IfOk result (λ o. IsMergeByFields (marker_lines markers.entry) (record { base = base.now; ours = ours.now; theirs = theirs.now })
+        (string_bytes o.text) o.has_conflict) }
+{
+    let versions = Versions { base, ours, theirs };
+    output_of_renamed(alloc, file, marker, versions, markers)
+}
+
+/// Merges three versions of the file `file`. An entry that one side renamed gets its new key in all versions, and so do the references to it.
+/// Then the units of the file are merged one by one. An entry that both sides changed is merged by its fields. `markers` are the lines around
+/// conflicts, and `marker` is the first of them as `str::lines` returns it. Returns an error only if out of memory.
 pub fn merge_file(
     alloc: Global,
     file: &str,
@@ -230,12 +266,18 @@ pub fn merge_file(
 ) -> Result<Output, AllocError>
     ensures { IfOk result (λ o. IsMergedFile (marker_lines markers.entry) (versions_of versions.entry) (string_bytes o.text) o.has_conflict) }
 {
-    let merged = merge(alloc, versions, markers)?;
-    if !is_changed_twice(versions, &merged.slots) {
-        return output_of(alloc, file, marker, versions, merged);
-    }
-    match output_by_fields(alloc, file, marker, versions, markers)? {
-        Some(output) => Ok(output),
-        None => output_of(alloc, file, marker, versions, merged),
-    }
+    let texts = renamed_texts(alloc, versions)?;
+    let base = new_version(alloc, &texts.base)?;
+    let ours = new_version(alloc, &texts.ours)?;
+    let theirs = new_version(alloc, &texts.theirs)?;
+    let Some(base) = base.or_old(versions.base) else {
+        return output_of_renamed(alloc, file, marker, versions, markers);
+    };
+    let Some(ours) = ours.or_old(versions.ours) else {
+        return output_of_renamed(alloc, file, marker, versions, markers);
+    };
+    let Some(theirs) = theirs.or_old(versions.theirs) else {
+        return output_of_renamed(alloc, file, marker, versions, markers);
+    };
+    output_of_versions(alloc, file, marker, base, ours, theirs, markers)
 }

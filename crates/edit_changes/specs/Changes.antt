@@ -1,6 +1,6 @@
 -- Meaning: words of public contracts.
 -- The changes from one version of a file to another one.
-use Rattle.std.specs.Prelude.{◌||◌, ℕ, Bool, true, false, List, [], ◌∷◌, ◌++◌, Option, Some, None, bytes_eq, cond, filter, is_some, slice_get}
+use Rattle.std.specs.Prelude.{◌||◌, ℕ, Bool, true, false, List, [], ◌∷◌, ◌++◌, Option, Some, None, bytes_eq, cond, filter, is_some, map, slice_get}
 use Rattle.std.specs.Cmp.Lexicographic.{pointwise}
 use Rattle.std.specs.List.{enumerate_from, flat_map}
 use Rattle.bib_queries.specs.EqualValues.{are_equal_texts}
@@ -81,6 +81,10 @@ renamed_to v w i = renamed_index (lone_contents v w) (lone_contents w v) (slice_
 -- the index in the old version of the entry that the unit at an index of the new version was renamed from, if there is one
 abbrev pub renamed_from : VersionReading → VersionReading → ℕ → Option ℕ
 renamed_from v w j = renamed_index (lone_contents w v) (lone_contents v w) (slice_get (lone_contents w v) j)
+
+-- for each unit of the old version, the index in the new version of the entry that it was renamed to, if there is one
+abbrev pub renamed_indices : VersionReading → VersionReading → List (Option ℕ)
+renamed_indices v w = map (λ x. renamed_to v w x.0) (enumerate_from 0 (version_names v))
 
 -- the change at a unit of the old version, given its index and name: it is removed, unless the new version has the name or the unit was
 -- renamed

@@ -4,6 +4,7 @@ ghost use Rattle.std.specs.Prelude.{◌≡◌, ◌==◌, ◌++◌, IfOk, OnOk, b
 ghost use Rattle.std.specs.List.{flat_map};
 ghost use Rattle.bib_syntax.specs.Views.{entry_reading_of, field_of, piece_of};
 ghost use Rattle.edit_units.specs.Views.{unit_reading_of};
+ghost use Rattle.edit_changes.specs.Changes as changes;
 ghost use Rattle.edit_changes.specs.Renames as spec;
 ghost use Rattle.edit_changes.specs.Counts.{AreCounts};
 
@@ -214,4 +215,23 @@ impl LoneContents {
             None => None,
         }
     }
+}
+
+/// Returns for each unit of an old version the index in the new version of the entry that it was renamed to, if there is one. Returns an
+/// error only if out of memory.
+pub fn renamed_indices(
+    alloc: Global,
+    old: &Version<'_>,
+    new: &Version<'_>,
+) -> Result<Vec<Option<usize>>, AllocError>
+    ensures { IfOk result (λ indices. indices.items ≡ changes.renamed_indices old.now new.now) }
+{
+    let old_contents = LoneContents::of(alloc, old, new)?;
+    let new_contents = LoneContents::of(alloc, new, old)?;
+    let mut indices = Vec::new(alloc);
+    let names = old.names();
+    'names: for (index, _name) in names.iter().enumerate() {
+        indices.push(old_contents.renamed_index(&new_contents, index))?;
+    }
+    Ok(indices)
 }

@@ -1,5 +1,5 @@
 -- The field with a name in the merged entry is that of the side that counts.
-use Rattle.std.proofs.Common.{◌≡◌, ℕ, Bool, true, false, cond, not, List, [], ◌∷◌, filter, refl, sym, ap, ◌∙◌, subst, Option, Some, None}
+use Rattle.std.proofs.Common.{◌≡◌, ℕ, Bool, true, false, cond, not, List, [], ◌∷◌, filter, refl, sym, ap, ap₂, ◌∙◌, subst, Option, Some, None}
 use Rattle.std.specs.Prelude.{◌&&◌, ◌||◌, bytes_eq, is_some, unwrap_or}
 use Rattle.std.specs.List.{find, flat_map, list_any}
 use Rattle.std.specs.Option.{option_or}
@@ -12,7 +12,7 @@ use Rattle.bib_syntax.specs.Grammar.{is_word}
 use Rattle.bib_syntax.specs.Reading.{FieldReading, Piece}
 use Rattle.bib_syntax.specs.Reading.Piece.{abbreviation, literal}
 use Rattle.edit_entries.specs.Documents.{has_name}
-use Rattle.edit_entry_merge.specs.Choices.{are_different_sides, are_equal_fields, choice, counting_side, has_field_named, takes_other}
+use Rattle.edit_entry_merge.specs.Choices.{are_different_sides, are_equal_fields, choice, counting_side, has_field_named, is_modification_time, modification_times, only_text, side_by_texts, takes_other}
 use Rattle.edit_entry_merge.specs.Picks.{FieldPick, additions, field_merged, is_added, merged_fields, pick, pick_instead}
 use Rattle.edit_entry_merge.specs.Versions.{EntryVersions, Version, are_found_by_name, base_named, have_distinct_names, named}
 use Rattle.edit_entry_merge.specs.declared.choices.Side.{Side}
@@ -241,21 +241,29 @@ module _ (takes : List ℕ → Bool) (main other : Version) (name : List ℕ)
 
 -- ---- versions
 
+-- a name in another ASCII case is the same words
+words_same : (one other : List ℕ) → lower one ≡ lower other → (words : List (List ℕ)) → list_any (is_word one) words
+    ≡ list_any (is_word other) words
+words_same one other same [] = refl
+words_same one other same (w ∷ words) =
+    ap₂ (λ a b. a || b) (ap (λ l. bytes_eq l (lower w)) same) (words_same one other same words)
+
+-- the choice, given whether the field has a modification time, and the fields of the three versions
+abbrev choice_of : Bool → Option FieldReading → Option FieldReading → Option FieldReading → Option Side
+choice_of is_time b o t =
+    option_or (counting_side (are_equal_fields t b) (are_equal_fields o b) (are_equal_fields t o))
+    (cond is_time (side_by_texts (only_text o) (only_text t)) None)
+
 -- the choice for a name is the same in any ASCII case
 choice_same : (vs : EntryVersions) (one other : List ℕ) → lower one ≡ lower other → choice vs one ≡ choice vs other
 choice_same vs one other same =
-    ap
-    (λ t.
-    counting_side (are_equal_fields t (base_named one vs.base)) (are_equal_fields (named one vs.ours) (base_named one vs.base))
-    (are_equal_fields t (named one vs.ours))) (find_same one other same vs.theirs.entry.fields)
-    ∙ ap
-    (λ o.
-    counting_side (are_equal_fields (named other vs.theirs) (base_named one vs.base)) (are_equal_fields o (base_named one vs.base))
-    (are_equal_fields (named other vs.theirs) o)) (find_same one other same vs.ours.entry.fields)
-    ∙ ap
-    (λ b.
-    counting_side (are_equal_fields (named other vs.theirs) b) (are_equal_fields (named other vs.ours) b)
-    (are_equal_fields (named other vs.theirs) (named other vs.ours))) (base_same vs.base)
+    ap (λ t. choice_of (is_modification_time one) (base_named one vs.base) (named one vs.ours) t)
+    (find_same one other same vs.theirs.entry.fields)
+    ∙ ap (λ o. choice_of (is_modification_time one) (base_named one vs.base) o (named other vs.theirs))
+    (find_same one other same vs.ours.entry.fields)
+    ∙ ap (λ b. choice_of (is_modification_time one) b (named other vs.ours) (named other vs.theirs)) (base_same vs.base)
+    ∙ ap (λ is. choice_of is (base_named other vs.base) (named other vs.ours) (named other vs.theirs))
+    (words_same one other same modification_times)
   where
     base_same : (base : Option Version) → base_named one base ≡ base_named other base
     base_same None = refl

@@ -4,6 +4,7 @@ mod CopiedFacts
 mod CopyFacts
 mod CountFacts
 mod EditsFacts
+mod ExchangeFacts
 mod LineFacts
 mod MergeFacts
 mod MixedFacts

@@ -2,12 +2,13 @@
 use Rattle.std.proofs.Common.{◌≡◌, ℕ, Bool, true, false, cond, not, List, [], ◌∷◌, filter, map, refl, sym, ap, ◌∙◌, Option, Some, None}
 use Rattle.std.specs.Prelude.{◌&&◌, ◌||◌, is_some, option_and_then, option_map, unwrap_or}
 use Rattle.std.specs.List.{list_all, list_any}
+use Rattle.std.specs.Option.{option_or}
 use Rattle.bib_text.proofs.ListFacts.{some_same}
 use Rattle.bib_syntax.specs.Reading.{EntryReading, FieldReading}
 use Rattle.edit_entries.specs.Changes.{FieldChange, edits_of_fields}
 use Rattle.edit_entries.specs.Documents.{Document}
 use Rattle.edit_entries.specs.Edits.{edited_all}
-use Rattle.edit_entry_merge.specs.Choices.{AreSameByName, are_different_sides, are_equal_fields, choice, counting_side, has_field_named, is_conflict, fields_of_sides, takes_other}
+use Rattle.edit_entry_merge.specs.Choices.{AreSameByName, are_different_sides, are_equal_fields, choice, counting_side, has_field_named, is_conflict, fields_of_sides, takes_other, time_choice}
 use Rattle.edit_entry_merge.specs.Frames.{are_alike_frames, are_same_frames, frame_choice}
 use Rattle.edit_entry_merge.specs.Merges.{MergeReading, entry_merge, text_for}
 use Rattle.edit_entry_merge.specs.Mixed.{can_write, mixed_field_changes, has_inner_comment, last_changes, mixed_text, picked_change}
@@ -89,7 +90,8 @@ module _ (b o t : Version) (same : AreSameByName t b) where
   ours_counts name =
       ap
       (λ is.
-      counting_side is (are_equal_fields (named name o) (named name b)) (are_equal_fields (named name t) (named name o))) (same name)
+      option_or (counting_side is (are_equal_fields (named name o) (named name b)) (are_equal_fields (named name t) (named name o)))
+      (time_choice name (named name o) (named name t))) (same name)
 
   nothing_taken : (prefer : Side) (name : List ℕ) → takes_other (record { base = Some b; ours = o; theirs = t }) Ours prefer name ≡ false
   nothing_taken prefer name = ap (λ c. are_different_sides Ours (unwrap_or c prefer)) (ours_counts name)

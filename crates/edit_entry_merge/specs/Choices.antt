@@ -1,8 +1,14 @@
 -- Meaning: words of public contracts.
 -- Which side a merge chooses. A part of an entry has a value in the base and in each of the two sides; its absence is a value, too.
-use Rattle.std.specs.Prelude.{◌≡◌, ℕ, Bool, true, false, not, cond, is_some, List, ◌++◌, filter, map, Option, Some, None, unwrap_or}
+use Rattle.std.specs.Prelude.{◌≡◌, ℕ, Bool, true, false, not, cond, codes, is_some, List, [], ◌∷◌, ◌++◌, filter, map, Option, Some, None, option_and_then, option_map, unwrap_or}
+use Rattle.std.specs.Cmp.Lexicographic.{slice_cmp}
+use Rattle.std.specs.List.{list_any}
+use Rattle.std.specs.Option.{option_or}
+use Rattle.std.specs.Ordering.{is_gt, nat_cmp}
 use Rattle.bib_queries.specs.EqualValues.{are_equal_pieces}
-use Rattle.bib_syntax.specs.Reading.{FieldReading}
+use Rattle.bib_syntax.specs.Grammar.{is_word}
+use Rattle.bib_syntax.specs.Reading.{FieldReading, Piece}
+use Rattle.bib_syntax.specs.Reading.Piece.{literal}
 use Rattle.edit_entry_merge.specs.Versions.{Version, EntryVersions, base_named, named}
 use Rattle.edit_entry_merge.specs.declared.choices.Side.{Side}
 use Rattle.edit_entry_merge.specs.declared.choices.Side.TheVariants.{Ours, Theirs}
@@ -20,18 +26,59 @@ are_equal_fields None (Some g) = false
 are_equal_fields (Some f) None = false
 are_equal_fields (Some f) (Some g) = are_equal_pieces f.value.pieces g.value.pieces
 
--- the side that counts for the field with a name
+-- ---- modification times
+
+-- the names of the fields in which programs write the time of the last change of an entry: JabRef writes `modificationdate`, earlier
+-- versions of JabRef wrote `timestamp`, and BibDesk writes `date-modified`
+abbrev pub modification_times : List (List ℕ)
+modification_times = codes "modificationdate" ∷ codes "timestamp" ∷ codes "date-modified" ∷ []
+
+-- whether a field with this name has the time of the last change of its entry; the name may be in any ASCII case
+abbrev pub is_modification_time : List ℕ → Bool
+is_modification_time name = list_any (is_word name) modification_times
+
+-- the text of a value that is one literal
+abbrev pub only_literal : List Piece → Option (List ℕ)
+only_literal (literal p ∷ []) = Some p.text
+only_literal _ = None
+
+-- the text of a field whose value is one literal
+abbrev pub only_text : Option FieldReading → Option (List ℕ)
+only_text field = option_and_then (λ f. only_literal f.value.pieces) field
+
+-- the side with the greater text, compared byte by byte; ours if the texts are equal
+abbrev pub greater_side : List ℕ → List ℕ → Side
+greater_side ours theirs = cond (is_gt (slice_cmp nat_cmp theirs ours)) Theirs Ours
+
+-- the side with the greater text, if both have one
+abbrev pub side_by_texts : Option (List ℕ) → Option (List ℕ) → Option Side
+side_by_texts ours theirs = option_and_then (λ o. option_map (λ t. greater_side o t) theirs) ours
+
+-- The side that counts for a modification time, given its name and the fields of both sides: the one with the greater text. That is
+-- usually the later time. There is none for a field with another name, and if a side has no field or one whose value isn't one literal
+abbrev pub time_choice : List ℕ → Option FieldReading → Option FieldReading → Option Side
+time_choice name ours theirs = cond (is_modification_time name) (side_by_texts (only_text ours) (only_text theirs)) None
+
+-- ---- fields
+
+-- the side that counts for the field with a name. If both sides changed the field differently, only `time_choice` can give one
 abbrev pub choice : EntryVersions → List ℕ → Option Side
 choice vs name =
-    counting_side (are_equal_fields (named name vs.theirs) (base_named name vs.base))
+    option_or
+    (counting_side (are_equal_fields (named name vs.theirs) (base_named name vs.base))
     (are_equal_fields (named name vs.ours) (base_named name vs.base))
-    (are_equal_fields (named name vs.theirs) (named name vs.ours))
+    (are_equal_fields (named name vs.theirs) (named name vs.ours)))
+    (time_choice name (named name vs.ours) (named name vs.theirs))
+
+-- the versions with the sides exchanged
+abbrev pub with_exchanged_sides : EntryVersions → EntryVersions
+with_exchanged_sides vs = record { base = vs.base; ours = vs.theirs; theirs = vs.ours }
 
 -- two versions have equal values for each name, or both have none
 abbrev pub AreSameByName : Version → Version → Type 0
 AreSameByName v w = (name : List ℕ) → are_equal_fields (named name v) (named name w) ≡ true
 
--- whether both sides changed the field with a name, and differently
+-- whether the field with a name conflicts: no side counts for it
 abbrev pub is_conflict : EntryVersions → List ℕ → Bool
 is_conflict vs name = not (is_some (choice vs name))
 

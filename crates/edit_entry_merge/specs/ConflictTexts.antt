@@ -55,7 +55,7 @@ pub record AreConflictParts (ours theirs : List (List ℕ)) (p : ConflictParts) 
   pub start_is_longest : begin_with_same (p.ours ++ p.end) (p.theirs ++ p.end) ≡ false
   pub end_is_longest : end_alike p.ours p.theirs ≡ false
 
--- the lines in which two texts differ, between marker lines; none if they don't differ
+-- the lines in which ours and theirs differ, with marker lines before, between and after them; no lines if both are empty
 abbrev pub between_markers : MarkerLines → List (List ℕ) → List (List ℕ) → List (List ℕ)
 between_markers m [] [] = []
 between_markers m [] (t ∷ theirs) = m.ours ∷ m.middle ∷ (t ∷ theirs) ++ m.theirs ∷ []

@@ -1,6 +1,6 @@
 -- Meaning: words of public contracts.
--- The frame of an entry: the text around the entry, and its type, key and comments. It is compared without the white space and the commas
--- between the fields.
+-- The frame of a version is its text outside of the fields: the text around the entry, its type, its key and the comments in it. Frames are
+-- compared without the white space and the commas between the fields.
 use Rattle.std.specs.Prelude.{◌==◌, ◌&&◌, ◌||◌, not, ℕ, Bool, true, false, cond, length, List, [], ◌∷◌, ◌++◌, Option, Some, None, bytes_eq}
 use Rattle.std.specs.Char.{is_ascii_whitespace}
 use Rattle.bib_text.specs.Characters as char

@@ -11,9 +11,8 @@ use Rattle.edit_entry_merge.specs.Versions.{Version, EntryVersions, entry_versio
 use Rattle.edit_entry_merge.specs.declared.choices.Side.{Side}
 use Rattle.edit_entry_merge.specs.declared.choices.Side.TheVariants.{Ours, Theirs}
 
--- The merge of an entry: it isn't merged by fields, or it has one text, or fields conflict. Then there are two texts, with the values of
--- ours
--- and of theirs for the fields with these names
+-- The merge of an entry: it isn't merged by fields, or it has one text, or the fields with these names conflict. Then there are two texts:
+-- the first has the values of ours for these fields, and the second those of theirs
 pub data MergeReading : Type 0 where
   whole : MergeReading
   merged : List ℕ → MergeReading

@@ -26,6 +26,10 @@ use Rattle.edit_entry_merge.specs.declared.versions.Versions.{Versions}
 abbrev pub lent_field : Option (Bor Pair) → Option FieldReading
 lent_field found = option_map (λ f. field_of f.now) found
 
+-- the text that is borrowed, if there is one
+abbrev pub borrowed_text : Option (Bor (List ℕ)) → Option (List ℕ)
+borrowed_text found = option_map (λ t. t.now) found
+
 -- the fields that are added
 abbrev pub added_fields : List Addition → List FieldReading
 added_fields added = map (λ a. field_of a.field.now) added

@@ -5,6 +5,7 @@ ghost use Rattle.bib_syntax.specs.Views.{field_of};
 ghost use Rattle.edit_entry_merge.specs.Choices as spec;
 ghost use Rattle.edit_entry_merge.specs.Working.{AreIndexed, conflicts_of, lent_field, other_conflicts_of, versions_reading};
 
+use crate::modification_times::time_choice;
 use crate::versions::Versions;
 use bib_queries::equal_values::are_equal_pieces;
 use bib_syntax::raw::Pair;
@@ -85,11 +86,12 @@ impl<'a, 's> Versions<'a, 's> {
         let base = self.base_field(alloc, name)?;
         let ours = self.ours.field(alloc, name)?;
         let theirs = self.theirs.field(alloc, name)?;
-        Ok(choose(
+        let changed = choose(
             are_equal_fields(alloc, theirs, base)?,
             are_equal_fields(alloc, ours, base)?,
             are_equal_fields(alloc, theirs, ours)?,
-        ))
+        );
+        Ok(changed.or(time_choice(name, ours, theirs)))
     }
 
     // Returns whether a side other than `main` counts for the field with a name, if a conflict is resolved to `prefer`.

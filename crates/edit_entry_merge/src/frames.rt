@@ -1,4 +1,4 @@
-//! The frame of an entry: the text around the entry, and its type, key and comments.
+//! The frame of a version, and the side whose frame counts.
 
 ghost use Rattle.std.specs.Prelude.{◌≡◌, ◌++◌, false, IfOk, OnOk, map};
 ghost use Rattle.bib_syntax.specs.Views.{field_of};

@@ -1,6 +1,6 @@
 //! Laws of merges. These functions have no code: their clauses are theorems about definitions.
 
-ghost use Rattle.std.specs.Prelude.{◌≡◌, ◌++◌, ℕ, Bool, List, Option, Some, true, unwrap_or};
+ghost use Rattle.std.specs.Prelude.{◌≡◌, ◌++◌, ℕ, Bool, List, Option, Some, false, option_map, true, unwrap_or};
 ghost use Rattle.std.specs.List.{find};
 ghost use Rattle.std.specs.Str.{IsUtf8};
 ghost use Rattle.edit_entries.specs.Changes.{IsReadPlaceless};
@@ -10,7 +10,7 @@ ghost use Rattle.edit_entry_merge.specs.Frames.{are_same_frames};
 ghost use Rattle.edit_entry_merge.specs.Merges.{MergeReading, entry_merge, merged_reading};
 ghost use Rattle.edit_entry_merge.specs.Mixed.{mixed_text};
 ghost use Rattle.edit_entry_merge.specs.Picks.{merged_fields};
-ghost use Rattle.edit_entry_merge.specs.Choices.{AreSameByName, are_equal_fields, choice, other_side, takes_other, version_at};
+ghost use Rattle.edit_entry_merge.specs.Choices.{AreSameByName, are_equal_fields, choice, other_side, takes_other, version_at, with_exchanged_sides};
 ghost use Rattle.edit_entry_merge.specs.Versions.{EntryVersions, Version, are_found_by_name, named, version_of};
 ghost use Rattle.edit_entry_merge.specs.declared.choices.Side.{Side};
 
@@ -29,6 +29,13 @@ pub fn merged_fields_are_those_that_count()
         (find (has_name name)
         (merged_fields (takes_other vs main prefer) (version_at vs main) (version_at vs (other_side main))))
         (named name (version_at vs (unwrap_or (choice vs name) prefer))) ≡ true }
+{}
+
+/// States that the other side counts for the field with a name if the sides are exchanged, unless they have equal values for it. If it
+/// conflicts, it conflicts then, too.
+pub fn sides_can_be_exchanged()
+    ensures { (vs : EntryVersions) (name : List ℕ) → are_equal_fields (named name vs.theirs) (named name vs.ours) ≡ false →
+        choice (with_exchanged_sides vs) name ≡ option_map other_side (choice vs name) }
 {}
 
 /// States that the merge is the text of ours, byte for byte, if theirs has the values and the frame of the base.

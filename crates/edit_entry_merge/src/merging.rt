@@ -34,9 +34,14 @@ pub enum EntryMerge {
 /// `"1984"` and `1984` are equal. Absence is a value, too. If one side has the value of the base, the value of the other side counts. If
 /// both sides have equal values, ours counts. Otherwise the field conflicts.
 ///
-/// **Frame.** The text around the entry, its type, its key and the comments in it are compared in the same way, without the white space and
-/// the commas between the fields. The text of the side whose frame counts is edited. If both sides have the frame of the base, the layout
-/// of ours counts, unless only theirs changed the bytes before the first field.
+/// **Modification times.** Some programs write the time of the last change of an entry into a field. JabRef writes `modificationdate`,
+/// earlier versions of JabRef wrote `timestamp`, and BibDesk writes `date-modified`. If both sides changed such a field differently, and
+/// each value is one literal, the side with the greater text counts, compared byte by byte.
+///
+/// **Frame.** The frame of a version is its text outside of the fields: the text around the entry, its type, its key and the comments in
+/// it. The side whose frame counts is chosen like that of a value. Frames are compared without the white space and the commas between the
+/// fields. The text of the side whose frame counts is edited. If both sides have the frame of the base, the layout of ours counts, unless
+/// only theirs changed the bytes before the first field.
 ///
 /// **Text.** A field of that side keeps its bytes if an equal value counts. Otherwise it gets the bytes of the other side's value, or is
 /// removed. Fields that only the other side has are added after the last field, in the layout of that field.

@@ -12,7 +12,7 @@ use Rattle.edit_versions.specs.Versions.{VersionReading, end_of, texts_at, versi
 use Rattle.edit_merge.specs.Clean.{HaveUnits, IsClean, IsPicked, contents_together, merged_content, picked_content, unit_content}
 use Rattle.edit_entry_merge.specs.ConflictTexts.{MarkerLines}
 use Rattle.edit_merge.specs.Merged.{MergedPart, end_behind, has_feed, is_same_space, is_text_slot, merged_blank, merged_end, merged_start, merged_text, part_with, picked_space, slot_parts, slot_space, slot_text, space_at, space_between, start_of, text_behind, text_of_merge}
-use Rattle.edit_merge.specs.Picked.{Versions, slots}
+use Rattle.edit_merge.specs.Picked.{Versions}
 use Rattle.edit_merge.specs.declared.picking.Choice.{Choice}
 use Rattle.edit_merge.specs.declared.picking.Choice.TheVariants.{Ours, Theirs, Conflict}
 use Rattle.edit_merge.specs.declared.slots.Slot.{Slot}
@@ -170,7 +170,12 @@ part_read : (space : List ℕ) (is_text : Bool) {u : Option UnitReading} {t : Op
 part_read space is_text ends IsReadAt.absent = ArePartsRead.none
 part_read space is_text ends (IsReadAt.there read) = ArePartsRead.some (record { space = ends; text = read }) ArePartsRead.none
 
-slot_read : (markers : MarkerLines) (vs : Versions) (s : Slot) → HaveUnits vs → IsPicked s.choice
+-- both sides have the units of their texts
+pub record HaveSides (vs : Versions) : Type 0 where
+  pub ours : AreUnits vs.ours.text vs.ours.units
+  pub theirs : AreUnits vs.theirs.text vs.theirs.units
+
+slot_read : (markers : MarkerLines) (vs : Versions) (s : Slot) → HaveSides vs → IsPicked s.choice
     → ArePartsRead (slot_parts markers vs s) (picked_content vs s s.choice)
 slot_read markers vs s have picked = by s.choice picked
   where
@@ -186,7 +191,7 @@ slot_read markers vs s have picked = by s.choice picked
     by Theirs picked = part_read (slot_space vs s) (is_text_slot vs s) space (unit_read vs.theirs s.theirs have.theirs)
     by Conflict picked = absurd picked
 
-slots_read : (markers : MarkerLines) (vs : Versions) (ss : List Slot) → HaveUnits vs → AllByRecursion (λ s. IsPicked s.choice) ss
+slots_read : (markers : MarkerLines) (vs : Versions) (ss : List Slot) → HaveSides vs → AllByRecursion (λ s. IsPicked s.choice) ss
     → ArePartsRead (flat_map (slot_parts markers vs) ss) (flat_map (λ s. picked_content vs s s.choice) ss)
 slots_read markers vs [] have all = ArePartsRead.none
 slots_read markers vs (s ∷ ss) have all = parts_append (slot_read markers vs s have all.0) (slots_read markers vs ss have all.1)
@@ -243,12 +248,17 @@ picked_white : (same : Bool) (ours theirs : List ℕ) → IsWhite ours → IsWhi
 picked_white true ours theirs wo wt = wt
 picked_white false ours theirs wo wt = wo
 
-pub clean_merges_are_read : (markers : MarkerLines) (vs : Versions) → HaveUnits vs → IsClean vs
-    → IsReadPlaceless (merged_content vs) (merged_text markers vs)
-clean_merges_are_read markers vs have clean =
+pub clean_sides_are_read : (markers : MarkerLines) (vs : Versions) (ss : List Slot) → HaveSides vs → IsClean ss
+    → IsReadPlaceless (merged_content vs ss) (merged_text markers vs ss)
+clean_sides_are_read markers vs ss have clean =
     text_read vs
     (or_empty (picked_has IsWhite (start_of vs.base) (version_read vs.ours have.ours).start (version_read vs.theirs have.theirs).start))
     (or_no_end (picked_has IsFileEnd (end_behind vs.base) (end_there vs.ours have.ours) (end_there vs.theirs have.theirs)))
     (picked_white (bytes_eq (end_of vs.ours) (end_of vs.base)) (end_of vs.ours) (end_of vs.theirs) (end_white vs.ours have.ours)
     (end_white vs.theirs have.theirs))
-    (slots_read markers vs (slots vs) have clean)
+    (slots_read markers vs ss have clean)
+
+pub clean_merges_are_read : (markers : MarkerLines) (vs : Versions) (ss : List Slot) → HaveUnits vs → IsClean ss
+    → IsReadPlaceless (merged_content vs ss) (merged_text markers vs ss)
+clean_merges_are_read markers vs ss have clean =
+    clean_sides_are_read markers vs ss (record { ours = have.ours; theirs = have.theirs }) clean

@@ -1,10 +1,17 @@
 pub mod CleanFacts
+pub mod ContentFacts
 pub mod EntryFacts
 pub mod ExchangedFacts
 pub mod GroupFacts
+pub mod KeptFacts
 pub mod LostFacts
+pub mod NameSetFacts
+pub mod OnceFacts
 pub mod OrderFacts
 pub mod PickedFacts
+pub mod PlaceFacts
+pub mod RenameFacts
+pub mod RenameLawFacts
 pub mod SideFacts
 pub mod UnchangedFacts
 pub mod WovenFacts

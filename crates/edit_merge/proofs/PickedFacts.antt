@@ -8,12 +8,12 @@ use Rattle.edit_versions.proofs.IndexFacts.{IsAmong, names_lead_to_units}
 use Rattle.edit_versions.specs.Versions.{VersionReading, has_unit_named, named_index, own_name, texts_at, unique_names, version_names, version_texts, version_unit}
 use Rattle.edit_entry_merge.specs.ConflictTexts.{MarkerLines}
 use Rattle.edit_merge.specs.Merged.{MergedPart, is_text_slot, merged_text, part_with, slot_parts, slot_space, slot_text, space_at, text_of_merge}
-use Rattle.edit_merge.specs.Picked.{Versions, order_by, order_choice, slot_of}
+use Rattle.edit_merge.specs.Picked.{Versions, order_by, order_choice, slot_of, slots}
 use Rattle.edit_merge.proofs.SideFacts.{AreMadeFor, HasSpaceOf, IsNothing, parts_are_text, parts_made}
 
 -- ---- lists of names
 
-among_at : (names : List (List ℕ)) (i : ℕ) (name : List ℕ) → slice_get names i ≡ Some name → IsAmong name names
+pub among_at : (names : List (List ℕ)) (i : ℕ) (name : List ℕ) → slice_get names i ≡ Some name → IsAmong name names
 among_at [] i name is = absurd (cc)
 among_at (n ∷ ns) zero name is = inl (let same : name ≡ n = cc in same)
 among_at (n ∷ ns) (suc i) name is = inr (among_at ns i name is)
@@ -85,7 +85,7 @@ each_made markers vs v fits from = λ i name u t named unit texts.
       };
     }
 
-names_long : (earlier owns : List (List ℕ)) → length (unique_names earlier owns) ≡ length owns
+pub names_long : (earlier owns : List (List ℕ)) → length (unique_names earlier owns) ≡ length owns
 names_long earlier [] = refl
 names_long earlier (own ∷ owns) = ap suc (names_long (earlier ++ own ∷ []) owns)
 
@@ -102,7 +102,7 @@ mapped_parts vs markers (n ∷ ns) = ap (λ l. parts_of markers vs n ++ l) (mapp
 pub picked_text : (markers : MarkerLines) (vs : Versions) (v : VersionReading) → AreUnits v.text v.units → length v.units < 2 ^ 64
     → IsPickedFrom markers vs v (version_names v) → HasSpaceOf vs v
     → flat_map (parts_of markers vs) (order_by vs (order_choice vs)) ≡ flat_map (parts_of markers vs) (version_names v)
-    → merged_text markers vs ≡ v.text
+    → merged_text markers vs (slots vs) ≡ v.text
 picked_text markers vs v are fits from spaces ordered =
     ap (text_of_merge vs) (mapped_parts vs markers (order_by vs (order_choice vs)) ∙ ordered)
     ∙ parts_are_text vs v (flat_map (parts_of markers vs) (version_names v)) are spaces

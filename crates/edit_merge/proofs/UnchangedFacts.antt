@@ -10,14 +10,17 @@ use Rattle.edit_versions.proofs.IndexFacts.{IsAmong}
 use Rattle.edit_versions.proofs.TextFacts.{text_there}
 use Rattle.edit_versions.specs.Alike.{are_alike_in_layout, are_same_texts, have_same_words, is_alike, is_same}
 use Rattle.edit_versions.specs.Versions.{VersionReading, end_of, has_unit_named, indices_of, named_index, own_part, text_of_unit, texts_at, version_names, version_unit}
-use Rattle.edit_merge.specs.Clean.{IsPicked}
+use Rattle.edit_merge.specs.Clean.{IsClean, IsPicked}
 use Rattle.edit_entry_merge.specs.ConflictTexts.{MarkerLines}
-use Rattle.edit_merge.specs.Merged.{end_behind, is_without_blocks, is_same_space, picked_space, slot_text, space_at, start_of}
-use Rattle.edit_merge.specs.Picked.{Versions, are_equal_names, choice_at, choose, group_choice, is_alike_order, is_changed_group, is_changed_name, is_repeated_in, is_same_named, order_by, order_choice, slot_of, woven}
+use Rattle.edit_merge.specs.Lost.{kept_slots}
+use Rattle.edit_merge.specs.Merged.{end_behind, is_without_blocks, is_same_space, merged_text, picked_space, slot_text, space_at, start_of}
+use Rattle.edit_merge.specs.Picked.{Versions, are_equal_names, choice_at, choose, group_choice, is_alike_order, is_changed_group, is_changed_name, is_repeated_in, is_same_named, order_by, order_choice, slot_of, slots, woven}
 use Rattle.edit_merge.specs.Unchanged.{IsMerge}
 use Rattle.edit_merge.specs.declared.slots.Slot.{Slot}
 use Rattle.edit_merge.specs.declared.picking.Choice.{Choice}
 use Rattle.edit_merge.specs.declared.picking.Choice.TheVariants.{Ours, Theirs, Conflict}
+use Rattle.edit_merge.proofs.CleanFacts.{HaveSides}
+use Rattle.edit_merge.proofs.ContentFacts.{ours_loses_nothing, theirs_loses_nothing}
 use Rattle.edit_merge.proofs.PickedFacts.{IsPickedFrom, neither, none_among, nothing_picked, parts_of, picked_text}
 use Rattle.edit_merge.proofs.SideFacts.{HasSpaceOf, IsNothing, woven_parts}
 
@@ -83,6 +86,15 @@ all_picked : (vs : Versions) (names : List (List ℕ)) → ((name : List ℕ) �
     → AllByRecursion (λ s. IsPicked s.choice) (map (slot_of vs) names)
 all_picked vs [] each = _
 all_picked vs (n ∷ ns) each = (each n, all_picked vs ns each)
+
+-- a merge that loses no name
+merge_of : (markers : MarkerLines) (vs : Versions) {text : List ℕ} → kept_slots vs vs ≡ slots vs → merged_text markers vs (slots vs) ≡ text
+    → IsClean (slots vs) → IsPicked (order_choice vs) → IsMerge markers vs text
+merge_of markers vs kept is clean ordered = record {
+  text_is = ap (merged_text markers vs) kept ∙ is;
+  clean = subst IsClean (sym kept) clean;
+  ordered = ordered;
+}
 
 picked_by : (choice other : Choice) → choice ≡ other → IsPicked other → IsPicked choice
 picked_by choice other is picked = subst IsPicked (sym is) picked
@@ -161,19 +173,19 @@ our_space base side = record {
     by true is = sym ((bytes_eq-Decides (end_of side) (end_of base)).0 is)
     by false is = refl
 
-pub unchanged_theirs_gives_ours : (markers : MarkerLines) (base side : VersionReading) → AreUnits side.text side.units
-    → length side.units < 2 ^ 64 → IsMerge markers (theirs_unchanged base side) side.text
-unchanged_theirs_gives_ours markers base side are fits =
+pub unchanged_theirs_gives_ours : (markers : MarkerLines) (base side : VersionReading) → AreUnits base.text base.units
+    → AreUnits side.text side.units → length side.units < 2 ^ 64 → IsMerge markers (theirs_unchanged base side) side.text
+unchanged_theirs_gives_ours markers base side are_base are fits =
     let vs = theirs_unchanged base side in
-    record {
-      text_is = picked_text markers vs side are fits (ours_picked markers base side (version_names side)) (our_space base side)
-          (ap (λ c. flat_map (parts_of markers vs) (order_by vs c)) (our_order base side)
-          ∙ woven_parts (parts_of markers vs) side base None (version_names side)
-          (nothing_picked markers vs side (version_names base) (ours_picked markers base side (version_names base))));
-      clean = all_picked vs (order_by vs (order_choice vs)) (λ name. picked_by (slot_of vs name).choice Ours
-          (our_choice base side name) tt);
-      ordered = picked_by (order_choice vs) Ours (our_order base side) tt;
-    }
+    let text : merged_text markers vs (slots vs) ≡ side.text =
+    picked_text markers vs side are fits (ours_picked markers base side (version_names side)) (our_space base side)
+    (ap (λ c. flat_map (parts_of markers vs) (order_by vs c)) (our_order base side)
+    ∙ woven_parts (parts_of markers vs) side base None (version_names side)
+    (nothing_picked markers vs side (version_names base) (ours_picked markers base side (version_names base)))) in
+    let clean : IsClean (slots vs) =
+    all_picked vs (order_by vs (order_choice vs)) (λ name. picked_by (slot_of vs name).choice Ours (our_choice base side name) tt) in
+    merge_of markers vs (ours_loses_nothing markers vs (record { ours = are; theirs = are_base }) clean text) text clean
+    (picked_by (order_choice vs) Ours (our_order base side) tt)
 
 -- ---- we changed nothing
 
@@ -339,18 +351,19 @@ their_order_picked base side =
     (names_same (version_names base)))
     (either_picked same)
 
-pub unchanged_ours_gives_theirs : (markers : MarkerLines) (base side : VersionReading) → AreUnits side.text side.units
-    → length side.units < 2 ^ 64 → IsMerge markers (ours_unchanged base side) side.text
-unchanged_ours_gives_theirs markers base side are fits =
+pub unchanged_ours_gives_theirs : (markers : MarkerLines) (base side : VersionReading) → AreUnits base.text base.units
+    → AreUnits side.text side.units → length side.units < 2 ^ 64 → IsMerge markers (ours_unchanged base side) side.text
+unchanged_ours_gives_theirs markers base side are_base are fits =
     let vs = ours_unchanged base side in
-    record {
-      text_is = picked_text markers vs side are fits (theirs_picked markers base side (version_names side) (λ name here. inl here))
-          (their_space base side) (their_order markers base side);
-      clean = all_picked vs (order_by vs (order_choice vs)) (λ name.
-          let picked = their_choice base side name in
-          picked_by (slot_of vs name).choice (cond picked.is_ours Ours Theirs) picked.choice (either_picked picked.is_ours));
-      ordered = their_order_picked base side;
-    }
+    let text : merged_text markers vs (slots vs) ≡ side.text =
+    picked_text markers vs side are fits (theirs_picked markers base side (version_names side) (λ name here. inl here))
+    (their_space base side) (their_order markers base side) in
+    let clean : IsClean (slots vs) =
+    all_picked vs (order_by vs (order_choice vs)) (λ name.
+    let picked = their_choice base side name in
+    picked_by (slot_of vs name).choice (cond picked.is_ours Ours Theirs) picked.choice (either_picked picked.is_ours)) in
+    merge_of markers vs (theirs_loses_nothing markers vs (record { ours = are_base; theirs = are }) clean text) text clean
+    (their_order_picked base side)
 
 -- ---- both sides are equal
 
@@ -453,11 +466,12 @@ pub equal_sides_give_their_text : (markers : MarkerLines) (base side : VersionRe
     → length side.units < 2 ^ 64 → IsMerge markers (equal_sides base side) side.text
 equal_sides_give_their_text markers base side are fits =
     let vs = equal_sides base side in
-    record {
-      text_is = picked_text markers vs side are fits (equal_picked markers base side (version_names side)) (equal_space base side)
-          (ap (flat_map (parts_of markers vs)) (equal_order base side (order_choice vs))
-          ∙ woven_parts (parts_of markers vs) side side None (version_names side)
-          (nothing_picked markers vs side (version_names side) (equal_picked markers base side (version_names side))));
-      clean = all_picked vs (order_by vs (order_choice vs)) (λ name. is_picked (slot_of vs name).choice (equal_choice base side name));
-      ordered = is_picked (order_choice vs) (equal_order_choice base side);
-    }
+    let text : merged_text markers vs (slots vs) ≡ side.text =
+    picked_text markers vs side are fits (equal_picked markers base side (version_names side)) (equal_space base side)
+    (ap (flat_map (parts_of markers vs)) (equal_order base side (order_choice vs))
+    ∙ woven_parts (parts_of markers vs) side side None (version_names side)
+    (nothing_picked markers vs side (version_names side) (equal_picked markers base side (version_names side)))) in
+    let clean : IsClean (slots vs) =
+    all_picked vs (order_by vs (order_choice vs)) (λ name. is_picked (slot_of vs name).choice (equal_choice base side name)) in
+    merge_of markers vs (ours_loses_nothing markers vs (record { ours = are; theirs = are }) clean text) text clean
+    (is_picked (order_choice vs) (equal_order_choice base side))

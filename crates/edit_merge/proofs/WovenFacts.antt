@@ -27,16 +27,16 @@ among_index [] k name below is = absurd (omega (arith, below))
 among_index (n ∷ ns) zero name below is = inl (sym is)
 among_index (n ∷ ns) (suc k) name below is = inr (among_index ns k name (omega (arith, below)) is)
 
-among_contained : (names : List (List ℕ)) (name : List ℕ) → Contains names name → IsAmong name names
+pub among_contained : (names : List (List ℕ)) (name : List ℕ) → Contains names name → IsAmong name names
 among_contained names name has = among_index names has.0 name has.1 has.2
 
-contained : (names : List (List ℕ)) (name : List ℕ) → IsAmong name names → Contains names name
+pub contained : (names : List (List ℕ)) (name : List ℕ) → IsAmong name names → Contains names name
 contained [] name here = absurd here
 contained (n ∷ ns) name (inl same) = (0, omega arith, sym same)
 contained (n ∷ ns) name (inr here) =
     let rest = contained ns name here in (suc rest.0, let below : rest.0 < length ns = rest.1 in omega (arith, below), rest.2)
 
-get_dropped : (names : List (List ℕ)) (k : ℕ) (m : List ℕ) (ms : List (List ℕ)) → drop k names ≡ m ∷ ms → slice_get names k ≡ Some m
+pub get_dropped : (names : List (List ℕ)) (k : ℕ) (m : List ℕ) (ms : List (List ℕ)) → drop k names ≡ m ∷ ms → slice_get names k ≡ Some m
 get_dropped [] zero m ms is = absurd (cc)
 get_dropped [] (suc k) m ms is = absurd (cc)
 get_dropped (n ∷ ns) zero m ms is = let same : n ≡ m = cc in ap Some same

@@ -3,7 +3,7 @@
 use Rattle.std.specs.Prelude.{List, [], ◌∷◌, Option, Some, None, ⊤}
 use Rattle.std.specs.List.{AllByRecursion, flat_map}
 use Rattle.bib_syntax.specs.Reading.{FileReading, empty_reading, then}
-use Rattle.edit_merge.specs.Picked.{Versions, slots}
+use Rattle.edit_merge.specs.Picked.{Versions}
 use Rattle.edit_merge.specs.declared.picking.Choice.{Choice}
 use Rattle.edit_merge.specs.declared.picking.Choice.TheVariants.{Ours, Theirs, Conflict}
 use Rattle.edit_merge.specs.declared.slots.Slot.{Slot}
@@ -22,9 +22,9 @@ IsPicked Ours = ⊤
 IsPicked Theirs = ⊤
 IsPicked Conflict = ⊥
 
--- a merge has no conflict
-abbrev pub IsClean : Versions → Type 0
-IsClean vs = AllByRecursion (λ s. IsPicked s.choice) (slots vs)
+-- a merge with these places has no conflict
+abbrev pub IsClean : List Slot → Type 0
+IsClean ss = AllByRecursion (λ s. IsPicked s.choice) ss
 
 -- the content of a unit, if it is there
 abbrev pub unit_content : Option UnitReading → List FileReading
@@ -42,6 +42,6 @@ abbrev pub contents_together : List FileReading → FileReading
 contents_together [] = empty_reading
 contents_together (says ∷ rest) = then says (contents_together rest)
 
--- the content of a merge without a conflict: that of the picked units, in order
-abbrev pub merged_content : Versions → FileReading
-merged_content vs = contents_together (flat_map (λ s. picked_content vs s s.choice) (slots vs))
+-- the content of a merge with these places, without a conflict: that of the picked units, in order
+abbrev pub merged_content : Versions → List Slot → FileReading
+merged_content vs ss = contents_together (flat_map (λ s. picked_content vs s s.choice) ss)

@@ -1,8 +1,13 @@
 pub mod Clean
 pub mod Entries
 pub mod Groups
+pub mod Lost
 pub mod Merged
+pub mod NameSets
 pub mod PartViews
 pub mod Picked
+pub mod RenameViews
+pub mod Renames
 pub mod Unchanged
+pub mod UnitNames
 pub mod Views

@@ -7,7 +7,7 @@ use Rattle.bib_text.specs.Characters as char
 use Rattle.edit_entry_merge.specs.ConflictTexts.{MarkerLines, conflict_text}
 use Rattle.edit_units.specs.Units.{UnitReading, UnitTexts}
 use Rattle.edit_versions.specs.Versions.{VersionReading, end_of, texts_at, version_unit}
-use Rattle.edit_merge.specs.Picked.{Versions, slots}
+use Rattle.edit_merge.specs.Picked.{Versions}
 use Rattle.edit_merge.specs.declared.picking.Choice.{Choice}
 use Rattle.edit_merge.specs.declared.slots.Slot.{Slot}
 use Rattle.edit_merge.specs.declared.picking.Choice.TheVariants.{Ours, Theirs, Conflict}
@@ -96,9 +96,9 @@ part_with space is_text (Some text) = record { space = space; text = text; is_te
 abbrev pub slot_parts : MarkerLines → Versions → Slot → List MergedPart
 slot_parts markers vs s = part_with (slot_space vs s) (is_text_slot vs s) (slot_text markers vs s s.choice)
 
--- all merged parts, in order
-abbrev pub merged_parts : MarkerLines → Versions → List MergedPart
-merged_parts markers vs = flat_map (slot_parts markers vs) (slots vs)
+-- the merged parts of these slots, in order
+abbrev pub merged_parts : MarkerLines → Versions → List Slot → List MergedPart
+merged_parts markers vs ss = flat_map (slot_parts markers vs) ss
 
 -- ---- the text
 
@@ -121,6 +121,6 @@ abbrev pub text_of_merge : Versions → List MergedPart → List ℕ
 text_of_merge vs [] = merged_blank vs
 text_of_merge vs (p ∷ ps) = merged_start vs ++ (p.text ++ text_behind p.is_text ps (merged_end vs))
 
--- the merged text
-abbrev pub merged_text : MarkerLines → Versions → List ℕ
-merged_text markers vs = text_of_merge vs (merged_parts markers vs)
+-- the merged text, given the places of its units
+abbrev pub merged_text : MarkerLines → Versions → List Slot → List ℕ
+merged_text markers vs ss = text_of_merge vs (merged_parts markers vs ss)

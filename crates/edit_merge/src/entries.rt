@@ -28,7 +28,7 @@ pub enum Side {
 }
 
 // Returns the document of a text, or `None` if the text has a syntax error.
-fn document(alloc: Global, text: &str) -> Result<Option<RawDocument<'_>>, AllocError>
+pub(crate) fn document(alloc: Global, text: &str) -> Result<Option<RawDocument<'_>>, AllocError>
     ensures { IfOk result (λ found. MatchOption found (IsFile text.now → ⊥) (λ d. d.text ≡ text.now)) }
 {
     match RawDocument::parse(alloc, text) {

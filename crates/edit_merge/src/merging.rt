@@ -4,6 +4,7 @@ ghost use Rattle.std.specs.Prelude.{◌≡◌, ◌++◌, IfOk, OnOk, map, option
 ghost use Rattle.std.specs.List.{flat_map};
 ghost use Rattle.std.specs.String.{string_bytes};
 ghost use Rattle.edit_entry_merge.specs.ConflictTexts.{marker_lines};
+ghost use Rattle.edit_merge.specs.Lost as lost;
 ghost use Rattle.edit_merge.specs.Merged as merged;
 ghost use Rattle.edit_merge.specs.PartViews.{parts_view, part_view};
 ghost use Rattle.edit_merge.specs.Picked as picked;
@@ -11,8 +12,9 @@ ghost use Rattle.edit_merge.specs.Views.{versions_of};
 ghost use Rattle.edit_versions.specs.Versions as versions;
 ghost use Rattle.edit_versions.specs.Views.{texts_view};
 
+use crate::lost::{KeptSlots, kept_slots};
 use crate::picking::{Choice, Versions};
-use crate::slots::{OrderedSlots, Slot, slots};
+use crate::slots::{Slot, slots};
 use crate::spaces::{merged_blank, merged_end, merged_start, push_space, slot_space};
 use edit_entry_merge::conflict_text::{Markers, conflict_text};
 use edit_units::texts::UnitText;
@@ -166,6 +168,10 @@ pub struct Merged {
     pub text: String,
     /// The place of each unit in it.
     pub slots: Vec<Slot>,
+    /// For each place, the name that the merge would lose if it weren't a conflict: the name is used in the picked units, and only the unit
+    /// that isn't picked defines it. `None` at other places. A name is `entry ` and a key, or `string ` and the name of an abbreviation
+    /// in lowercase.
+    pub lost: Vec<Option<String>>,
     /// Whose order the units have. If both sides changed the order, and differently, it is a conflict: the order is ours, and no markers
     /// show it.
     pub order: Choice,
@@ -174,18 +180,32 @@ pub struct Merged {
 /// Merges three versions of a file. A unit that only one side changed, added or removed is as this side has it. So is a unit that the other
 /// side changed in its layout only. If both changed it, and differently, it is a conflict: the lines in which its texts differ are between
 /// the `markers`. They are written as they are. A text with conflicts isn't meant to be parsed.
-/// Several units with one name, such as entries with the same key, are chosen together. Returns an error only if out of memory.
+/// Several units with one name, such as entries with the same key, are chosen together.
+///
+/// A place is also a conflict if the merge would otherwise lose a name there: the picked units use it, such as an abbreviation or a key in
+/// `crossref`, only the unit that isn't picked defines it, and it is defined or unused in both sides of `originals`. These are the versions
+/// before their entries were merged by fields, or else `versions`. Returns an error only if out of memory.
 pub fn merge(
     alloc: Global,
     versions: Versions<'_, '_>,
+    originals: Versions<'_, '_>,
     markers: Markers<'_>,
 ) -> Result<Merged, AllocError>
-    ensures text { IfOk result (λ m. string_bytes m.text ≡ merged.merged_text (marker_lines markers.entry) (versions_of versions.entry)) }
-    ensures slots { IfOk result (λ m. m.slots.items ≡ picked.slots (versions_of versions.entry)) }
+    ensures text { IfOk result (λ m. string_bytes m.text ≡ merged.merged_text (marker_lines markers.entry) (versions_of versions.entry)
+        (lost.kept_slots (versions_of versions.entry) (versions_of originals.entry))) }
+    ensures slots { IfOk result (λ m. m.slots.items ≡ lost.kept_slots (versions_of versions.entry) (versions_of originals.entry)) }
+    ensures lost { IfOk result (λ m. map (option_map string_bytes) m.lost.items ≡
+        lost.names_lost (versions_of versions.entry) (versions_of originals.entry)) }
     ensures order { IfOk result (λ m. m.order ≡ picked.order_choice (versions_of versions.entry)) }
 {
-    let OrderedSlots { slots, order } = slots(alloc, versions)?;
+    let found = slots(alloc, versions)?;
+    let KeptSlots { slots, lost } = kept_slots(alloc, versions, originals, &found.slots)?;
     let parts = parts_of(alloc, markers, versions, &slots)?;
     let text = text_of_merge(alloc, versions, &parts)?;
-    Ok(Merged { text, slots, order })
+    Ok(Merged {
+        text,
+        slots,
+        lost,
+        order: found.order,
+    })
 }

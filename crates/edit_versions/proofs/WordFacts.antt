@@ -1,17 +1,9 @@
--- The words of a text, and the part of a text up to its last colon.
-use Rattle.std.proofs.Common.{◌≡◌, ◌≢◌, ℕ, suc, ◌+◌, ◌-◌, ◌<◌, ◌≤◌, arith, Bool, true, false, cond, List, [], ◌∷◌, ◌++◌, Option, Some, None, append-nil, append_assoc, get_or, length, subst, take, refl, sym, ap, ◌∙◌}
-use Rattle.std.specs.Prelude.{MatchOption, encode_utf8, encode_utf8_all, if◌then◌else◌, not}
+-- The words of a text.
+use Rattle.std.proofs.Common.{◌≡◌, ℕ, ◌+◌, ◌-◌, Bool, true, false, List, [], ◌∷◌, ◌++◌, append-nil, append_assoc, subst, refl, sym, ap, ◌∙◌}
+use Rattle.std.specs.Prelude.{encode_utf8, encode_utf8_all, if◌then◌else◌}
 use Rattle.std.specs.Char.{is_ascii_whitespace}
-use Rattle.std.specs.List.{list_any, suffix_len}
-use Rattle.std.specs.Str.{IsCharBoundary, IsUtf8}
-use Rattle.std.specs.Str.Pattern.{RFindsChar}
-use Rattle.std.proofs.lemmas.Bool.{ne_eqb}
-use Rattle.std.proofs.lemmas.List.Folds.{list_any_at}
-use Rattle.std.proofs.lemmas.List.Sums.{suffix_len_is}
-use Rattle.std.proofs.lemmas.Str.{IsCharBoundary-after_ascii, encodes-append}
-use Rattle.std.proofs.lemmas.Str.Pattern.{rfind_char}
+use Rattle.std.proofs.lemmas.Str.{encodes-append}
 use Rattle.bib_queries.specs.EqualValues.{with_single_spaces}
-use Rattle.edit_versions.specs.Versions.{is_colon, up_to_colon}
 
 -- ---- words
 
@@ -98,45 +90,3 @@ pub words_done : {seen bytes : List ℕ} {after : Bool} → AreWords seen bytes 
     → bytes ≡ encode_utf8_all (with_single_spaces true (seen ++ 32 ∷ []))
 words_done {bytes = bytes} so_far ended =
     sym (append-nil bytes) ∙ ap (λ a. bytes ++ encode_utf8_all (with_single_spaces a (32 ∷ []))) (sym ended) ∙ words_end so_far
-
--- ---- the last colon
-
--- if no byte of a text is 58, none is a colon
-no_colon : (text : List ℕ) → ((i : ℕ) → i < length text → get_or text i 0 ≢ 58) → list_any is_colon text ≡ false
-no_colon [] none = refl
-no_colon (b ∷ bs) none = rw (ne_eqb b 58 (none 0 (omega arith)), no_colon bs (λ i within. none (suc i) (omega arith))) refl
-
--- a colon after which there is no other is the last one
-last_at : (text : List ℕ) (at : ℕ) → at < length text → get_or text at 0 ≡ 58
-    → ((i : ℕ) → at < i → i < length text → get_or text i 0 ≢ 58) → up_to_colon text ≡ take (at + 1) text
-last_at text at within here later =
-    let passes : is_colon (get_or text at 0) ≡ true = rw here refl in
-    let fails : (at + 1 - 1 ≡ at) = omega arith in
-    let following : suffix_len (λ b. not (is_colon b)) text ≡ length text - (at + 1) =
-    suffix_len_is (λ b. not (is_colon b)) text (at + 1) 0 (omega arith)
-    (λ k past less. rw (ne_eqb (get_or text k 0) 58 (later k (omega arith) less)) refl)
-    (λ some. rw (fails, passes) refl) in
-    ap (λ b. cond b (take (length text - suffix_len (λ b. not (is_colon b)) text) text) text) (list_any_at is_colon text at 0 within passes)
-    ∙ ap (λ n. take n text) (let e : length text - suffix_len (λ b. not (is_colon b)) text ≡ at + 1 = omega arith in e)
-
--- where a text ends at its last colon: the text up to there, and a boundary after it
-pub record EndsAtColon (text : List ℕ) (at : ℕ) : Type 0 where
-  pub within : at < length text
-  pub boundary : IsCharBoundary text (at + 1)
-  pub is : up_to_colon text ≡ take (at + 1) text
-
--- for a colon in UTF-8 text, `rfind` returns the byte offset of the last one, or `None` if there is none
-pub colon_found : (text : List ℕ) (r : Option ℕ) → IsUtf8 text
-    → MatchOption r (RFindsChar 58 text None)
-    (λ i. (j : ℕ) × RFindsChar 58 text (Some (i, j)) × (i ≤ j) × IsCharBoundary text i × IsCharBoundary text j)
-    → MatchOption r (up_to_colon text ≡ text) (EndsAtColon text)
-colon_found text None utf8 found =
-    ap (λ b. cond b (take (length text - suffix_len (λ b. not (is_colon b)) text) text) text)
-    (no_colon text (rfind_char 58 text None found (omega arith)))
-colon_found text (Some at) utf8 found =
-    let is = rfind_char 58 text (Some at) found (omega arith) in
-    record {
-      within = is.0;
-      boundary = IsCharBoundary-after_ascii text at utf8 is.0 (omega (arith, is.1));
-      is = last_at text at is.0 is.1 is.2;
-    }

@@ -1,10 +1,10 @@
 -- Meaning: words of public contracts.
 -- A version of a file, and the names by which its units are found in other versions.
-use Rattle.std.specs.Prelude.{◌==◌, ◌-◌, ℕ, List, [], ◌∷◌, ◌++◌, Option, None, Some, Bool, bytes_eq, codes, cond, count_by, drop, encode_utf8_all, is_some, length, map, not, slice_get, take, true}
+use Rattle.std.specs.Prelude.{◌==◌, ℕ, List, [], ◌∷◌, ◌++◌, Option, None, Some, Bool, bytes_eq, codes, count_by, drop, encode_utf8_all, is_some, map, slice_get, true}
 use Rattle.std.specs.declared.ops.Range.{Range}
 use Rattle.std.specs.Fmt.{decimal}
 use Rattle.std.specs.FinMap.{empty, get}
-use Rattle.std.specs.List.{after_first, before_first, enumerate_from, list_any, suffix_len}
+use Rattle.std.specs.List.{after_first, before_first, enumerate_from}
 use Rattle.std.specs.Str.{chars, str_to_ascii_lowercase}
 use Rattle.bib_collections.specs.Names.{with_claims}
 use Rattle.bib_collections.specs.Sorted.{ByText}
@@ -26,10 +26,6 @@ first_line text = before_first (λ b. b == char.line_feed) text
 abbrev pub is_colon : ℕ → Bool
 is_colon b = b == char.colon
 
--- a text up to its last colon, or all of it if it has none
-abbrev pub up_to_colon : List ℕ → List ℕ
-up_to_colon text = cond (list_any is_colon text) (take (length text - suffix_len (λ b. not (is_colon b)) text) text) text
-
 -- the words of a text, each with a space after it. Words are separated by ASCII white space
 abbrev pub words_with_spaces : List ℕ → List ℕ
 words_with_spaces text = encode_utf8_all (with_single_spaces true (chars text ++ char.space ∷ []))
@@ -38,11 +34,17 @@ words_with_spaces text = encode_utf8_all (with_single_spaces true (chars text ++
 abbrev pub text_of_block : List ℕ → Range ℕ → List ℕ
 text_of_block text block = between (place text block.start) (place text block.end)
 
--- the name of a unit without entries, definitions and preambles: the words of the first line of its first block up to the last colon there,
--- as `@comment{jabref-meta: grouping:`. Without blocks, the words of its text
+-- the words of a line up to its second colon, without the colons. In JabRef's settings, as `@comment{jabref-meta: grouping:`, this is the
+-- name of the setting
+abbrev pub words_to_second_colon : List ℕ → List ℕ
+words_to_second_colon line =
+    words_with_spaces (before_first is_colon line) ++ words_with_spaces (before_first is_colon (after_first is_colon line))
+
+-- the name of a unit without entries, definitions and preambles: the words of the first line of its first block up to the second colon
+-- there. Without blocks, the words of its text
 abbrev pub name_by_blocks : List ℕ → UnitReading → List (Range ℕ) → List ℕ
 name_by_blocks text u [] = codes "text " ++ words_with_spaces (text_of_unit text u)
-name_by_blocks text u (block ∷ blocks) = codes "comment " ++ words_with_spaces (up_to_colon (first_line (text_of_block text block)))
+name_by_blocks text u (block ∷ blocks) = codes "comment " ++ words_to_second_colon (first_line (text_of_block text block))
 
 -- the name of a unit without entries and definitions: `preamble` if it has a preamble
 abbrev pub name_by_preamble : List ℕ → UnitReading → List ℕ → List ℕ

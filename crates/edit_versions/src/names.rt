@@ -2,7 +2,7 @@
 
 ghost use Rattle.std.specs.Prelude.{◌≡◌, ◌++◌, IfOk, codes, map};
 ghost use Rattle.std.specs.Fmt.{decimal};
-ghost use Rattle.std.specs.List.{AllByRecursion};
+ghost use Rattle.std.specs.List.{AllByRecursion, after_first, before_first};
 ghost use Rattle.edit_entries.specs.Cuts.{CanBeCut};
 ghost use Rattle.edit_units.specs.Views.{unit_reading_of};
 ghost use Rattle.edit_versions.specs.Blocks.{AreBlocksCut, IsUnitCut};
@@ -42,13 +42,23 @@ pub fn first_line(text: &str) -> &str
     }
 }
 
-// Returns a text up to its last colon, or all of it if it has none.
-fn up_to_colon(text: &str) -> &str
-    ensures { result.now ≡ spec.up_to_colon text.now }
+// Returns a text up to its first colon, without it, or all of it if it has none.
+fn before_colon(text: &str) -> &str
+    ensures { result.now ≡ before_first spec.is_colon text.now }
 {
-    match text.rfind(':') {
-        Some(at) => &text[..at + 1],
+    match text.split_once(':') {
+        Some((before, _)) => before,
         None => text,
+    }
+}
+
+// Returns a text after its first colon, or an empty text if it has none.
+fn after_colon(text: &str) -> &str
+    ensures { result.now ≡ after_first spec.is_colon text.now }
+{
+    match text.split_once(':') {
+        Some((_, after)) => after,
+        None => "",
     }
 }
 
@@ -73,6 +83,16 @@ pub fn words_with_spaces(alloc: Global, text: &str) -> Result<Text, AllocError>
     Ok(words)
 }
 
+// Returns the words of a line up to its second colon, without the colons.
+fn words_to_second_colon(alloc: Global, line: &str) -> Result<Text, AllocError>
+    ensures { IfOk result (λ words. words ≡ spec.words_to_second_colon line.now) }
+{
+    let mut words = words_with_spaces(alloc, before_colon(line))?;
+    let second = words_with_spaces(alloc, before_colon(after_colon(line)))?;
+    words.push_str(second.as_str())?;
+    Ok(words)
+}
+
 // Returns the name of a unit without entries, definitions and preambles.
 fn name_by_blocks(alloc: Global, text: &str, unit: &Unit<'_>) -> Result<Text, AllocError>
     requires unit { CanBeCut text.now unit.now.span.start unit.now.span.end }
@@ -81,10 +101,8 @@ fn name_by_blocks(alloc: Global, text: &str, unit: &Unit<'_>) -> Result<Text, Al
 {
     match unit.blocks.first() {
         Some(block) => {
-            let words = words_with_spaces(
-                alloc,
-                up_to_colon(first_line(&text[block.start..block.end])),
-            )?;
+            let line = first_line(&text[block.start..block.end]);
+            let words = words_to_second_colon(alloc, line)?;
             with_prefix(alloc, "comment ", words.as_str())
         }
         None => {

@@ -81,6 +81,13 @@ impl<'s> Version<'s> {
         self.text
     }
 
+    /// Returns the units, in order.
+    pub fn units(&self) -> &[Unit<'s>]
+        ensures { map unit_reading_of result.now ≡ self.now.units }
+    {
+        &self.units
+    }
+
     /// Returns the unit at an index, if there is an index.
     pub fn unit_at(&self, index: Option<usize>) -> Option<&Unit<'s>>
         ensures { option_map (λ u. unit_reading_of u.now) result ≡ versions.version_unit self.now index }

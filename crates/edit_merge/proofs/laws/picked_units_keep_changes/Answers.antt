@@ -1,5 +1,5 @@
 use Rattle.edit_merge.proofs.LostFacts.{our_change_kept, their_change_kept}
-use Rattle.edit_merge.proofs.laws.no_change_is_lost.Goals as goal
+use Rattle.edit_merge.proofs.laws.picked_units_keep_changes.Goals as goal
 
 pub returns-clause-ours : goal.returns-clause-ours
 returns-clause-ours c vs name is = our_change_kept vs name is
