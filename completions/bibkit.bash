@@ -8,7 +8,7 @@ _bibkit() {
     local fields='author editor title subtitle booktitle journaltitle journal series edition volume number pages publisher location address
         institution school organization date year month doi isbn issn url urldate note keywords abstract crossref'
     if [ "$COMP_CWORD" = 1 ]; then
-        mapfile -t COMPREPLY < <(compgen -W 'lint keys get select grep cited stats fmt convert resolve set unset rename rekey edit remove add strings recode help --help --version' -- "$current")
+        mapfile -t COMPREPLY < <(compgen -W 'lint keys get select grep cited stats diff merge fmt convert resolve set unset rename rekey edit remove add strings recode help --help --version' -- "$current")
         return
     fi
     case $previous in
@@ -23,7 +23,9 @@ _bibkit() {
             return
             ;;
         --format)
-            mapfile -t COMPREPLY < <(compgen -W 'text json jsonl github checkstyle sarif' -- "$current")
+            local formats='text json jsonl github checkstyle sarif'
+            [ "$command" = diff ] && formats='text json'
+            mapfile -t COMPREPLY < <(compgen -W "$formats" -- "$current")
             return
             ;;
         --fail-on)
@@ -90,6 +92,8 @@ _bibkit() {
         [ "$command" = rekey ] && options='--pattern --map --check --file --write --diff --help'
         [ "$command" = edit ] && options='--where --rename --set --add --unset --file --write --diff --help'
         [ "$command" = select ] && options='--where --complete --keys --help'
+        [ "$command" = diff ] && options='--format --git --help'
+        [ "$command" = merge ] && options='--path --marker-size --write --install --help'
         [ "$command" = strings ] && options='--expand --collect --fields --at-least --file --write --diff --help'
         [ "$command" = fmt ] && options='--indent --align --no-align --trailing-comma --no-trailing-comma --blank-lines --delimiters --order
             --width --sort --check --write --diff --help'

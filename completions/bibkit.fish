@@ -1,5 +1,5 @@
 # Completions of bibkit for fish: put this file into ~/.config/fish/completions.
-set -l commands lint keys get select grep cited stats fmt convert resolve set unset rename rekey edit remove add strings recode help
+set -l commands lint keys get select grep cited stats diff merge fmt convert resolve set unset rename rekey edit remove add strings recode help
 set -l edits set unset rename rekey edit remove add strings
 set -l codes unread-bytes escape-sequence syntax unread-field unknown-abbreviation circular-abbreviation duplicate-key \
     circular-reference unread-date unknown-type missing-field superfluous-field malformed-field not-a-number malformed-date unknown-field foreign-field \
@@ -16,6 +16,8 @@ complete -c bibkit -n "not __fish_seen_subcommand_from $commands" -a select -d '
 complete -c bibkit -n "not __fish_seen_subcommand_from $commands" -a grep -d 'Print the entries with a text in a field'
 complete -c bibkit -n "not __fish_seen_subcommand_from $commands" -a cited -d 'Print the entries that a document cites'
 complete -c bibkit -n "not __fish_seen_subcommand_from $commands" -a stats -d 'Count entries, fields and findings'
+complete -c bibkit -n "not __fish_seen_subcommand_from $commands" -a diff -d 'Print the changes from one version to another one'
+complete -c bibkit -n "not __fish_seen_subcommand_from $commands" -a merge -d 'Merge three versions of a file'
 complete -c bibkit -n "not __fish_seen_subcommand_from $commands" -a fmt -d 'Print files in one style'
 complete -c bibkit -n "not __fish_seen_subcommand_from $commands" -a convert -d 'Print entries in another format'
 complete -c bibkit -n "not __fish_seen_subcommand_from $commands" -a resolve -d 'Print files with inherited fields written out'
@@ -65,6 +67,12 @@ complete -c bibkit -n '__fish_seen_subcommand_from convert' -x -l to -a 'csl jso
 complete -c bibkit -n '__fish_seen_subcommand_from convert' -x -l from -a 'bib csl ris json' -d 'The format of the input'
 complete -c bibkit -n '__fish_seen_subcommand_from convert' -l sentence-case -d 'Write English titles in sentence case'
 complete -c bibkit -n '__fish_seen_subcommand_from lint keys get convert select edit remove' -x -l where -d 'Only entries that meet this condition'
+complete -c bibkit -n '__fish_seen_subcommand_from diff' -x -l format -a 'text json' -d 'The format of changes'
+complete -c bibkit -n '__fish_seen_subcommand_from diff' -l git -d 'Take the arguments of a git external diff command'
+complete -c bibkit -n '__fish_seen_subcommand_from merge' -x -l path -d 'The name of the file in messages'
+complete -c bibkit -n '__fish_seen_subcommand_from merge' -x -l marker-size -d 'The number of signs in a marker line'
+complete -c bibkit -n '__fish_seen_subcommand_from merge' -l write -d 'Replace the file with our version'
+complete -c bibkit -n '__fish_seen_subcommand_from merge' -l install -d 'Print the commands that install the merge driver'
 complete -c bibkit -n '__fish_seen_subcommand_from select' -l complete -d 'Print also what they use'
 complete -c bibkit -n '__fish_seen_subcommand_from select' -l keys -d 'Print only their keys'
 complete -c bibkit -n '__fish_seen_subcommand_from edit' -x -l rename -d 'Rename a field: OLD=NEW'

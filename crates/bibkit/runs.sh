@@ -6,6 +6,7 @@ export LC_ALL=C
 program=$(realpath "$1")
 completions=$(realpath "$(dirname "$0")/../../completions")
 schema=$(realpath "$(dirname "$0")/../../docs/entries.schema.json")
+tests=$(realpath "$(dirname "$0")/../../tests")
 shift
 documents=()
 for document in "$@"; do documents+=("$(realpath "$document")"); done
@@ -35,7 +36,7 @@ lacks() {
     echo "failed: there is no $1"
 }
 
-# counts tests as skipped for a shell that is not installed: the shell, and how many tests
+# counts tests as skipped for a program that is not installed: the program, and how many tests
 skip() {
     skipped=$((skipped + $2))
     missing="$missing, no $1"
@@ -95,7 +96,7 @@ run 'the version' 0 $'bibkit 0.1.0\n' --version
 run 'the version, in short' 0 $'bibkit 0.1.0\n' -V
 for word in help --help -h; do
     run_start "$word" 0 $'Check, search and edit bibliography files\n\nUsage: bibkit <COMMAND>\n' "$word"
-    for command in lint keys get select grep cited stats fmt convert resolve set unset rename rekey edit remove add strings recode; do
+    for command in lint keys get select grep cited stats diff merge fmt convert resolve set unset rename rekey edit remove add strings recode; do
         holds "$word names $command" grep -qE "^  $command +[A-Z]" results
     done
 done
@@ -107,8 +108,10 @@ run_start 'help of keys' 0 $'Print the key of each entry\n\nUsage: bibkit keys [
 run_start 'help of get' 0 $'Print the entries with these keys, unchanged\n\nUsage: bibkit get [OPTIONS] <KEYS> [FILE]...\n' get --help
 run_start 'help of grep' 0 $'Print the entries with a text in a field, unchanged\n\nUsage: bibkit grep <FIELD> <TEXT> [FILE]...\n' grep --help
 run_start 'help of cited' 0 $'Print the entries that a document cites, unchanged\n\nUsage: bibkit cited <DOCUMENT> [FILE]...\n' cited --help
+run_start 'help of diff' 0 $'Print the changes from one version of a file to another one\n\nUsage: bibkit diff [OPTIONS] [FILE]...\n' diff --help
+holds 'help of diff says what its files are' grep -qF 'The versions, in this order; one of them may be -, standard input' results
 run_start 'help of stats' 0 $'Count entries by type and year, fields by name, and findings by code\n\nUsage: bibkit stats [FILE]...\n' stats --help
-for command in lint keys get select grep cited stats fmt convert resolve set unset rename rekey edit remove add strings recode; do
+for command in lint keys get select grep cited stats diff merge fmt convert resolve set unset rename rekey edit remove add strings recode; do
     "$program" $command --help >output
     holds "help of $command has an example" prints "  bibkit $command"
 done
@@ -2006,6 +2009,175 @@ run_messages 'a refused file has no notes' 1 $'circle.bib:2:7: error: entry `b` 
 printf '@misc{c, crossref={p}, title={\xff}}\n@misc{p, label={L}}\n' >uninherited-bytes.bib
 run 'a file with other bytes has no notes' 2 '' resolve --not-inherited uninherited-bytes.bib
 
+# diff
+printf '@misc{a, title={A}, author={B}}\n\n@misc{b, title={x y}, author={Knuth, D.}, year={1984}}\n' >diff1.bib
+printf '@misc{a, author={B}, TITLE="A2"}\n\n@misc{c, title = "x  y", author={Knuth, D.}, year=1984}\n' >diff2.bib
+printf '@misc{a, title={A}, author={B}}\n\n@misc{b, title={x y} author={Knuth, D.}, year={1984}}\n' >diff3.bib
+printf '@misc{a,\n  author = {B},\n  title = {A},\n}\n\n@misc{b, title={x\ny}, author={Knuth, D.}, year={1984}}\n' >diff4.bib
+printf '@misc{b, title={x y}, author={Knuth, D.}, year={1984}}\n\n@misc{a, title={A}, author={B}}\n' >diff5.bib
+changes=$'  changed  a  TITLE: {A} -> {A2}\n  renamed  b -> c\n'
+run 'changes of a file' 1 $'diff2.bib\n'"$changes" diff diff1.bib diff2.bib
+cp diff1.bib input
+run 'changes from standard input' 1 $'diff2.bib\n'"$changes" diff - diff2.bib
+run 'no changes' 0 '' diff diff1.bib diff1.bib
+run 'changes of the layout only' 0 $'diff4.bib\n  layout   of 2 units\n' diff diff1.bib diff4.bib
+run 'another order' 1 $'diff5.bib\n  changed  the order of the entries\n' diff diff1.bib diff5.bib
+run 'changes as JSON' 1 $'[\n{"change":"field-set","kind":"entry","name":"a","line":1,"field":"TITLE","old":"{A}","new":"{A2}"},\n{"change":"renamed","kind":"entry","name":"c","line":3,"old":"b","new":"c"}\n]\n' \
+    diff --format json diff1.bib diff2.bib
+run 'no changes as JSON' 0 $'[\n]\n' diff --format json diff1.bib diff1.bib
+run 'changes for git' 0 $'refs.bib\n'"$changes" diff --git refs.bib diff1.bib 0123456 100644 diff2.bib 89abcde 100644
+run 'a renamed file for git' 0 $'refs.bib\n'"$changes" diff --git refs.bib diff1.bib 0123456 100644 diff2.bib 89abcde 100644 new.bib $'similarity index 90%\n'
+run 'a new file for git' 0 $'new.bib\n  added    a  (@misc, 2 fields)\n  added    b  (@misc, 3 fields)\n' diff --git new.bib /dev/null . . diff1.bib 0123456 100644
+run 'a removed file for git' 0 $'old.bib\n  removed  a  (@misc, 2 fields)\n  removed  b  (@misc, 3 fields)\n' diff --git old.bib diff1.bib 0123456 100644 /dev/null . .
+run 'an unmerged file for git' 0 $'* Unmerged path refs.bib\n' diff --git refs.bib
+run 'a version with a syntax error for git' 0 $'--- refs.bib\n+++ refs.bib\n@@ -1,3 +1,3 @@\n @misc{a, title={A}, author={B}}\n \n-@misc{b, title={x y}, author={Knuth, D.}, year={1984}}\n+@misc{b, title={x y} author={Knuth, D.}, year={1984}}\n' \
+    diff --git refs.bib diff1.bib 0123456 100644 diff3.bib 89abcde 100644
+run 'too few arguments of git' 2 '' diff --git refs.bib diff1.bib diff2.bib
+run 'a version with a syntax error: nothing is printed' 2 '' diff diff1.bib diff3.bib
+run_messages 'a version with a syntax error' 2 $'diff3.bib:3:22: error: expected comma [syntax]\n' diff diff1.bib diff3.bib
+run_messages 'a version that is not there' 2 $'bibkit: nothing.bib: there is no such file\n' diff diff1.bib nothing.bib
+run_messages 'one version' 2 $'bibkit: `diff` requires two files, one of which may be `-`\n' diff diff1.bib
+run_messages 'standard input twice' 2 $'bibkit: `diff` requires two files, one of which may be `-`\n' diff - -
+
+# merge
+printf '@misc{a, title={A}, year=2001}\n\n@misc{b, title={B}}\n' >merge0.bib
+printf '@misc{a, title={A1}, year=2001}\n\n@misc{b, title={B}}\n\n@misc{c, title={C}}\n' >merge1.bib
+printf '@misc{a, title={A}, year=2002}\n\n@misc{b, title={B}}\n\n@misc{d, title={D}}\n' >merge2.bib
+merged=$'@misc{a, title={A1}, year=2002}\n\n@misc{b, title={B}}\n\n@misc{c, title={C}}\n\n@misc{d, title={D}}\n'
+run 'changes of both sides' 0 "$merged" merge merge0.bib merge1.bib merge2.bib
+run_messages 'changes of both sides: no message' 0 '' merge merge0.bib merge1.bib merge2.bib
+run 'an unchanged side' 0 "$(cat merge1.bib)"$'\n' merge merge0.bib merge1.bib merge0.bib
+run 'the same change on both sides' 0 "$(cat merge2.bib)"$'\n' merge merge0.bib merge2.bib merge2.bib
+cp merge0.bib input
+run 'the base from standard input' 0 "$merged" merge - merge1.bib merge2.bib
+cp merge1.bib input
+run 'our version from standard input' 0 "$merged" merge merge0.bib - merge2.bib
+: >input
+cp merge1.bib written.bib
+run 'a merge that is written' 0 '' merge --write merge0.bib written.bib merge2.bib
+holds 'the merge is in the file of our version' has written.bib "$merged"
+
+printf '@misc{a,\n  title = {A},\n  year = 2001,\n  note = {n},\n}\n' >field0.bib
+sed 's/2001/2002/; s/{n}/{N}/' field0.bib >field1.bib
+sed 's/2001/2003/' field0.bib >field2.bib
+conflict=$'@misc{a,\n  title = {A},\n<<<<<<< ours\n  year = 2002,\n=======\n  year = 2003,\n>>>>>>> theirs\n  note = {N},\n}\n'
+run 'a field that both sides changed' 1 "$conflict" merge field0.bib field1.bib field2.bib
+run_messages 'a field that both sides changed: the message' 1 $'field1.bib:3: a: year: changed by both sides\n' merge field0.bib field1.bib field2.bib
+run_messages 'the name of the file in messages' 1 $'refs.bib:3: a: year: changed by both sides\n' merge --path refs.bib field0.bib field1.bib field2.bib
+cp field1.bib written.bib
+run 'a conflict that is written' 1 '' merge --write field0.bib written.bib field2.bib
+holds 'the markers are in the file of our version' has written.bib "$conflict"
+run 'markers of nine signs' 1 $'@misc{a,\n  title = {A},\n<<<<<<<<< ours\n  year = 2002,\n=========\n  year = 2003,\n>>>>>>>>> theirs\n  note = {N},\n}\n' \
+    merge --marker-size 9 field0.bib field1.bib field2.bib
+for size in 0 1001 x; do
+    run "markers of $size signs" 2 '' merge --marker-size $size field0.bib field1.bib field2.bib
+done
+sed 's/2001/2003/; s/{A}/{A3}/' field0.bib >field3.bib
+sed 's/{A}/{A1}/' field1.bib >field4.bib
+run_messages 'two fields that both sides changed' 1 $'field4.bib:2: a: title, year: changed by both sides\n' merge field0.bib field4.bib field3.bib
+printf '@misc{a,\n    title = {A},\n    year = 2001,\n    note = {n},\n}\n' >field5.bib
+laid_out=$'@misc{a,\n    title = {A},\n    year = 2003,\n    note = {n},\n}\n'
+run 'our layout and their field' 0 "$laid_out" merge field0.bib field5.bib field2.bib
+run 'their layout and our field' 0 "$laid_out" merge field0.bib field2.bib field5.bib
+printf '@misc{a,\n  title = {A},\n  year = 2001,\n  timestamp = {2016.05.01},\n}\n' >time0.bib
+sed 's/{A}/{A1}/; s/05.01/05.03/' time0.bib >time1.bib
+sed 's/2001/2002/; s/05.01/05.02/' time0.bib >time2.bib
+timed=$'@misc{a,\n  title = {A1},\n  year = 2002,\n  timestamp = {2016.05.03},\n}\n'
+run 'two modification times: ours is later' 0 "$timed" merge time0.bib time1.bib time2.bib
+run 'two modification times: theirs is later' 0 "$timed" merge time0.bib time2.bib time1.bib
+
+printf '@misc{a, title={A}, year=2001}\n' >merge3.bib
+printf '@misc{a, title={A}, year=2001}\n\n@misc{b, title={B2}}\n' >merge4.bib
+run 'removed by ours, changed by theirs' 1 $'@misc{a, title={A}, year=2001}\n\n<<<<<<< ours\n=======\n@misc{b, title={B2}}\n>>>>>>> theirs\n' \
+    merge merge0.bib merge3.bib merge4.bib
+run_messages 'removed by ours, changed by theirs: the message' 1 $'merge3.bib:3: b: removed by ours, changed by theirs\n' merge merge0.bib merge3.bib merge4.bib
+run 'changed by ours, removed by theirs' 1 $'@misc{a, title={A}, year=2001}\n\n<<<<<<< ours\n@misc{b, title={B2}}\n=======\n>>>>>>> theirs\n' \
+    merge merge0.bib merge4.bib merge3.bib
+run_messages 'changed by ours, removed by theirs: the message' 1 $'merge4.bib:3: b: changed by ours, removed by theirs\n' merge merge0.bib merge4.bib merge3.bib
+run 'removed by both sides' 0 "$(cat merge3.bib)"$'\n' merge merge0.bib merge3.bib merge3.bib
+printf '@misc{a, title={A}, year=2001}\n\n@misc{b, title={B}}\n\n@misc{c, title={C2}}\n' >merge5.bib
+run 'added by both sides' 1 $'@misc{a, title={A1}, year=2001}\n\n@misc{b, title={B}}\n\n<<<<<<< ours\n@misc{c, title={C}}\n=======\n@misc{c, title={C2}}\n>>>>>>> theirs\n' \
+    merge merge0.bib merge1.bib merge5.bib
+run_messages 'added by both sides: the message' 1 $'merge1.bib:5: c: title: added by both sides\n' merge merge0.bib merge1.bib merge5.bib
+printf '@book{a, title={A}, year=2001}\n' >type1.bib
+printf '@report{a, title={A}, year=2002}\n' >type2.bib
+run 'two new types' 1 $'<<<<<<< ours\n@book{a, title={A}, year=2001}\n=======\n@report{a, title={A}, year=2002}\n>>>>>>> theirs\n' \
+    merge merge3.bib type1.bib type2.bib
+run_messages 'two new types: the message' 1 $'type1.bib:1: a: changed by both sides\n' merge merge3.bib type1.bib type2.bib
+printf '@book{a, title={A}, year=2001, note={n}}\n' >type3.bib
+printf '@misc{a, title={A}, year=2001, note={n}}\n' >note.bib
+run 'a new type and a new field' 0 "$(cat type3.bib)"$'\n' merge merge3.bib type1.bib note.bib
+for number in 1 2 3; do
+    printf '@string{s = {x%s}}\n' $number >string$number.bib
+    printf '@misc{a, title={A}, title={B%s}, year=2001}\n' $number >twice$number.bib
+done
+run_messages 'a definition that both sides changed' 1 $'string2.bib:1: @string s: changed by both sides\n' merge string1.bib string2.bib string3.bib
+run_messages 'an entry with a field twice' 1 $'twice2.bib:1: a: changed by both sides\n' merge twice1.bib twice2.bib twice3.bib
+printf '@misc{k, title={A}, year=2001}\n' >key.bib
+run 'a new key and a changed field' 0 $'@report{k, title={A}, year=2002}\n' merge merge3.bib key.bib type2.bib
+printf '@string{s = {x}}\n\n@misc{a, title={A}}\n' >lost0.bib
+printf '@misc{a, title={A}}\n' >lost1.bib
+printf '@string{s = {x}}\n\n@misc{a, title={A}}\n\n@misc{b, title=S}\n' >lost2.bib
+run_messages 'a removed definition that theirs uses' 1 $'lost1.bib:1: @string s: removed by ours, but used\n' merge lost0.bib lost1.bib lost2.bib
+run_messages 'a removed definition that ours uses' 1 $'lost2.bib:1: @string s: removed by theirs, but used\n' merge lost0.bib lost2.bib lost1.bib
+
+printf '@misc{a, title={A}}\n\n@misc{b, title={B}}\n\n@misc{c, title={C}}\n' >order0.bib
+printf '@misc{b, title={B}}\n\n@misc{a, title={A}}\n\n@misc{c, title={C}}\n' >order1.bib
+printf '@misc{a, title={A}}\n\n@misc{c, title={C}}\n\n@misc{b, title={B}}\n' >order2.bib
+run 'their order' 0 "$(cat order2.bib)"$'\n' merge order0.bib order0.bib order2.bib
+run 'two orders: that of ours' 0 "$(cat order1.bib)"$'\n' merge order0.bib order1.bib order2.bib
+run_messages 'two orders: a note' 0 $'order1.bib: note: both sides changed the order of the entries; the order is that of ours\n' merge order0.bib order1.bib order2.bib
+
+for name in field0 field1 field2 merge0 merge1 merge2; do
+    sed 's/$/\r/' $name.bib >crlf-$name.bib
+done
+run 'CR LF' 0 "${merged//$'\n'/$'\r\n'}" merge crlf-merge0.bib crlf-merge1.bib crlf-merge2.bib
+run 'a conflict with CR LF' 1 "${conflict//$'\n'/$'\r\n'}" merge crlf-field0.bib crlf-field1.bib crlf-field2.bib
+run_messages 'a conflict with CR LF: the message' 1 $'crlf-field1.bib:3: a: year: changed by both sides\n' merge crlf-field0.bib crlf-field1.bib crlf-field2.bib
+{ printf '\xef\xbb\xbf'; cat merge1.bib; } >mark.bib
+{ printf '\xef\xbb\xbf'; cat merge0.bib; } >mark0.bib
+run 'a byte order mark of ours stays' 0 $'\xef\xbb\xbf'"$merged" merge merge0.bib mark.bib merge2.bib
+run 'a byte order mark of theirs does not count' 0 "$(cat merge0.bib)"$'\n' merge merge0.bib merge0.bib mark0.bib
+
+printf '@misc{a, title={\xff}}\n' >merge-bytes.bib
+printf '@misc{a, title={A} year=2001}\n' >merge-syntax.bib
+printf '@misc{a, title={A}}\n<<<<<<< HEAD\n=======\n>>>>>>> other\n' >merge-marker.bib
+printf '@misc{a, title={A}}\n<<<<<<<<< ours\n=========\n>>>>>>>>> theirs\n' >merge-markers.bib
+for name in bytes syntax marker; do
+    run "a refused version ($name): nothing is printed" 2 '' merge merge0.bib merge1.bib merge-$name.bib
+    cp merge-$name.bib written.bib
+    run "a refused version ($name): nothing is written" 2 '' merge --write merge0.bib written.bib merge2.bib
+    holds "a refused version ($name): the file is unchanged" cmp -s written.bib merge-$name.bib
+done
+run_messages 'a version with other bytes' 2 $'bibkit: merge-bytes.bib: not UTF-8 from byte 16 on\n' merge merge0.bib merge1.bib merge-bytes.bib
+run_messages 'a base with other bytes' 2 $'bibkit: refs.bib (base): not UTF-8 from byte 16 on\n' merge --path refs.bib merge-bytes.bib merge1.bib merge2.bib
+run_messages 'their version with a syntax error' 2 $'merge-syntax.bib:1:20: error: expected comma [syntax]\n' merge merge0.bib merge1.bib merge-syntax.bib
+run_messages 'our version with a syntax error' 2 $'refs.bib (ours):1:20: error: expected comma [syntax]\n' merge --path refs.bib merge0.bib merge-syntax.bib merge2.bib
+run_messages 'a version with a marker line' 2 $'merge-marker.bib:2:1: error: conflict marker; resolve this conflict first\n' merge merge0.bib merge1.bib merge-marker.bib
+run_messages 'a version with a marker line of nine signs' 2 $'merge-markers.bib:2:1: error: conflict marker; resolve this conflict first\n' merge --marker-size 9 merge0.bib merge1.bib merge-markers.bib
+run_messages 'a missing version' 2 $'bibkit: nothing.bib: there is no such file\n' merge merge0.bib merge1.bib nothing.bib
+for words in '' 'merge0.bib' 'merge0.bib merge1.bib' 'merge0.bib merge1.bib merge2.bib merge3.bib'; do
+    run_messages "three files are required: $words" 2 $'bibkit: `merge` requires three files: the base, our version and their version\n' merge $words
+done
+run_messages 'standard input twice: the base and ours' 2 $'bibkit: `merge` can read only one version from standard input\n' merge - - merge2.bib
+run_messages 'standard input twice: the base and theirs' 2 $'bibkit: `merge` can read only one version from standard input\n' merge - merge1.bib -
+run_messages '--write requires a file' 2 $'bibkit: `merge --write` requires the name of a file with our version\n' merge --write merge0.bib - merge2.bib
+
+"$program" merge --install >install.sh
+run 'the commands for git are printed without files' 0 "$(cat install.sh)"$'\n' merge --install
+if command -v git >/dev/null; then
+    mkdir installed
+    (cd installed && git init -q && sh -e ../install.sh && sh -e ../install.sh)
+    holds 'the line for git occurs once' has installed/.gitattributes $'*.bib merge=bibkit diff=bibtex\n'
+    holds 'git knows the driver' grep -q 'driver = "bibkit merge --write --path=%P' installed/.git/config
+    printf '*.txt text' >installed/.gitattributes
+    (cd installed && sh -e ../install.sh)
+    holds 'a last line without a line feed is kept' has installed/.gitattributes $'*.txt text\n*.bib merge=bibkit diff=bibtex\n'
+    holds 'the merges of git' python3 "$tests/git.py" "$program"
+else
+    skip git 4
+fi
+
 # select
 cat >select.bib <<'BIB'
 @book{knuth1984, author={Knuth, Donald E.}, title={The TeXbook}, year=1984}
@@ -2423,6 +2595,8 @@ in_bash 'bibkit resolve --' $'--not-inherited\n--write\n--diff\n--help\n'
 in_bash 'bibkit sel' $'select\n'
 in_bash 'bibkit select --' $'--where\n--complete\n--keys\n--help\n'
 in_bash 'bibkit edit --re' $'--rename\n'
+in_bash 'bibkit mer' $'merge\n'
+in_bash 'bibkit merge --' $'--path\n--marker-size\n--write\n--install\n--help\n'
 in_bash 'bibkit keys --' $'--where\n--help\n'
 in_bash 'bibkit get --' $'--where\n--help\n'
 in_bash 'bibkit lint --wh' $'--where\n'

@@ -13,6 +13,9 @@ use Rattle.bib_queries.specs.declared.request.Request.TheVariants as excerpt
 use Rattle.bib_tables.specs.declared.dialects.Dialect.{Dialect}
 use Rattle.bib_tables.specs.declared.dialects.Dialect.TheVariants.{Biblatex, Bibtex}
 use Rattle.bib_text.specs.Enums.{value_named}
+use Rattle.bibkit_commands.specs.declared.merging.Merging.{Merging}
+use Rattle.bibkit_commands.specs.declared.reading_arguments.ReadingCommand.{ReadingCommand}
+use Rattle.bibkit_commands.specs.declared.reading_arguments.ReadingCommand.TheVariants as command
 use Rattle.bibkit_commands.specs.declared.importing.Source.{Source}
 use Rattle.bibkit_commands.specs.declared.importing.Source.TheVariants as source
 use Rattle.bib_csl.specs.declared.sentence_items.TitleCase.{TitleCase}
@@ -30,13 +33,12 @@ use Rattle.bibkit_settings.specs.declared.settings.OutputFormat.{OutputFormat}
 use Rattle.bibkit_settings.specs.declared.settings.OutputFormat.TheVariants.{Text}
 use Rattle.bibkit_settings.specs.declared.settings.Settings.{Settings}
 use Rattle.bibkit_settings.specs.declared.style_settings.StyleSettings.{StyleSettings}
+use Rattle.bibkit_versions.specs.declared.diff.Format.{Format}
+use Rattle.bibkit_versions.specs.declared.diff.Format.TheVariants as changes
 use Rattle.edit_orders.specs.Orders.{IsOrderRefused, comma_words, order_parts, part_named}
 use Rattle.edit_orders.specs.declared.order.Order.{Order}
 use Rattle.edit_orders.specs.declared.order.OrderError.{OrderError}
 use Rattle.bibkit_commands.specs.Arguments.{Arguments, given_values, has_flag, number_in, argument_number, argument_value, argument_values}
-use Rattle.bibkit_commands.specs.Commands.{FileCommand}
-use Rattle.bibkit_commands.specs.Commands.FileCommand.{cited_command, convert_command, fmt_command, get_command, grep_command, keys_command}
-use Rattle.bibkit_commands.specs.Commands.FileCommand.{lint_command, resolve_command, select_command, stats_command}
 use Rattle.bibkit_commands.specs.declared.arguments.Asked.{Asked}
 use Rattle.bibkit_commands.specs.declared.arguments.Asked.TheVariants as variant
 use Rattle.bibkit_commands.specs.declared.edits.Mode.{Mode}
@@ -303,7 +305,7 @@ IsConversionOf wrong arguments _ = ⊥
 abbrev pub IsConvertOf : Arguments → Asked → Type 0
 IsConvertOf arguments asked = IsConversionOf (wrong_conversion arguments) arguments asked
 
--- ---- keys, get, grep, select, resolve, cited and stats
+-- ---- keys, get, grep, select, resolve, cited, stats, diff and merge
 
 -- the conditions of a request are those that the arguments give
 abbrev pub AreConditionsOf : Arguments → List (Bor (List ℕ)) → Type 0
@@ -354,20 +356,47 @@ abbrev pub IsCitedOf : Arguments → Asked → Type 0
 IsCitedOf arguments (variant.Cited document) = document.now ≡ unwrap_or (argument_value arguments (codes "DOCUMENT")) []
 IsCitedOf arguments _ = ⊥
 
+-- the formats of changes by their names, except lines, which are the format for any other name
+abbrev pub change_formats : List (List ℕ × Format)
+change_formats = (codes "json", changes.Json) ∷ []
+
+-- the format for a value of `--format` of `diff`
+abbrev pub change_format : Option (List ℕ) → Format
+change_format value = unwrap_or (option_and_then (value_named change_formats) value) changes.Text
+
+-- the request of `diff`
+abbrev pub IsDiffOf : Arguments → Asked → Type 0
+IsDiffOf arguments (variant.Diff diffing) =
+    (diffing.format ≡ change_format (argument_value arguments (codes "format"))) × (diffing.is_git ≡ has_flag arguments (codes "git"))
+IsDiffOf arguments _ = ⊥
+
+-- the request of `merge`: the name in messages, the number of signs in a marker line, and how the text is used
+pub record IsMergingOf (arguments : Arguments) (merging : Merging) : Type 0 where
+  pub path_is : option_map (λ name. name.now) merging.path ≡ argument_value arguments (codes "path")
+  pub size_is : merging.marker_size ≡ unwrap_or (argument_number arguments (codes "marker-size")) 7
+  pub written_is : merging.is_written ≡ has_flag arguments (codes "write")
+  pub install_is : merging.is_install ≡ has_flag arguments (codes "install")
+
+abbrev pub IsMergeOf : Arguments → Asked → Type 0
+IsMergeOf arguments (variant.Merge merging) = IsMergingOf arguments merging
+IsMergeOf arguments _ = ⊥
+
 -- ---- the command by its name
 
 -- the request of a command that reads files
-abbrev pub IsAskedBy : FileCommand → Arguments → Asked → Type 0
-IsAskedBy lint_command arguments this = IsLintOf arguments this
-IsAskedBy fmt_command arguments this = IsFormatOf arguments this
-IsAskedBy convert_command arguments this = IsConvertOf arguments this
-IsAskedBy resolve_command arguments this = IsResolveOf arguments this
-IsAskedBy get_command arguments this = IsGetOf arguments this
-IsAskedBy grep_command arguments this = IsSearchOf arguments this
-IsAskedBy cited_command arguments this = IsCitedOf arguments this
-IsAskedBy select_command arguments this = IsSelectOf arguments this
-IsAskedBy stats_command arguments this = this ≡ variant.Other request.Stats
-IsAskedBy keys_command arguments this = IsKeysOf arguments this
+abbrev pub IsAskedBy : ReadingCommand → Arguments → Asked → Type 0
+IsAskedBy command.Lint arguments this = IsLintOf arguments this
+IsAskedBy command.Fmt arguments this = IsFormatOf arguments this
+IsAskedBy command.Convert arguments this = IsConvertOf arguments this
+IsAskedBy command.Resolve arguments this = IsResolveOf arguments this
+IsAskedBy command.Get arguments this = IsGetOf arguments this
+IsAskedBy command.Grep arguments this = IsSearchOf arguments this
+IsAskedBy command.Cited arguments this = IsCitedOf arguments this
+IsAskedBy command.Select arguments this = IsSelectOf arguments this
+IsAskedBy command.Stats arguments this = this ≡ variant.Other request.Stats
+IsAskedBy command.Diff arguments this = IsDiffOf arguments this
+IsAskedBy command.Merge arguments this = IsMergeOf arguments this
+IsAskedBy command.Keys arguments this = IsKeysOf arguments this
 
 -- the names of the files of a command: `-` (standard input) if none is given, except for `cited`
 abbrev pub files_of : List ℕ → Arguments → List (List ℕ)

@@ -2,30 +2,19 @@
 -- The commands by their names.
 use Rattle.std.specs.Prelude.{ℕ, List, [], ◌∷◌, codes, unwrap_or}
 use Rattle.bib_text.specs.Enums.{value_named}
-
--- the commands that read files
-pub data FileCommand : Type 0 where
-  lint_command : FileCommand
-  fmt_command : FileCommand
-  convert_command : FileCommand
-  resolve_command : FileCommand
-  get_command : FileCommand
-  grep_command : FileCommand
-  cited_command : FileCommand
-  select_command : FileCommand
-  stats_command : FileCommand
-  keys_command : FileCommand
+use Rattle.bibkit_commands.specs.declared.reading_arguments.ReadingCommand.{ReadingCommand}
+use Rattle.bibkit_commands.specs.declared.reading_arguments.ReadingCommand.TheVariants.{Lint, Fmt, Convert, Resolve, Get, Grep, Cited, Select, Stats, Diff, Merge, Keys}
 
 -- the commands that read files by their names, except `keys`
-abbrev pub commands : List (List ℕ × FileCommand)
+abbrev pub commands : List (List ℕ × ReadingCommand)
 commands =
-    (codes "lint", lint_command) ∷ (codes "fmt", fmt_command) ∷ (codes "convert", convert_command) ∷ (codes "resolve", resolve_command)
-    ∷ (codes "get", get_command) ∷ (codes "grep", grep_command) ∷ (codes "cited", cited_command)
-    ∷ (codes "select", select_command) ∷ (codes "stats", stats_command) ∷ []
+    (codes "lint", Lint) ∷ (codes "fmt", Fmt) ∷ (codes "convert", Convert) ∷ (codes "resolve", Resolve) ∷ (codes "get", Get)
+    ∷ (codes "grep", Grep) ∷ (codes "cited", Cited) ∷ (codes "select", Select) ∷ (codes "stats", Stats) ∷ (codes "diff", Diff)
+    ∷ (codes "merge", Merge) ∷ []
 
--- the command with this name; any other name is that of `keys`
-unfoldable pub reading_command_named : List ℕ → FileCommand
-reading_command_named name = unwrap_or (value_named commands name) keys_command
+-- the command that reads files with this name; any other name is that of `keys`
+abbrev pub reading_command_named : List ℕ → ReadingCommand
+reading_command_named name = unwrap_or (value_named commands name) Keys
 
 -- the commands that edit a file
 pub data EditCommand : Type 0 where

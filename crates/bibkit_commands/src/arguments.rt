@@ -5,23 +5,21 @@ ghost use Rattle.clap.specs.Simple.{subcommand_rows_of};
 ghost use Rattle.bibkit_settings.specs.StyleSettings as style;
 ghost use Rattle.bibkit_commands.specs.Arguments.{arguments_of, argument_number, argument_value};
 ghost use Rattle.bibkit_commands.specs.Asked as spec;
-ghost use Rattle.bibkit_commands.specs.Asked.{AreStyleSettingsOf, IsAskedBy, IsConversionOf, IsConvertOf, IsFormatOf, IsGetOf, IsKeysOf};
-ghost use Rattle.bibkit_commands.specs.Asked.{IsSortOf, IsSortRefused, dialect_for, files_of, mode_asked, source_for, target_for, wrong_formats};
+ghost use Rattle.bibkit_commands.specs.Asked.{AreStyleSettingsOf, IsFormatOf, IsSortOf, IsSortRefused, files_of, mode_asked};
 ghost use Rattle.bibkit_commands.specs.CommandLine.{IsCommandLineOf, IsCommandOf};
-ghost use Rattle.bibkit_commands.specs.Commands.{reading_command_named};
 ghost use Rattle.bibkit_commands.specs.EditsAsked.{IsEditingOf};
 
-use crate::argument_values::{given_texts, has_flag, number, number_in, text, texts, value};
+use crate::argument_values::{given_texts, has_flag, number, number_in, texts, value};
 use crate::converting::Converting;
+use crate::differing::Diffing;
 use crate::edit_arguments::edits_of;
 use crate::edits::{Editing, Mode};
 use crate::importing::Source;
-use crate::lint_arguments::lint_asked;
-use crate::selecting::{Printed, Selecting};
-use bib_csl::sentence_items::TitleCase;
-use bib_queries::request::{Request as Excerpts, Search};
+use crate::merging::Merging;
+use crate::reading_arguments::request_of;
+use crate::selecting::Selecting;
+use bib_queries::request::Request as Excerpts;
 use bib_tables::dialects::Dialect;
-use bibkit_convert::target::Target;
 use bibkit_core::request::{Cited, Request};
 use bibkit_settings::commands::{command, is_editing};
 use bibkit_settings::settings::Settings;
@@ -96,6 +94,10 @@ pub enum Asked<'a> {
         /// The keys of the entries to print. If it is `None`, the keys of all selected entries are printed.
         keys: Option<Vec<&'a str>>,
     },
+    /// Prints the changes from one version of a file to another one.
+    Diff(Diffing),
+    /// Merges three versions of a file.
+    Merge(Merging<'a>),
     /// Runs another request.
     Other(Request<'a>),
     /// Reports that the command line is wrong, for this reason.
@@ -210,8 +212,11 @@ fn style_settings<'a>(matches: &ArgMatches<'a>, sort: Option<Option<Order>>) -> 
     }
 }
 
-// Returns the request of `fmt`.
-fn format_asked<'a>(alloc: Global, matches: &ArgMatches<'a>) -> Result<Asked<'a>, AllocError>
+/// Returns the request of `fmt`. Returns an error only if out of memory.
+pub(crate) fn format_asked<'a>(
+    alloc: Global,
+    matches: &ArgMatches<'a>,
+) -> Result<Asked<'a>, AllocError>
     ensures { IfOk result (IsFormatOf (arguments_of matches.now)) }
 {
     let sort = match sort_order(matches) {
@@ -223,192 +228,6 @@ fn format_asked<'a>(alloc: Global, matches: &ArgMatches<'a>) -> Result<Asked<'a>
         order: given_texts(alloc, matches, "order")?,
         mode: mode_of(matches, has_flag(matches, "check")),
     })
-}
-
-// Returns the dialect with this name, or `None` for any other name and for a missing one.
-fn dialect_named(name: Option<&str>) -> Option<Dialect>
-    ensures { result ≡ dialect_for (option_map (λ name. name.now) name.entry) }
-{
-    match name {
-        Some("biblatex") => Some(Dialect::Biblatex),
-        Some("bibtex") => Some(Dialect::Bibtex),
-        _ => None,
-    }
-}
-
-// Returns the case of titles in items: sentence case if it is asked for.
-fn title_case(is_sentence: bool) -> TitleCase
-    ensures { result ≡ spec.title_case is_sentence }
-{
-    if is_sentence {
-        TitleCase::Sentence
-    } else {
-        TitleCase::AsWritten
-    }
-}
-
-// Returns the format of entries with this name, or CSL-JSON with titles in this case for any other name and for a missing one.
-fn target_named(titles: TitleCase, name: Option<&str>) -> Target
-    ensures { result ≡ target_for titles (option_map (λ name. name.now) name.entry) }
-{
-    match name {
-        Some("json") => Target::Json,
-        Some("ris") => Target::Ris,
-        _ => Target::Csl(titles),
-    }
-}
-
-// Returns the format of items, records or objects with this name, or `None` for any other name and for a missing one.
-fn source_named(name: Option<&str>) -> Option<Source>
-    ensures { result ≡ source_for (option_map (λ name. name.now) name.entry) }
-{
-    match name {
-        Some("csl") => Some(Source::Csl),
-        Some("ris") => Some(Source::Ris),
-        Some("json") => Some(Source::Json),
-        _ => None,
-    }
-}
-
-// Returns the reason why a command line that requests this format and no dialect is refused.
-fn dialect_required(source: Source) -> &'static str
-    ensures { result.now ≡ spec.dialect_required source }
-{
-    match source {
-        Source::Csl => "`--from csl` requires `--to biblatex` or `--to bibtex`",
-        Source::Ris => "`--from ris` requires `--to biblatex` or `--to bibtex`",
-        Source::Json => "`--from json` requires `--to biblatex` or `--to bibtex`",
-    }
-}
-
-// Returns whether `--from` is missing, so that the ending of a file's name decides how it is read.
-fn is_by_ending(matches: &ArgMatches<'_>) -> bool
-    ensures { result ≡ spec.is_by_ending (arguments_of matches.now) }
-{
-    match value(matches, "from") {
-        Some(_) => false,
-        None => true,
-    }
-}
-
-// Returns whether a value of `--to` means CSL-JSON, which is the format without a value.
-fn is_csl(name: Option<&str>) -> bool
-    ensures { result ≡ spec.is_csl (option_map (λ name. name.now) name.entry) }
-{
-    match name {
-        Some(name) => name == "csl",
-        None => true,
-    }
-}
-
-// Returns whether sentence case is asked for, and the format isn't CSL-JSON.
-fn is_case_wrong(matches: &ArgMatches<'_>) -> bool
-    ensures { result ≡ spec.is_case_wrong (arguments_of matches.now) }
-{
-    has_flag(matches, "sentence-case") && !is_csl(value(matches, "to"))
-}
-
-// Returns the request of `convert`, if sentence case can be used.
-fn conversion_asked<'a>(alloc: Global, matches: &ArgMatches<'a>) -> Result<Asked<'a>, AllocError>
-    ensures { IfOk result (IsConversionOf (wrong_formats (arguments_of matches.now)) (arguments_of matches.now)) }
-{
-    let conditions = texts(alloc, matches, "where")?;
-    let source = source_named(value(matches, "from"));
-    let titles = title_case(has_flag(matches, "sentence-case"));
-    let asked = match (dialect_named(value(matches, "to")), source) {
-        (None, Some(source)) => Asked::Wrong(dialect_required(source)),
-        (Some(_), _) if !conditions.is_empty() => {
-            Asked::Wrong("`--where` requires `--to csl`, `--to json` or `--to ris`")
-        }
-        (Some(dialect), Some(source)) => Asked::Import { dialect, source },
-        (Some(dialect), None) => Asked::Rewrite {
-            dialect,
-            is_by_ending: is_by_ending(matches),
-        },
-        (None, None) => Asked::Convert(Converting {
-            target: target_named(titles, value(matches, "to")),
-            conditions,
-        }),
-    };
-    Ok(asked)
-}
-
-// Returns the request of `convert`.
-fn convert_asked<'a>(alloc: Global, matches: &ArgMatches<'a>) -> Result<Asked<'a>, AllocError>
-    ensures { IfOk result (IsConvertOf (arguments_of matches.now)) }
-{
-    if is_case_wrong(matches) {
-        return Ok(Asked::Wrong("`--sentence-case` requires `--to csl`"));
-    }
-    conversion_asked(alloc, matches)
-}
-
-// Returns the request of `keys`.
-fn keys_asked<'a>(alloc: Global, matches: &ArgMatches<'a>) -> Result<Asked<'a>, AllocError>
-    ensures { IfOk result (IsKeysOf (arguments_of matches.now)) }
-{
-    let conditions = texts(alloc, matches, "where")?;
-    if conditions.is_empty() {
-        return Ok(Asked::Other(Request::Entries(Excerpts::Keys)));
-    }
-    Ok(Asked::Entries {
-        conditions,
-        keys: None,
-    })
-}
-
-// Returns the request of `get`.
-fn get_asked<'a>(alloc: Global, matches: &ArgMatches<'a>) -> Result<Asked<'a>, AllocError>
-    ensures { IfOk result (IsGetOf (arguments_of matches.now)) }
-{
-    let keys = texts(alloc, matches, "KEYS")?;
-    let conditions = texts(alloc, matches, "where")?;
-    if conditions.is_empty() {
-        return Ok(Asked::Other(Request::Entries(Excerpts::Get(keys))));
-    }
-    Ok(Asked::Entries {
-        conditions,
-        keys: Some(keys),
-    })
-}
-
-// Returns the request of the command `name`, which reads files.
-fn request_of<'a>(
-    alloc: Global,
-    name: &str,
-    matches: &ArgMatches<'a>,
-) -> Result<Asked<'a>, AllocError>
-    ensures { IfOk result (IsAskedBy (reading_command_named name.now) (arguments_of matches.now)) }
-{
-    let request = match name {
-        "lint" => return lint_asked(alloc, matches),
-        "fmt" => return format_asked(alloc, matches),
-        "convert" => return convert_asked(alloc, matches),
-        "resolve" => {
-            return Ok(Asked::Resolve {
-                mode: mode_of(matches, false),
-                has_notes: has_flag(matches, "not-inherited"),
-            });
-        }
-        "get" => return get_asked(alloc, matches),
-        "grep" => Request::Entries(Excerpts::Grep(Search {
-            field: text(matches, "FIELD"),
-            part: text(matches, "TEXT"),
-        })),
-        "cited" => return Ok(Asked::Cited(text(matches, "DOCUMENT"))),
-        "select" => {
-            return Ok(Asked::Select(Selecting {
-                conditions: texts(alloc, matches, "where")?,
-                printed: Printed {
-                    is_complete: has_flag(matches, "complete"),
-                    has_keys: has_flag(matches, "keys"),
-                },
-            }));
-        }
-        "stats" => Request::Stats,
-        _ => return keys_asked(alloc, matches),
-    };
-    Ok(Asked::Other(request))
 }
 
 // Returns the names of the files that the command line of the command `name` contains. If it contains none, returns `-` (standard

@@ -6,7 +6,9 @@
 
 mod argument_values;
 mod arguments;
+mod convert_arguments;
 mod converting;
+mod differing;
 mod document;
 mod edit_arguments;
 mod edits;
@@ -17,8 +19,10 @@ mod formatting;
 mod importing;
 mod joining;
 mod lint_arguments;
+mod merging;
 mod misspellings;
 mod readable;
+mod reading_arguments;
 mod recoding;
 mod refusals;
 mod rekeying;

@@ -5,12 +5,14 @@ ghost use Rattle.bibkit_commands.specs.Messages.{on_file, says};
 
 use crate::arguments::{Asked, Words, read};
 use crate::converting::run_convert;
+use crate::differing::run_diff;
 use crate::document::run_cited;
 use crate::edits::{Mode, run_edits};
 use crate::files::SystemFiles;
 use crate::fixing::run_fix;
 use crate::formatting::run_format;
 use crate::importing::{run_import, shared_source, source_of};
+use crate::merging::run_merge;
 use crate::resolving::run_resolve;
 use crate::rewriting::run_rewrite;
 use crate::selecting::{parse_conditions, run_select};
@@ -409,6 +411,8 @@ fn answer(rt: &HostRuntime, words: Words<'_>) -> u8 {
         Asked::Cited(document) => run_cited(rt, document, &names),
         Asked::Select(selecting) => run_select(rt, &selecting, &names),
         Asked::Entries { conditions, keys } => run_selected(rt, &conditions, keys, names),
+        Asked::Diff(diffing) => run_diff(rt, diffing, &names),
+        Asked::Merge(merging) => run_merge(rt, merging, &names),
         Asked::Other(request) => run_request(rt, request, names, "-"),
         Asked::Wrong(reason) => refuse_words(rt, reason),
         Asked::WrongRule(word) => refuse_rule(rt, word),

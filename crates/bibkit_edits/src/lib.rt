@@ -10,5 +10,5 @@ pub mod edit;
 pub mod editing;
 pub mod left_notes;
 pub mod printing;
-mod reading;
+pub mod reading;
 pub mod uninherited_notes;

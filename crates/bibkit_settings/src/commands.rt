@@ -1,6 +1,7 @@
 //! The commands of the program, with their arguments and help.
 //!
-//! `searching`, `converting` and `editing` contain the tables of the commands, and `shared` the options that several of them have.
+//! `searching`, `versions`, `converting` and `editing` contain the tables of the commands, and `shared` the options that several of them
+//! have.
 //! `arguments` contains the kinds of arguments, and makes those that clap parses.
 
 mod arguments;
@@ -8,6 +9,7 @@ mod converting;
 mod editing;
 mod searching;
 mod shared;
+mod versions;
 
 use arguments::{Row, files, own_arguments};
 use bibkit_core::version::VERSION;
@@ -16,6 +18,7 @@ use converting::CONVERTING;
 use editing::EDITING;
 use searching::SEARCHING;
 use std::alloc::{AllocError, Global};
+use versions::VERSIONS;
 
 // Returns a command without arguments.
 fn command_of<'a>(alloc: Global, row: &'static Row) -> Command<'a> {
@@ -24,10 +27,20 @@ fn command_of<'a>(alloc: Global, row: &'static Row) -> Command<'a> {
         .after_help(row.help)
 }
 
-// Returns a command that reads files. The files are its last argument.
-fn reading_command<'a>(alloc: Global, row: &'static Row) -> Result<Command<'a>, AllocError> {
+// The help of the files that a command reads.
+const FILES_HELP: &str = "Files to read; standard input for - or without files";
+
+// The help of the files of a command that reads several versions of a file.
+const VERSIONS_HELP: &str = "The versions, in this order; one of them may be -, standard input";
+
+// Returns a command that reads files, which have this help. The files are its last argument.
+fn reading_command<'a>(
+    alloc: Global,
+    row: &'static Row,
+    files_help: &'static str,
+) -> Result<Command<'a>, AllocError> {
     let mut arguments = own_arguments(alloc, row.arguments)?;
-    arguments.push(files(alloc))?;
+    arguments.push(files(alloc, files_help))?;
     command_of(alloc, row).args(arguments)
 }
 
@@ -37,14 +50,15 @@ fn editing_command<'a>(alloc: Global, row: &'static Row) -> Result<Command<'a>, 
     command_of(alloc, row).args(arguments)
 }
 
-// Returns the commands of these rows, which read files.
+// Returns the commands of these rows, which read files with this help.
 fn reading_commands<'a>(
     alloc: Global,
     rows: &'static [Row],
+    files_help: &'static str,
 ) -> Result<Vec<Command<'a>>, AllocError> {
     let mut commands = Vec::new(alloc);
     'rows: for row in rows {
-        commands.push(reading_command(alloc, row)?)?;
+        commands.push(reading_command(alloc, row, files_help)?)?;
     }
     Ok(commands)
 }
@@ -72,13 +86,15 @@ pub fn is_editing(name: &str) -> bool {
 
 /// Returns the definition of the command line: the program with all its commands.
 pub fn command<'a>(alloc: Global) -> Result<Command<'a>, AllocError> {
-    let searching = reading_commands(alloc, &SEARCHING)?;
-    let converting = reading_commands(alloc, &CONVERTING)?;
+    let searching = reading_commands(alloc, &SEARCHING, FILES_HELP)?;
+    let versions = reading_commands(alloc, &VERSIONS, VERSIONS_HELP)?;
+    let converting = reading_commands(alloc, &CONVERTING, FILES_HELP)?;
     let editing = editing_commands(alloc)?;
     program(alloc)
         .subcommand_required(true)
         .arg_required_else_help(true)
         .subcommands(searching)?
+        .subcommands(versions)?
         .subcommands(converting)?
         .subcommands(editing)
 }

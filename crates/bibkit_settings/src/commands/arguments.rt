@@ -34,12 +34,16 @@ pub enum Takes {
     Document,
     /// An option: the name of standard input in findings.
     InputName,
+    /// An option: the name of a file in messages.
+    FileName,
     /// An option: the name of a file with the output of an earlier run.
     Baseline,
     /// An option: field names separated by commas.
     FieldNames,
     /// An option: the maximum width of a line in characters.
     Width,
+    /// An option: the number of signs in the marker lines of a conflict.
+    MarkerSize,
     /// An option: properties by which entries are sorted, separated by commas, or `keep`.
     Order,
     /// An option, which conflicts with `expand`: names of the fields whose texts are collected, separated by commas.
@@ -79,6 +83,8 @@ pub enum Choice {
     Target,
     /// The formats to convert from.
     Source,
+    /// The formats of changes.
+    Changes,
 }
 
 /// How a flag depends on other options.
@@ -151,12 +157,15 @@ static TARGETS: [&str; 5] = ["csl", "json", "ris", "biblatex", "bibtex"];
 // The values of `--from` of `convert`.
 static SOURCES: [&str; 4] = ["bib", "csl", "ris", "json"];
 
-/// Returns the argument for the files that a command reads.
-pub fn files<'a>(alloc: Global) -> Arg<'a> {
+// The values of `--format` of `diff`.
+static CHANGES: [&str; 2] = ["text", "json"];
+
+/// Returns the argument for the files that a command reads, with this help.
+pub fn files<'a>(alloc: Global, help: &'static str) -> Arg<'a> {
     Arg::new(alloc, "FILE")
         .num_args(0..)
         .action(ArgAction::Append)
-        .help("Files to read; standard input for - or without files")
+        .help(help)
 }
 
 // Returns a positional argument.
@@ -232,6 +241,7 @@ fn choice_argument<'a>(alloc: Global, row: &'static Argument, choice: Choice) ->
             .value_parser(TARGETS.as_slice())
             .required(true),
         Choice::Source => value(alloc, row, "FORMAT").value_parser(SOURCES.as_slice()),
+        Choice::Changes => value(alloc, row, "FORMAT").value_parser(CHANGES.as_slice()),
     }
 }
 
@@ -274,12 +284,15 @@ fn argument_of<'a>(alloc: Global, row: &'static Argument) -> Result<Arg<'a>, All
         Takes::AnEditedFile => Ok(edited_file(alloc, row).required(true)),
         Takes::Codes => Ok(codes(alloc, row)),
         Takes::Document => Ok(value(alloc, row, "DOCUMENT")),
-        Takes::InputName => Ok(value(alloc, row, "NAME")),
+        Takes::InputName | Takes::FileName => Ok(value(alloc, row, "NAME")),
         Takes::Baseline => Ok(value(alloc, row, "FILE")),
         Takes::FieldNames => Ok(field_names(alloc, row)),
         Takes::Width => Ok(value(alloc, row, "CHARACTERS").value_parser(ValueParser::unsigned(
             0, 1_000_000,
         ))),
+        Takes::MarkerSize => {
+            Ok(value(alloc, row, "NUMBER").value_parser(ValueParser::unsigned(1, 1_000)))
+        }
         Takes::Order => Ok(value(alloc, row, "ORDER").allow_hyphen_values(true)),
         Takes::CollectedFields => field_names(alloc, row).conflicts_with("expand"),
         Takes::Times => value(alloc, row, "TIMES")

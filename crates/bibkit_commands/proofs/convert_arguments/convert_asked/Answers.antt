@@ -3,7 +3,7 @@ use Rattle.std.specs.Prelude.{IfOk}
 use Rattle.std.specs.Option.{option_or}
 use Rattle.bibkit_commands.specs.Arguments.{arguments_of}
 use Rattle.bibkit_commands.specs.Asked.{IsConversionOf, case_refused, wrong_formats}
-use Rattle.bibkit_commands.proofs.arguments.convert_asked.Goals as goal
+use Rattle.bibkit_commands.proofs.convert_arguments.convert_asked.Goals as goal
 
 pub returns : goal.returns
 returns c =
