@@ -102,8 +102,11 @@ fn push_reference_field<'s>(names: &mut Vec<&'s str>, field: &Pair<'s>) -> Resul
     Ok(())
 }
 
-// Appends the names that an entry with these fields refers to.
-fn push_references<'s>(names: &mut Vec<&'s str>, fields: &[Pair<'s>]) -> Result<(), AllocError>
+/// Appends the names that an entry with these fields refers to. The only error is out of memory. After it, `names` may have some of them.
+pub fn push_references<'s>(
+    names: &mut Vec<&'s str>,
+    fields: &[Pair<'s>],
+) -> Result<(), AllocError>
     ensures { OnOk result (text_list names.new ≡ text_list names.old ++ references_of (map field_of fields.now)) }
 {
     'fields: for field in fields {
@@ -141,8 +144,9 @@ fn push_used<'s>(
     Ok(())
 }
 
-// Appends the abbreviations that fields use.
-pub(crate) fn push_used_in_fields<'s>(
+/// Appends the abbreviations that fields use, as they are written. The only error is out of memory. After it, `names` may have some of
+/// them.
+pub fn push_used_in_fields<'s>(
     names: &mut Vec<&'s str>,
     fields: &[Pair<'s>],
 ) -> Result<(), AllocError>

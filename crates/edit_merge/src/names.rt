@@ -6,119 +6,15 @@ ghost use Rattle.std.specs.Str.{str_to_ascii_lowercase};
 ghost use Rattle.std.specs.String.{string_bytes};
 ghost use Rattle.bib_queries.specs.Names as queries;
 ghost use Rattle.bib_queries.specs.Texts.{text_list};
-ghost use Rattle.bib_syntax.specs.Views.{entry_reading_of, field_of, file_of, piece_of};
+ghost use Rattle.bib_syntax.specs.Views.{entry_reading_of, field_of, file_of};
 ghost use Rattle.edit_merge.specs.UnitNames as spec;
 ghost use Rattle.edit_units.specs.Views.{unit_reading_of};
 
-use bib_queries::names::entry_names;
-use bib_syntax::raw::{Pair, RawBibliography, RawChunk, RawEntry};
-use bib_tables::fields::is_reference_field;
+use bib_queries::names::{entry_names, push_references, push_used_in_fields};
+use bib_syntax::raw::{Pair, RawBibliography, RawEntry};
 use bib_text::spanned::Spanned;
 use edit_units::units::Unit;
 use std::alloc::{AllocError, Global};
-
-// Appends a name unless it is empty.
-fn push_filled<'s>(names: &mut Vec<&'s str>, name: &'s str) -> Result<(), AllocError>
-    ensures { OnOk result (text_list names.new ≡ text_list names.old ++ queries.name_if_filled name.now) }
-{
-    if name.is_empty() {
-        return Ok(());
-    }
-    names.push(name)?;
-    Ok(())
-}
-
-// Appends the parts of a comma-separated list, without the white space around them and without empty parts.
-fn push_parts<'s>(names: &mut Vec<&'s str>, list: &'s str) -> Result<(), AllocError>
-    ensures { OnOk result (text_list names.new ≡ text_list names.old ++ queries.comma_parts list.now) }
-{
-    'parts: for part in list.split(',') {
-        push_filled(names, part.trim())?;
-    }
-    Ok(())
-}
-
-// Appends the parts of a piece if it is a literal, which is a comma-separated list.
-fn push_piece<'s>(names: &mut Vec<&'s str>, piece: &Spanned<RawChunk<'s>>) -> Result<(), AllocError>
-    ensures { OnOk result (text_list names.new ≡ text_list names.old ++ queries.piece_parts (piece_of piece.now)) }
-{
-    match piece.v {
-        RawChunk::Normal(text) => push_parts(names, text),
-        RawChunk::Abbreviation(_) => Ok(()),
-    }
-}
-
-// Appends the parts of the literals of a value, which are comma-separated lists.
-fn push_listed<'s>(
-    names: &mut Vec<&'s str>,
-    value: &[Spanned<RawChunk<'s>>],
-) -> Result<(), AllocError>
-    ensures { OnOk result (text_list names.new ≡ text_list names.old ++ queries.literal_parts (map piece_of value.now)) }
-{
-    'pieces: for piece in value {
-        push_piece(names, piece)?;
-    }
-    Ok(())
-}
-
-// Appends the names that a field lists, if it is a reference.
-fn push_reference_field<'s>(names: &mut Vec<&'s str>, field: &Pair<'s>) -> Result<(), AllocError>
-    ensures { OnOk result (text_list names.new ≡ text_list names.old ++ queries.references_in (field_of field.now)) }
-{
-    if is_reference_field(field.key.v) {
-        return push_listed(names, &field.value.v);
-    }
-    Ok(())
-}
-
-// Appends the names that an entry with these fields refers to.
-fn push_references<'s>(names: &mut Vec<&'s str>, fields: &[Pair<'s>]) -> Result<(), AllocError>
-    ensures { OnOk result (text_list names.new ≡ text_list names.old ++ queries.references_of (map field_of fields.now)) }
-{
-    'fields: for field in fields {
-        push_reference_field(names, field)?;
-    }
-    Ok(())
-}
-
-// Appends the name of a piece if it is an abbreviation.
-fn push_used_piece<'s>(
-    names: &mut Vec<&'s str>,
-    piece: &Spanned<RawChunk<'s>>,
-) -> Result<(), AllocError>
-    ensures { OnOk result (text_list names.new ≡ text_list names.old ++ queries.used_as (piece_of piece.now)) }
-{
-    match piece.v {
-        RawChunk::Normal(_) => Ok(()),
-        RawChunk::Abbreviation(name) => {
-            names.push(name)?;
-            Ok(())
-        }
-    }
-}
-
-// Appends the abbreviations that a value uses.
-fn push_used<'s>(
-    names: &mut Vec<&'s str>,
-    value: &[Spanned<RawChunk<'s>>],
-) -> Result<(), AllocError>
-    ensures { OnOk result (text_list names.new ≡ text_list names.old ++ queries.used_in_value (map piece_of value.now)) }
-{
-    'pieces: for piece in value {
-        push_used_piece(names, piece)?;
-    }
-    Ok(())
-}
-
-// Appends the abbreviations that fields use.
-fn push_used_in_fields<'s>(names: &mut Vec<&'s str>, fields: &[Pair<'s>]) -> Result<(), AllocError>
-    ensures { OnOk result (text_list names.new ≡ text_list names.old ++ queries.used_in_fields (map field_of fields.now)) }
-{
-    'fields: for field in fields {
-        push_used(names, &field.value.v)?;
-    }
-    Ok(())
-}
 
 // Returns the abbreviations that the values of a file use.
 fn abbreviations_of<'s>(

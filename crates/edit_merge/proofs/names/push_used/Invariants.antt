@@ -1,8 +1,0 @@
-use Rattle.std.proofs.Common.{◌≡◌, ◌++◌, map, take}
-use Rattle.bib_syntax.specs.Views.{piece_of}
-use Rattle.bib_queries.specs.Names.{used_in_value}
-use Rattle.bib_queries.specs.Texts.{text_list}
-use Rattle.edit_merge.proofs.names.push_used.Given as goal
-
-abbrev pub invariant-pieces : goal.invariant-pieces
-invariant-pieces l = text_list l.names ≡ text_list l.initial.names ++ used_in_value (map piece_of (take l.piece-index l.value))
