@@ -944,6 +944,10 @@ run 'several fields with the name, and comments' 0 \
     $'@book{k,\n  % about the title\n  title = {T},\n  % about the note % about the year\n  year = 2000,\n}\n' unset k note -f notes.bib
 run 'an entry is taken out' 0 $'@misc{b, title={x y}, author={Knuth, D.}, year={1984}}\n' remove a -f two.bib
 run 'all entries are taken out' 0 '' remove a b -f two.bib
+printf '@misc{a, title={1}}\n\n@misc{b, title={2}}\n@misc{a, title={3}}\n\n@misc{c, title={4}}\n' >same_keys.bib
+run 'entries are removed in another order' 0 $'@misc{a, title={1}}\n\n@misc{a, title={3}}\n\n' remove c b -f same_keys.bib
+run 'the first entry with each key is removed' 0 $'@misc{b, title={2}}\n@misc{a, title={3}}\n\n' remove c a -f same_keys.bib
+run 'the key of two entries is given twice' 0 $'@misc{b, title={2}}\n@misc{c, title={4}}\n' remove a a -f same_keys.bib
 printf '@misc{c, title={C}}\n' >input
 run 'an entry is added' 0 "$(cat two.bib)"$'\n\n@misc{c, title={C}}\n' add -f two.bib
 cp two.bib input
@@ -971,6 +975,9 @@ refuses() {
 }
 refuses 'no such key' 1 $'bibkit: two.bib: `z`: `title`: no entry has the key\n' set z title=A -f two.bib
 refuses 'no such key, after an edit that is made' 1 $'bibkit: two.bib: `z`: no entry has the key\n' remove a z -f two.bib
+refuses 'two keys of no entry' 1 $'bibkit: two.bib: `z`: no entry has the key\n' remove a z y -f two.bib
+refuses 'a key of no entry before another key' 1 $'bibkit: two.bib: `z`: no entry has the key\n' remove z a -f two.bib
+refuses 'the key of one entry is given twice' 1 $'bibkit: two.bib: `a`: no entry has the key\n' remove a a -f two.bib
 is_there=': an entry has the name already, as its key or in its field `ids`'
 refuses 'a key that is there' 1 "bibkit: two.bib: \`a\` to \`b\`$is_there"$'\n' rename a b -f two.bib
 no_key=$': a new key isn\'t empty or `*`, and has no white space, control character, comma, quote, brace, parenthesis, `--` or any of # $ % = \\ ~\n'

@@ -73,6 +73,15 @@ fn without_entries(alloc: Global, keys: &str, document: &RawDocument<'_>) -> Res
     Ok(document.remove_entries(alloc, &set)?)
 }
 
+// The text without the first entry with each of some keys.
+fn without_firsts(alloc: Global, words: &str, document: &RawDocument<'_>) -> Result<String, EditError> {
+    let mut keys = Vec::new(alloc);
+    'keys: for key in words.split(',') {
+        keys.push(key)?;
+    }
+    document.remove_first_entries(alloc, &keys)
+}
+
 // The text that comes of an edit, if the call is one.
 fn edited(alloc: Global, call: &str, document: &RawDocument<'_>) -> Option<Result<String, EditError>> {
     if let Some(words) = call.strip_prefix("set ") {
@@ -94,6 +103,9 @@ fn edited(alloc: Global, call: &str, document: &RawDocument<'_>) -> Option<Resul
     }
     if let Some(keys) = call.strip_prefix("remove-in ") {
         return Some(without_entries(alloc, keys, document));
+    }
+    if let Some(keys) = call.strip_prefix("remove-each ") {
+        return Some(without_firsts(alloc, keys, document));
     }
     if let Some(words) = call.strip_prefix("rename ") {
         let (old, new) = words.split_once(' ')?;

@@ -7,6 +7,7 @@ ghost use Rattle.bibkit_commands.specs.Messages.{no_pair_text, of_program, on_fi
 use crate::recoding::{Recoding, recode};
 use crate::refusals::{printing_stop, unbalanced_quotes_line};
 use crate::rekeying::{Rekeying, rekey};
+use crate::removing::distinct_removals;
 use crate::replacing::replace;
 use crate::resolving::resolve;
 use crate::selecting::{SelectedEdit, edit_selected};
@@ -338,6 +339,14 @@ fn edit(rt: &HostRuntime, editing: &Editing<'_>, edits: &[Edit<'_>]) -> Result<(
     Ok(())
 }
 
+// Applies edits to a file as `edit` does. Several removals of different entries are one edit, so that the file is parsed only once.
+fn edit_these(rt: &HostRuntime, editing: &Editing<'_>, edits: &[Edit<'_>]) -> Result<(), Stop> {
+    match distinct_removals(rt.alloc(), edits)? {
+        Some(keys) => edit(rt, editing, &[Edit::RemoveEach { keys: &keys }]),
+        None => edit(rt, editing, edits),
+    }
+}
+
 // Fails with a message and status 1 if the text of standard input contains a text in quotes whose braces don't balance. A syntax error
 // is left to the edit.
 fn check_added(alloc: Global, text: &str) -> Result<(), Stop> {
@@ -392,7 +401,7 @@ fn no_pair_stop(alloc: Global, word: &str, pair: &str) -> Result<Stop, AllocErro
 fn answer(rt: &HostRuntime, editing: &Editing<'_>) -> Result<(), Stop> {
     check(rt.alloc(), editing)?;
     match &editing.edits {
-        Edits::These(edits) => edit(rt, editing, edits),
+        Edits::These(edits) => edit_these(rt, editing, edits),
         Edits::AddInput => add_input(rt, editing),
         Edits::Collect { fields, at_least } => {
             let fields = collected_fields(fields);

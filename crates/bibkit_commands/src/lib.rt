@@ -26,6 +26,7 @@ mod reading_arguments;
 mod recoding;
 mod refusals;
 mod rekeying;
+mod removing;
 mod replacing;
 mod resolving;
 mod rewriting;

@@ -6,6 +6,7 @@ ghost use Rattle.bibkit_commands.specs.Messages as spec;
 ghost use Rattle.bibkit_commands.specs.Messages.{cycle_text, early_use_text};
 
 use crate::edits::after_mark;
+use crate::removing::removal_line;
 use crate::stops::{Stop, error_line, syntax_line};
 use crate::unsetting::unset_line;
 use bib_queries::names::entry_names;
@@ -274,6 +275,10 @@ fn refused_line(
             },
         ) => format!(in alloc; "bibkit: {name}: `{field}`: {why}\n"),
         Some(Edit::Remove { key }) => format!(in alloc; "bibkit: {name}: `{key}`: {why}\n"),
+        Some(Edit::RemoveEach { keys }) => {
+            let src = from_utf8(after_mark(bytes)).unwrap_or("");
+            removal_line(alloc, name, src, keys, why)
+        }
         Some(Edit::UnsetAll { keys, name: field }) => {
             let src = from_utf8(after_mark(bytes)).unwrap_or("");
             unset_line(alloc, name, src, keys, field, edits, why)

@@ -20,7 +20,7 @@ use Rattle.edit_entries.specs.declared.field_edits.FieldEdit.{FieldEdit}
 use Rattle.edit_entries.specs.References.{KeyRenamed, KeysAreRefused, KeysRenamed, RenameIsRefused, given_keys}
 use Rattle.edit_entries.specs.LineEnds.{with_line_ends_of}
 use Rattle.edit_entries.specs.Quotes.{has_unbalanced_quotes}
-use Rattle.edit_entries.specs.Selected.{EntriesRemoved, FieldsUnset, UnsettingIsRefused}
+use Rattle.edit_entries.specs.Selected.{EntriesRemoved, FieldsUnset, FirstsAreRefused, FirstsRemoved, UnsettingIsRefused}
 use Rattle.edit_entries.specs.Setting.{CanBeNewName, FieldSet, SetIsRefused, value_of}
 use Rattle.edit_entries.specs.Unset.{FieldUnset}
 use Rattle.edit_entries.specs.declared.errors.EditError.{EditError}
@@ -39,7 +39,7 @@ use Rattle.edit_strings.specs.Collected.{AreMadeAbbreviations}
 use Rattle.edit_strings.specs.Expanded.{ExpandIsRefused, IsExpanded}
 use Rattle.edit_strings.specs.declared.errors.ExpandError.TheVariants as expand_error
 use Rattle.bibkit_edits.specs.declared.edit.Edit.{Edit}
-use Rattle.bibkit_edits.specs.declared.edit.Edit.TheVariants.{Set, Unset, Rename, RenameAll, Fields, UnsetAll, Remove, RemoveAll, Add, Sort, Expand, Collect, ToBiblatex, ToBibtex, Resolve, Format}
+use Rattle.bibkit_edits.specs.declared.edit.Edit.TheVariants.{Set, Unset, Rename, RenameAll, Fields, UnsetAll, Remove, RemoveEach, RemoveAll, Add, Sort, Expand, Collect, ToBiblatex, ToBibtex, Resolve, Format}
 use Rattle.bibkit_edits.specs.declared.edit.Refusal.{Refusal}
 use Rattle.bibkit_edits.specs.declared.edit.Refusal.TheVariants as refusal
 
@@ -121,6 +121,7 @@ EditOutcome (RenameAll keys) d = KeysRenamed d (given_keys keys.now)
 EditOutcome (Fields keys edit) d = AreFieldsEdited (map (λ k. k.now) keys.now) edit d
 EditOutcome (UnsetAll keys name) d = AreFieldsUnset (map (λ k. k.now) keys.now) name.now d
 EditOutcome (Remove key) d = EntryRemoved d key.now
+EditOutcome (RemoveEach keys) d = FirstsRemoved d (map (λ k. k.now) keys.now)
 EditOutcome (RemoveAll keys) d = AreEntriesRemoved (map (λ k. k.now) keys.now) d
 EditOutcome (Add text) d = TextAdded d text.now
 EditOutcome (Sort order) d = IsInOrder order d
@@ -165,6 +166,7 @@ IsEditRefused (RenameAll keys) d why = KeysAreRefused d (given_keys keys.now) wh
 IsEditRefused (Fields keys edit) d why = FieldEditIsRefused d (is_listed (map (λ k. k.now) keys.now)) edit why
 IsEditRefused (UnsetAll keys name) d why = UnsettingIsRefused d (is_listed (map (λ k. k.now) keys.now)) name.now why
 IsEditRefused (Remove key) d why = EntryIsRefused d key.now why
+IsEditRefused (RemoveEach keys) d why = FirstsAreRefused d (map (λ k. k.now) keys.now) why
 IsEditRefused (Add text) d why = TextIsRefused d text.now why
 IsEditRefused _ d why = ⊥
 

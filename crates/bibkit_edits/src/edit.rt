@@ -61,6 +61,11 @@ pub enum Edit<'a> {
         /// The key of the entry.
         key: &'a str,
     },
+    /// Removes the first entry with each of some keys, all at once. A key that is given twice counts once.
+    RemoveEach {
+        /// The keys of the entries.
+        keys: &'a [&'a str],
+    },
     /// Removes several entries at once.
     RemoveAll {
         /// The keys of the entries.

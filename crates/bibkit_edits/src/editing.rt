@@ -234,6 +234,7 @@ fn edit_document(alloc: Global, document: &RawDocument<'_>, edit: &Edit<'_>) -> 
         Edit::Fields { keys, edit } => Ok(edit_fields(alloc, document, keys, &edit)?),
         Edit::UnsetAll { keys, name } => Ok(unset_fields(alloc, document, keys, name)?),
         Edit::Remove { key } => Ok(document.remove_entry(alloc, key)?),
+        Edit::RemoveEach { keys } => Ok(document.remove_first_entries(alloc, keys)?),
         Edit::RemoveAll { keys } => Ok(remove_entries(alloc, document, keys)?),
         Edit::Add { text } => {
             let text = text_to_add(alloc, document, text)?;

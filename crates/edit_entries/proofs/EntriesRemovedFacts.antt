@@ -17,7 +17,7 @@ use Rattle.edit_entries.specs.Cuts.{AreEntriesCut}
 use Rattle.edit_entries.specs.Documents.{Document, IsDocument, IsEdited, entry_removed}
 use Rattle.edit_entries.specs.EditList.{AreEditsInOrder}
 use Rattle.edit_entries.specs.Edits.{Edit, edited, edited_all, moved_entry, moved_file, moved_place, placeless}
-use Rattle.edit_entries.specs.Selected.{AreRemovals, EntriesRemoved, has_selected_key}
+use Rattle.edit_entries.specs.Selected.{AreRemovals, EntriesRemoved, FirstsRemoved, has_each, has_selected_key, is_first_with, passing_after}
 use Rattle.edit_entries.proofs.AgreementFacts.{same_bytes, same_character, same_run}
 use Rattle.edit_entries.proofs.ByEntriesFacts.{ByEntries, by_entries}
 use Rattle.edit_entries.proofs.CutFacts.{cut_file, document_cut, entries_cut}
@@ -113,11 +113,11 @@ first_character text {u} same (ByEntries.more {rest = rest} {e = e} first none b
 -- ---- one entry
 
 -- if no character that passes a test begins a text, none begins the same text elsewhere
-stops_moved : (test : ℕ → Bool) (x y : List ℕ) (a b : ℕ) → drop a x ≡ drop b y → Stops test (place x a) → Stops test (place y b)
+pub stops_moved : (test : ℕ → Bool) (x y : List ℕ) (a b : ℕ) → drop a x ≡ drop b y → Stops test (place x a) → Stops test (place y b)
 stops_moved test x y a b same stops c v char = stops c _ (char_here x (drop v.at y) a c (same ∙ char.here))
 
 -- after a stretch is removed, the text at its start is the text that was after it
-same_rest : (start end : ℕ) (text : List ℕ) → start ≤ length text
+pub same_rest : (start end : ℕ) (text : List ℕ) → start ≤ length text
     → drop start (edited (record { start = start; end = end; bytes = [] }) text) ≡ drop end text
 same_rest start end text within =
     let same : start ≡ start + length {A = ℕ} [] = omega arith in
@@ -141,6 +141,16 @@ removed_alike d new before rest e at alike =
     ap (of_entries (placeless (moved_file move new.says))) (remove_mapped view (map (moved_entry move) new.says.entries) k)
     ∙ ap without (file_placeless move new.says ∙ alike)
     ∙ ap (of_entries (placeless d.says)) (taken_out view before rest e k refl ∙ sym (map-append view before rest))
+
+-- the opposite of a test
+abbrev other : (List EntryReading → EntryReading → Bool) → List EntryReading → EntryReading → Bool
+other test before e = not (test before e)
+
+-- if a test doesn't depend on the entries before an entry, the entries that pass it are the filtered ones
+passing_filter : (test : EntryReading → Bool) (before es : List EntryReading)
+    → passing_after (λ before e. test e) before es ≡ filter test es
+passing_filter test before [] = refl
+passing_filter test before (e ∷ es) = ap (λ l. cond (test e) (e ∷ l) l) (passing_filter test (before ++ e ∷ []) es)
 
 module _ (d : Document) (read : IsDocument d) where
   -- if later entries are edited, as in `Removals`, the entry `e` and the white space after it can be removed too
@@ -265,10 +275,10 @@ module _ (d : Document) (read : IsDocument d) where
             (same_character d.text more.chain.after.text high more.chain.front to_start.text (omega (arith, bound, past)) h.sign)) refl;
       }
 
-  all_removed : (selected : List ℕ → Bool) (before es : List EntryReading) (edits : List Edit) (at : ℕ) → d.says.entries ≡ before ++ es
-      → AreEntriesCut d.text at es → AreRemovals d.text (filter (has_selected_key selected) es) edits
-      → Removals d edits before (filter (λ e. not (has_selected_key selected e)) es) (next_start es (length d.text))
-  all_removed selected before [] [] at whole cut removals = record {
+  all_removed : (test : List EntryReading → EntryReading → Bool) (before es : List EntryReading) (edits : List Edit) (at : ℕ)
+      → d.says.entries ≡ before ++ es → AreEntriesCut d.text at es → AreRemovals d.text (passing_after test before es) edits
+      → Removals d edits before (passing_after (other test) before es) (next_start es (length d.text))
+  all_removed test before [] [] at whole cut removals = record {
     chain = record {
       after = d;
       read = read;
@@ -280,39 +290,47 @@ module _ (d : Document) (read : IsDocument d) where
     };
     stops = stops_at_end is_whitespace refl;
   }
-  all_removed selected before [] (x ∷ xs) at whole cut removals = elim removals [ ]
-  all_removed selected before (e ∷ es) edits at whole cut removals =
-      by_case (selected e.key.text) edits
+  all_removed test before [] (x ∷ xs) at whole cut removals = elim removals [ ]
+  all_removed test before (e ∷ es) edits at whole cut removals =
+      by_case (test before e) edits
       (λ later others.
-      all_removed selected (before ++ e ∷ []) es later (e.end + 1) (whole ∙ sym (append_assoc before (e ∷ []) es)) cut.2 others) removals
+      all_removed test (before ++ e ∷ []) es later (e.end + 1) (whole ∙ sym (append_assoc before (e ∷ []) es)) cut.2 others) removals
     where
       cut' : AreEntriesCut d.text e.start (e ∷ es)
       cut' = (record { ordered = omega arith; start_cut = cut.0.end_cut; end_cut = cut.0.end_cut }, cut.1, cut.2)
 
+      gone : List EntryReading
+      gone = passing_after test (before ++ e ∷ []) es
+
+      left : List EntryReading
+      left = passing_after (other test) (before ++ e ∷ []) es
+
       by_case : (b : Bool) (edits : List Edit)
-          → ((later : List Edit) → AreRemovals d.text (filter (has_selected_key selected) es) later
-          → Removals d later (before ++ e ∷ []) (filter (λ x. not (has_selected_key selected x)) es) (next_start es (length d.text)))
-          → AreRemovals d.text (cond b (e ∷ filter (has_selected_key selected) es) (filter (has_selected_key selected) es)) edits
-          → Removals d edits before
-          (cond (not b) (e ∷ filter (λ x. not (has_selected_key selected x)) es)
-          (filter (λ x. not (has_selected_key selected x)) es)) e.start
+          → ((later : List Edit) → AreRemovals d.text gone later → Removals d later (before ++ e ∷ []) left (next_start es (length d.text)))
+          → AreRemovals d.text (cond b (e ∷ gone) gone) edits → Removals d edits before (cond (not b) (e ∷ left) left) e.start
       by_case true [] more removals = elim removals [ ]
       by_case true (x ∷ xs) more (AreRemovals.next {at = n} white removals) =
-          removal_step before es (filter (λ x. not (has_selected_key selected x)) es) xs e n whole cut' white (more xs removals)
-      by_case false edits more removals =
-          stays_step before es (filter (λ x. not (has_selected_key selected x)) es) edits e whole cut' (more edits removals)
+          removal_step before es left xs e n whole cut' white (more xs removals)
+      by_case false edits more removals = stays_step before es left edits e whole cut' (more edits removals)
 
-  pub entries_removed : (selected : List ℕ → Bool) (edits : List Edit)
-      → AreRemovals d.text (filter (has_selected_key selected) d.says.entries) edits
-      → Removals d edits [] (filter (λ e. not (has_selected_key selected e)) d.says.entries) (next_start d.says.entries (length d.text))
-  entries_removed selected edits removals = all_removed selected [] d.says.entries edits 0 refl (document_cut d.text d.says read) removals
+  pub entries_removed : (test : List EntryReading → EntryReading → Bool) (edits : List Edit)
+      → AreRemovals d.text (passing_after test [] d.says.entries) edits
+      → Removals d edits [] (passing_after (other test) [] d.says.entries) (next_start d.says.entries (length d.text))
+  entries_removed test edits removals = all_removed test [] d.says.entries edits 0 refl (document_cut d.text d.says read) removals
+
+  pub passing_in_order : (test : List EntryReading → EntryReading → Bool) (edits : List Edit)
+      → AreRemovals d.text (passing_after test [] d.says.entries) edits → AreEditsInOrder d.text 0 edits
+  passing_in_order test edits removals =
+      let at : ℕ = next_start d.says.entries (length d.text) in
+      within_order d.text 0 (length d.text) edits
+      (within_earlier d.text 0 at (length d.text) edits (omega arith) (entries_removed test edits removals).chain.within)
 
   pub removals_in_order : (selected : List ℕ → Bool) (edits : List Edit)
       → AreRemovals d.text (filter (has_selected_key selected) d.says.entries) edits → AreEditsInOrder d.text 0 edits
   removals_in_order selected edits removals =
-      let at : ℕ = next_start d.says.entries (length d.text) in
-      within_order d.text 0 (length d.text) edits
-      (within_earlier d.text 0 at (length d.text) edits (omega arith) (entries_removed selected edits removals).chain.within)
+      let test : EntryReading → Bool = has_selected_key selected in
+      passing_in_order (λ before e. test e) edits
+      (subst (λ es. AreRemovals d.text es edits) (sym (passing_filter test [] d.says.entries)) removals)
 
 -- if a call returns a text with the edits that remove the selected entries, it returns the document without them
 pub removal_answer : {S E : Type 0} (bytes : S → List ℕ) (r : Result S E) (d : Document) (selected : List ℕ → Bool) (edits : List Edit)
@@ -320,10 +338,32 @@ pub removal_answer : {S E : Type 0} (bytes : S → List ℕ) (r : Result S E) (d
     → IfOk r (λ new. bytes new ≡ edited_all edits d.text) → IfOk r (λ new. IsEdited (EntriesRemoved d selected) (bytes new))
 removal_answer bytes (Err e) d selected edits read removals is = _
 removal_answer bytes (Ok new) d selected edits read removals is =
-    let x = (entries_removed d read selected edits removals).chain in
+    let test : EntryReading → Bool = has_selected_key selected in
+    let removals' = subst (λ es. AreRemovals d.text es edits) (sym (passing_filter test [] d.says.entries)) removals in
+    let x = (entries_removed d read (λ before e. test e) edits removals').chain in
+    let left = passing_filter (λ e. not (test e)) [] d.says.entries in
     record {
       document = x.after;
-      outcome = record { edits = edits; removals = removals; text = x.text; alike = x.alike };
+      outcome = record {
+        edits = edits;
+        removals = removals;
+        text = x.text;
+        alike = x.alike ∙ ap (λ es. placeless (of_entries d.says es)) left;
+      };
+      is = is ∙ sym x.text;
+      read = x.read;
+    }
+
+-- a text with the edits that remove the first entry with each of some keys, each of which is the key of an entry
+pub firsts_removed : {S : Type 0} (bytes : S → List ℕ) (new : S) (d : Document) (keys : List (List ℕ)) (edits : List Edit)
+    → IsDocument d → has_each d.says.entries keys ≡ true
+    → AreRemovals d.text (passing_after (is_first_with keys) [] d.says.entries) edits
+    → bytes new ≡ edited_all edits d.text → IsEdited (FirstsRemoved d keys) (bytes new)
+firsts_removed bytes new d keys edits read found removals is =
+    let x = (entries_removed d read (is_first_with keys) edits removals).chain in
+    record {
+      document = x.after;
+      outcome = record { found = found; edits = edits; removals = removals; text = x.text; alike = x.alike };
       is = is ∙ sym x.text;
       read = x.read;
     }

@@ -16,14 +16,17 @@ pub mod EntriesRemovedFacts
 pub mod EntryChangeFacts
 pub mod EntryCopyFacts
 pub mod EntryFacts
+pub mod ExchangedFacts
 pub mod FieldEditFacts
 pub mod FieldMadeFacts
 pub mod FieldNameFacts
 mod FieldsFromFacts
+pub mod FirstFacts
 pub mod FitFacts
 mod GapEndFacts
 mod IndexFacts
 pub mod GrammarFacts
+pub mod InTurnFacts
 pub mod JoinedFacts
 pub mod KeptFacts
 mod KeyFacts

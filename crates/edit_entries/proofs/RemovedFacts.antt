@@ -35,7 +35,7 @@ after_run stop x = x
 after_run (step {c = c} char white others) x = after_run others (skipped_rest char (white_skipped c white) x)
 
 -- at the start of a file there is a character or the end of the text
-file_border : {u : Place} {says : FileReading} → File longest u says → Border u
+pub file_border : {u : Place} {says : FileReading} → File longest u says → Border u
 file_border (file.end end) = inl end
 file_border (file.skipped char passes x) = inr (_, _, char)
 file_border (file.line_comment m x) = inr (_, _, m.sign)

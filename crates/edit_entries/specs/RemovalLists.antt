@@ -1,6 +1,6 @@
 -- Machinery: words of private contracts.
 -- Lists of edits that remove entries.
-use Rattle.std.specs.Prelude.{◌≡◌, ℕ, List, ◌++◌}
+use Rattle.std.specs.Prelude.{◌≡◌, ℕ, Bool, if◌then◌else◌, List, [], ◌∷◌, ◌++◌}
 use Rattle.bib_syntax.specs.Reading.{EntryReading}
 use Rattle.edit_entries.specs.Edits.{Edit}
 use Rattle.edit_entries.specs.Selected.{AreRemovals}
@@ -10,3 +10,7 @@ pub record AreRemovalsAdded (text : List ℕ) (es : List EntryReading) (old new 
   pub edits : List Edit
   pub removals : AreRemovals text es edits
   pub are : new ≡ old ++ edits
+
+-- a list of this entry if a test is passed, or else an empty one
+abbrev pub entry_if : Bool → EntryReading → List EntryReading
+entry_if passes e = if passes then e ∷ [] else []

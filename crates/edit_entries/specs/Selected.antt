@@ -1,11 +1,12 @@
 -- Meaning: words of public contracts.
--- Entries whose keys are selected: a field of each is unset, or each is removed.
-use Rattle.std.specs.Prelude.{◌≡◌, ℕ, ◌+◌, ◌&&◌, Bool, true, false, if◌then◌else◌, List, [], ◌∷◌, filter, map, not, ⊤}
+-- Entries whose keys are selected: a field of each is unset, or each is removed, or the first entry with each key is removed.
+use Rattle.std.specs.Prelude.{◌≡◌, ℕ, ◌+◌, ◌&&◌, Bool, true, false, if◌then◌else◌, List, [], ◌∷◌, ◌++◌, filter, map, not, ⊤}
 use Rattle.std.specs.Char.{is_whitespace}
-use Rattle.std.specs.List.{flat_map, list_any}
+use Rattle.std.specs.List.{flat_map, list_all, list_any}
 use Rattle.bib_text.specs.Places.{Longest, place}
 use Rattle.bib_syntax.specs.Reading.{EntryReading}
-use Rattle.edit_entries.specs.Documents.{Document, have_only}
+use Rattle.bib_queries.specs.Needed.{is_listed}
+use Rattle.edit_entries.specs.Documents.{Document, EntryRemoved, have_only, is_keyed}
 use Rattle.edit_entries.specs.Edits.{Edit, edited_all, placeless}
 use Rattle.edit_entries.specs.Unset.{unset_edits, without_named}
 use Rattle.edit_entries.specs.declared.errors.EditError.{EditError}
@@ -65,3 +66,47 @@ pub record EntriesRemoved (d : Document) (selected : List ℕ → Bool) (after :
   pub text : after.text ≡ edited_all edits d.text
   pub alike : placeless after.says
       ≡ placeless (record d.says { entries = filter (λ e. not (has_selected_key selected e)) d.says.entries })
+
+-- ---- the first entry with each key is removed
+
+-- the entries that pass a test. The test sees the entries before an entry, and the entry. The first of these entries comes after `before`
+abbrev pub passing_after : (List EntryReading → EntryReading → Bool) → List EntryReading → List EntryReading → List EntryReading
+passing_after test before [] = []
+passing_after test before (e ∷ es) =
+    if test before e then e ∷ passing_after test (before ++ e ∷ []) es else passing_after test (before ++ e ∷ []) es
+
+-- whether an entry has one of these keys, and no entry before it has the same key
+abbrev pub is_first_with : List (List ℕ) → List EntryReading → EntryReading → Bool
+is_first_with keys before e = is_listed keys e.key.text && not (list_any (is_keyed e.key.text) before)
+
+-- whether each of these keys is the key of one of these entries
+abbrev pub has_each : List EntryReading → List (List ℕ) → Bool
+has_each entries keys = list_all (λ key. list_any (is_keyed key) entries) keys
+
+-- the outcome of removing entries by their keys: each key is that of an entry, and the first entry with it is removed with the white space
+-- after it. The reading is as it was except for these entries and byte offsets.
+pub record FirstsRemoved (d : Document) (keys : List (List ℕ)) (after : Document) : Type 0 where
+  pub found : has_each d.says.entries keys ≡ true
+  pub edits : List Edit
+  pub removals : AreRemovals d.text (passing_after (is_first_with keys) [] d.says.entries) edits
+  pub text : after.text ≡ edited_all edits d.text
+  pub alike : placeless after.says
+      ≡ placeless (record d.says { entries = passing_after (λ before e. not (is_first_with keys before e)) [] d.says.entries })
+
+-- for each error, the condition under which removing the first entries with these keys may be refused with it
+abbrev pub FirstsAreRefused : Document → List (List ℕ) → EditError → Type 0
+FirstsAreRefused d keys UnknownKey = has_each d.says.entries keys ≡ false
+FirstsAreRefused d keys KeyIsThere = ⊥
+FirstsAreRefused d keys NotAKey = ⊥
+FirstsAreRefused d keys NotAName = ⊥
+FirstsAreRefused d keys NotInBraces = ⊥
+FirstsAreRefused d keys NotBare = ⊥
+FirstsAreRefused d keys DefinitionIsThere = ⊥
+FirstsAreRefused d keys NoFieldLeft = ⊥
+FirstsAreRefused d keys OutOfMemory = ⊤
+
+-- removing the first entry with each of these keys, one after the other
+pub data RemovedInTurn : List (List ℕ) → Document → Document → Type 0 where
+  none : {d : Document} → RemovedInTurn [] d d
+  next : {key : List ℕ} {keys : List (List ℕ)} {d between after : Document} → EntryRemoved d key between
+      → RemovedInTurn keys between after → RemovedInTurn (key ∷ keys) d after

@@ -1,6 +1,6 @@
 //! A bibliography file's text with its raw reading, and the edits of it.
 
-ghost use Rattle.std.specs.Prelude.{◌≡◌, ◌⊎◌, IfOk, IfErr, MatchOption, OnOk, length};
+ghost use Rattle.std.specs.Prelude.{◌≡◌, ◌⊎◌, IfOk, IfErr, MatchOption, OnOk, length, map};
 ghost use Rattle.std.specs.String.{string_bytes};
 ghost use Rattle.bib_queries.specs.Sets.{is_in_set};
 ghost use Rattle.bib_syntax.specs.Errors.{Refuses, out_of_memory};
@@ -15,7 +15,7 @@ ghost use Rattle.edit_entries.specs.FieldEdits.{FieldEditIsRefused, HasFitValue,
 ghost use Rattle.edit_entries.specs.NewKeys.{key_for};
 ghost use Rattle.edit_entries.specs.Quotes as quotes;
 ghost use Rattle.edit_entries.specs.References.{KeyRenamed, KeysAreRefused, KeysRenamed, RenameIsRefused, given_keys};
-ghost use Rattle.edit_entries.specs.Selected.{EntriesRemoved, FieldsUnset, UnsettingIsRefused};
+ghost use Rattle.edit_entries.specs.Selected.{EntriesRemoved, FieldsUnset, FirstsAreRefused, FirstsRemoved, UnsettingIsRefused};
 ghost use Rattle.edit_entries.specs.Setting.{CanBeNewName, FieldSet, SetIsRefused, value_of};
 ghost use Rattle.edit_entries.specs.Unset.{FieldUnset};
 
@@ -24,6 +24,7 @@ use crate::editing::edited_all;
 use crate::errors::EditError;
 use crate::field_edits::{FieldEdit, edit_text, field_edits, first_start};
 use crate::field_value::FieldValue;
+use crate::firsts::first_removals;
 use crate::joining::{joined, shares_name};
 use crate::keys::{first_unsafe_key, have_new_keys, may_get_keys};
 use crate::lookup::{entry_index, entry_with};
@@ -209,6 +210,21 @@ impl<'s> RawDocument<'s> {
         let text = self.text();
         let edits = removals(alloc, text, &self.raw.entries, keys)?;
         edited_all(alloc, text, &edits)
+    }
+
+    /// Returns the text without the first entry with each of these keys, and without the white space after each. A key that is given twice
+    /// counts once.
+    ///
+    /// # Errors
+    ///
+    /// `UnknownKey` if no entry has one of the keys.
+    pub fn remove_first_entries(&self, alloc: Global, keys: &[&str]) -> Result<String, EditError>
+        ensures removed { IfOk result (λ new. IsEdited (FirstsRemoved self.now (map (λ k. k.now) keys.now)) (string_bytes new)) }
+        ensures refused { IfErr result (FirstsAreRefused self.now (map (λ k. k.now) keys.now)) }
+    {
+        let text = self.text();
+        let edits = first_removals(alloc, text, &self.raw.entries, keys)?;
+        Ok(edited_all(alloc, text, &edits)?)
     }
 
     // Returns the text with new keys of entries, also in the references to them (see `rename_key`).

@@ -20,6 +20,7 @@ pub mod editing;
 pub mod errors;
 pub mod field_edits;
 pub mod field_value;
+mod firsts;
 mod joining;
 mod keys;
 pub mod laws;
