@@ -1,6 +1,6 @@
 //! The command `merge`: the merged text of three versions of a file, and a message for each conflict.
 
-ghost use Rattle.std.specs.Prelude.{◌≡◌, IfOk, MatchOption};
+ghost use Rattle.std.specs.Prelude.{◌≡◌, IfOk, MatchOption, true};
 ghost use Rattle.std.specs.List.{list_any};
 ghost use Rattle.std.specs.String.{string_bytes};
 ghost use Rattle.bibkit_versions.specs.Merging as spec;
@@ -193,7 +193,7 @@ fn output_by_units<'v, 's>(
 }
 
 // Returns the output for a merge in which entries that both sides changed are merged by their fields, or `None` if the text of a side with
-// these entries has a syntax error.
+// these entries has a syntax error. There are such entries.
 fn output_by_fields(
     alloc: Global,
     file: &str,
@@ -201,7 +201,8 @@ fn output_by_fields(
     versions: Versions<'_, '_>,
     markers: Markers<'_>,
 ) -> Result<Option<Output>, AllocError>
-    ensures { IfOk result (λ found. MatchOption found (IsRefusedMerge (versions_of versions.entry))
+    ensures { spec.is_changed_twice (versions_of versions.entry) ≡ true → IfOk result
+        (λ found. MatchOption found (IsRefusedMerge (versions_of versions.entry))
         (λ o. IsMergeByFields (marker_lines markers.entry) (versions_of versions.entry) (string_bytes o.text) o.has_conflict)) }
 {
     let our_text = with_merged_entries(alloc, versions, Side::Ours)?;

@@ -39,6 +39,12 @@ all_stay ds texts (AreNewTexts.refused_base refused) = refl
 all_stay ds texts (AreNewTexts.refused_ours refused) = refl
 all_stay ds texts (AreNewTexts.refused_theirs refused) = refl
 
+-- without renames all texts stay
+pub no_renames : (vs : Versions) (ds : Documents) → renames vs ds ≡ [] → AreNewTexts (new_key (renames vs ds)) ds no_texts
+no_renames vs ds none =
+    subst (λ rs. AreNewTexts (new_key rs) ds no_texts) (sym none)
+    (AreNewTexts.renamed (none_after ds.base) (none_after ds.ours) (none_after ds.theirs))
+
 pub equal_texts_stay : (vs : Versions) (ds : Documents) (texts : NewTexts) → have_different_texts vs ≡ false → AreDocumentsOf vs ds
     → HaveNewTexts vs texts → texts ≡ no_texts
 equal_texts_stay vs ds texts equal are have =
