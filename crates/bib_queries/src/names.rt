@@ -103,10 +103,7 @@ fn push_reference_field<'s>(names: &mut Vec<&'s str>, field: &Pair<'s>) -> Resul
 }
 
 /// Appends the names that an entry with these fields refers to. The only error is out of memory. After it, `names` may have some of them.
-pub fn push_references<'s>(
-    names: &mut Vec<&'s str>,
-    fields: &[Pair<'s>],
-) -> Result<(), AllocError>
+pub fn push_references<'s>(names: &mut Vec<&'s str>, fields: &[Pair<'s>]) -> Result<(), AllocError>
     ensures { OnOk result (text_list names.new ≡ text_list names.old ++ references_of (map field_of fields.now)) }
 {
     'fields: for field in fields {
