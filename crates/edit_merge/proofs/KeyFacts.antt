@@ -1,5 +1,5 @@
 -- A merge has no key twice if its sides have none twice.
-use Rattle.std.proofs.Common.{◌≡◌, inl, inr, ℕ, zero, suc, ◌+◌, ◌<◌, ◌≤◌, ◌^◌, arith, codes, Bool, true, false, List, [], ◌∷◌, ◌++◌, Option, Some, None, cond, length, map, refl, sym, ap, ◌∙◌, subst, append-nil, append_assoc}
+use Rattle.std.proofs.Common.{◌≡◌, inl, inr, ℕ, zero, suc, ◌+◌, ◌<◌, ◌≤◌, ◌^◌, arith, codes, Bool, true, false, List, [], ◌∷◌, ◌++◌, Option, Some, None, cond, get_or, length, map, refl, sym, ap, ◌∙◌, subst, append-nil, append_assoc}
 use Rattle.std.specs.Prelude.{◌⊎◌, bytes_eq, count_by, fold, slice_get}
 use Rattle.std.specs.Fmt.{decimal}
 use Rattle.std.specs.List.{AllByRecursion, flat_map}
@@ -45,17 +45,21 @@ no_entry_name : (text key : List ℕ) (u : UnitReading) → u.says.entries ≡ [
 no_entry_name text key u none same =
     by_definitions u.says.abbreviations (same ∙ ap (name_by_entries text u) none)
   where
+    -- texts with different first bytes aren't equal
+    apart : {left right : List ℕ} (x y : ℕ) → left ≡ right → get_or left 0 0 ≡ x → get_or right 0 0 ≡ y → (x ≡ y → ⊥) → ⊥
+    apart x y is left_is right_is differ = differ (sym left_is ∙ ap (λ l. get_or l 0 0) is ∙ right_is)
+
     by_blocks : (blocks : List (Range ℕ)) → entry_name key ≡ name_by_blocks text u blocks → ⊥
-    by_blocks [] is = cc
-    by_blocks (b ∷ bs) is = cc
+    by_blocks [] is = apart 101 116 is refl refl (λ same. omega (arith, same))
+    by_blocks (b ∷ bs) is = apart 101 99 is refl refl (λ same. omega (arith, same))
 
     by_preamble : (preamble : List ℕ) → entry_name key ≡ name_by_preamble text u preamble → ⊥
     by_preamble [] is = by_blocks u.blocks is
-    by_preamble (b ∷ bs) is = cc
+    by_preamble (b ∷ bs) is = apart 101 112 is refl refl (λ same. omega (arith, same))
 
     by_definitions : (fs : List FieldReading) → entry_name key ≡ name_by_definitions text u fs → ⊥
     by_definitions [] is = by_preamble u.says.preamble is
-    by_definitions (f ∷ fs) is = cc
+    by_definitions (f ∷ fs) is = apart 101 115 is refl refl (λ same. omega (arith, same))
 
 -- no own name is that of an entry with this key
 abbrev HasNone : List ℕ → List (List ℕ) → Type 0
@@ -89,6 +93,7 @@ record HasKey (us : List UnitReading) (i : ℕ) (key : List ℕ) : Type 0 where
   has : IsAmong key (unit_keys unit)
 
 among_left : (name : List ℕ) (xs ys : List (List ℕ)) → IsAmong name xs → IsAmong name (xs ++ ys)
+among_left name [] ys here = absurd here
 among_left name (x ∷ xs) ys (inl same) = inl same
 among_left name (x ∷ xs) ys (inr here) = inr (among_left name xs ys here)
 
@@ -106,6 +111,7 @@ key_is_in (u ∷ us) (suc i) key h =
 
 -- lists that are parts of a list of different names
 different_left : (xs ys : List (List ℕ)) → AreAllDifferent (xs ++ ys) → (name : List ℕ) → IsAmong name xs → IsAmong name ys → ⊥
+different_left [] ys all name here there = here
 different_left (x ∷ xs) ys all name (inl same) there =
     not_among (xs ++ ys) x all.0 (among_right x xs ys (subst (λ n. IsAmong n ys) same there))
 different_left (x ∷ xs) ys all name (inr here) there = different_left xs ys all.1 name here there

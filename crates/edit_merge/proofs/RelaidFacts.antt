@@ -21,7 +21,7 @@ record Placed : Type 0 where
   run : HasRun version unit
 
 -- the units with a name
-named : (v : VersionReading) → AreUnits v.text v.units → List ℕ → Placed
+abbrev named : (v : VersionReading) → AreUnits v.text v.units → List ℕ → Placed
 named v are name = record { version = v; unit = version_unit v (named_index v name); run = has_run v (named_index v name) are }
 
 abbrev alike : Placed → Placed → Bool
@@ -65,11 +65,11 @@ alike_both : (p p' q q' : Placed) → alike p p' ≡ true → alike q q' ≡ tru
 alike_both p p' q q' first second is = alike_then p p' q first (alike_then p' q' q is (alike_back q q' second))
 
 unlike_both : (p p' q q' : Placed) → alike p p' ≡ true → alike q q' ≡ true → alike p q ≡ false → alike p' q' ≡ false
-unlike_both p p' q q' first second no =
-    fails (alike p' q') (λ yes. test_clash (alike p q) (alike_both p p' q q' first second yes) no)
+unlike_both p p' q q' first second unlike =
+    fails (alike p' q') (λ both. test_clash (alike p q) (alike_both p p' q q' first second both) unlike)
 
 unlike_unequal : (p q : Placed) → alike p q ≡ false → same p q ≡ false
-unlike_unequal p q no = fails (same p q) (λ yes. test_clash (alike p q) (alike_same p q yes) no)
+unlike_unequal p q unlike = fails (same p q) (λ equal. test_clash (alike p q) (alike_same p q equal) unlike)
 
 conflict_stays : (b o t b' o' t' : Placed) → AreAlike b o t b' o' t' → choice_of b o t ≡ Conflict → choice_of b' o' t' ≡ Conflict
 conflict_stays b o t b' o' t' are is =

@@ -127,22 +127,31 @@ more_renames f names i old new all within new_is so_far =
     ap (λ rs. rs ++ rest) new_is ∙ append_assoc old (option_to_list (f i)) rest
     ∙ ap (λ rs. old ++ rs) (sym (renames_from f names i within)) ∙ so_far
 
+-- a rename was appended if it is counted
+pub data IsCounted (counts : Bool) (old new : List RenameReading) (r : RenameReading) : Type 0 where
+  appended : counts ≡ true → new ≡ old ++ r ∷ [] → IsCounted counts old new r
+  skipped : counts ≡ false → new ≡ old → IsCounted counts old new r
+
 -- the counted renames so far and those that remain, after one more
-pub more_counted : {A : Type 0} (test : RenameReading → Bool) (view : A → RenameReading) (xs : List A) (i : ℕ) (x : A) (counts : Bool)
-    (old new all : List RenameReading) → i < length xs → x ≡ get_or xs i x → counts ≡ test (view x)
-    → new ≡ old ++ cond counts (view x ∷ []) [] → old ++ filter test (map view (drop i xs)) ≡ all
+pub more_counted : {A : Type 0} (test : RenameReading → Bool) (view : A → RenameReading) (xs : List A) (i : ℕ) (default : A) (counts : Bool)
+    (old new all : List RenameReading) → i < length xs → counts ≡ test (view (get_or xs i default))
+    → IsCounted counts old new (view (get_or xs i default)) → old ++ filter test (map view (drop i xs)) ≡ all
     → new ++ filter test (map view (drop (i + 1) xs)) ≡ all
-more_counted test view xs i x counts old new all within is counts_is new_is so_far =
-    let rest = filter test (map view (drop (i + 1) xs)) in
-    ap (λ rs. rs ++ rest) new_is ∙ append_assoc old (cond counts (view x ∷ []) []) rest
-    ∙ ap (λ rs. old ++ rs)
-    (ap (λ b. cond b (view x ∷ []) [] ++ rest) counts_is ∙ by (test (view x)) rest
-    ∙ sym (ap (λ l. filter test (map view l)) (drop_is xs i x within is)))
-    ∙ so_far
+more_counted test view xs i default counts old new all within counts_is counted so_far = by counted
   where
-    by : (b : Bool) (rest : List RenameReading) → cond b (view x ∷ []) [] ++ rest ≡ cond b (view x ∷ rest) rest
-    by true rest = refl
-    by false rest = refl
+    r : RenameReading
+    r = view (get_or xs i default)
+
+    rest : List RenameReading
+    rest = filter test (map view (drop (i + 1) xs))
+
+    next : (b : Bool) → counts ≡ b → filter test (map view (drop i xs)) ≡ cond b (r ∷ rest) rest
+    next b is = ap (λ l. filter test (map view l)) (drop_more xs i default within) ∙ ap (λ t. cond t (r ∷ rest) rest) (sym counts_is ∙ is)
+
+    by : IsCounted counts old new r → new ++ rest ≡ all
+    by (IsCounted.appended is new_is) =
+        ap (λ l. l ++ rest) new_is ∙ append_assoc old (r ∷ []) rest ∙ ap (λ l. old ++ l) (sym (next true is)) ∙ so_far
+    by (IsCounted.skipped is new_is) = ap (λ l. l ++ rest) new_is ∙ ap (λ l. old ++ l) (sym (next false is)) ∙ so_far
 
 -- ---- maps with a new key for an old one
 

@@ -372,6 +372,9 @@ fn texts_after(
     ensures { IfOk result (λ texts. (ds : spec.Documents) → spec.AreDocumentsOf (versions_of versions.entry) ds →
         spec.AreNewTexts (spec.new_key (filter (spec.have_one ds) (map rename_view renames.now))) ds (new_texts_of texts)) }
 {
+    if renames.is_empty() {
+        return Ok(RenamedTexts::none());
+    }
     let Some(base) = document(alloc, versions.base.text())? else {
         return Ok(RenamedTexts::none());
     };
@@ -406,8 +409,5 @@ pub fn renamed_texts(alloc: Global, versions: Versions<'_, '_>) -> Result<Rename
         return Ok(RenamedTexts::none());
     }
     let renames = renames_of_sides(alloc, versions)?;
-    if renames.is_empty() {
-        return Ok(RenamedTexts::none());
-    }
     texts_after(alloc, versions, &renames)
 }

@@ -89,22 +89,22 @@ abbrev move_of : UnitReading → UnitReading → ℕ → ℕ
 move_of u v = moved_at u.start u.end v.start
 
 -- the bytes between two byte offsets of a unit are those at the moved byte offsets
-stretch_moved : {text other : List ℕ} {u v : UnitReading} (a b : ℕ) → Zone (unit_frame text u other v) → IsBetween u.start u.end a
+stretch_moved : {text other : List ℕ} (u v : UnitReading) (a b : ℕ) → Zone (unit_frame text u other v) → IsBetween u.start u.end a
     → IsBetween u.start u.end b
     → between (place other (move_of u v a)) (place other (move_of u v b)) ≡ between (place text a) (place text b)
-stretch_moved {text} {other} {u} {v} a b z ba bb =
-    let ia : Inside (unit_frame text u other v) (place text a) = inside_unit a ba.from ba.to in
-    let ib : Inside (unit_frame text u other v) (place text b) = inside_unit b bb.from bb.to in
+stretch_moved {text} {other} u v a b z ba bb =
+    let ia : Inside (unit_frame text u other v) (place text a) = inside_unit u v a ba.from ba.to in
+    let ib : Inside (unit_frame text u other v) (place text b) = inside_unit u v b bb.from bb.to in
     let size : move_of u v b - move_of u v a ≡ b - a = omega (arith, ia.moved, ib.moved, ia.start, ib.start) in
     ap (λ n. take n (drop (move_of u v a) other)) size
     ∙ bytes_there z a (b - a) (move_of u v a) ia.start (omega (arith, ia.end, ib.end)) ia.moved
 
-outside_moved : {text other : List ℕ} {u v : UnitReading} (at : ℕ) (fs : List FieldReading) (end : ℕ) → Zone (unit_frame text u other v)
+outside_moved : {text other : List ℕ} (u v : UnitReading) (at : ℕ) (fs : List FieldReading) (end : ℕ) → Zone (unit_frame text u other v)
     → IsBetween u.start u.end at → AreBetween u.start u.end fs → IsBetween u.start u.end end
     → outside_fields other (move_of u v at) (map (moved_field (move_of u v)) fs) (move_of u v end) ≡ outside_fields text at fs end
-outside_moved at [] end z first AreBetween.none last = stretch_moved at end z first last
-outside_moved at (f ∷ fs) end z first (AreBetween.some name value others) last =
-    ap₂ (λ x y. x ++ y) (stretch_moved at f.name.start z first name) (outside_moved f.value.end fs end z value others last)
+outside_moved u v at [] end z first AreBetween.none last = stretch_moved u v at end z first last
+outside_moved u v at (f ∷ fs) end z first (AreBetween.some name value others) last =
+    ap₂ (λ x y. x ++ y) (stretch_moved u v at f.name.start z first name) (outside_moved u v f.value.end fs end z value others last)
 
 -- a unit with its only entry, and another unit with the same bytes, whose entry is the same with moved byte offsets
 record HaveSameEntry (text : List ℕ) (u : UnitReading) (e : EntryReading) (other : List ℕ) (v : UnitReading) : Type 0 where
@@ -125,14 +125,14 @@ before_moved : {text other : List ℕ} {u v : UnitReading} {e : EntryReading} �
 before_moved {text} {other} {u} {v} {e} h =
     ap without_start_space
     (ap (λ n. between (place other n) (place other (move_of u v e.start))) (sym h.first)
-    ∙ stretch_moved u.start e.start h.zone (start_between h.order) h.within.first)
+    ∙ stretch_moved u v u.start e.start h.zone (start_between h.order) h.within.first)
 
 behind_moved : {text other : List ℕ} {u v : UnitReading} {e : EntryReading} → HaveSameEntry text u e other v
     → behind_entry other v (moved_entry (move_of u v) e) ≡ behind_entry text u e
 behind_moved {text} {other} {u} {v} {e} h =
     ap without_end_space
     (ap (λ n. between (place other (move_of u v e.end)) (place other n)) (sym h.last)
-    ∙ stretch_moved e.end u.end h.zone h.within.last (end_between h.order))
+    ∙ stretch_moved u v e.end u.end h.zone h.within.last (end_between h.order))
 
 rest_moved : {text other : List ℕ} {u v : UnitReading} {e : EntryReading} → HaveSameEntry text u e other v
     → rest_of_entry other v (moved_entry (move_of u v) e) ≡ rest_of_entry text u e
@@ -140,9 +140,9 @@ rest_moved {text} {other} {u} {v} {e} h =
     ap (filter is_no_layout)
     (ap₂ (λ x y. x ++ y)
     (ap (λ n. between (place other n) (place other (move_of u v e.kind.start))) (sym h.first)
-    ∙ stretch_moved u.start e.kind.start h.zone (start_between h.order) h.within.kind)
+    ∙ stretch_moved u v u.start e.kind.start h.zone (start_between h.order) h.within.kind)
     (ap (outside_fields other (move_of u v e.kind.end) (map (moved_field (move_of u v)) e.fields)) (sym h.last)
-    ∙ outside_moved e.kind.end e.fields u.end h.zone h.within.name h.within.fields (end_between h.order)))
+    ∙ outside_moved u v e.kind.end e.fields u.end h.zone h.within.name h.within.fields (end_between h.order)))
 
 -- ---- units
 

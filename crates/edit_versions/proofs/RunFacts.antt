@@ -92,20 +92,25 @@ first_block b ahead (InUnit.block b' rest) = record {
   says_is = refl;
 }
 
-one_run : {u w : Place} {blocks others : List (Range ℕ)} {says tells : FileReading} → InUnit u blocks says w → InUnit u others tells w
-    → (blocks ≡ others) × (says ≡ tells)
-one_run InUnit.none InUnit.none = (refl, refl)
-one_run InUnit.none (InUnit.skipped char passes rest) = absurd (stuck (smaller char) (ahead_in_unit rest))
-one_run InUnit.none (InUnit.line_comment m rest) = absurd (stuck (line_comment_smaller m) (ahead_in_unit rest))
-one_run InUnit.none (InUnit.block b rest) = absurd (stuck (block_smaller b) (ahead_in_unit rest))
-one_run (InUnit.skipped char passes rest) second = one_run rest (after_char char passes (ahead_in_unit rest) second)
-one_run (InUnit.line_comment m rest) second = one_run rest (after_comment m (ahead_in_unit rest) second)
-one_run {u} {w} (InUnit.block {v = v} {first = first} {rest = rest} {blocks = blocks} b left) second =
-    let f = first_block b (ahead_in_unit left) second in
-    let same = block_same f.block b in
-    let others = one_run left (subst (λ x. InUnit x f.others f.rest w) same.1 f.left) in (
-      ap₂ (λ n bs. record { start = u.at; end = n } ∷ bs) (sym (ap (λ x. x.at) same.1)) others.0 ∙ sym f.blocks_are,
-      ap₂ (λ r s. then r s) (sym same.0) others.1 ∙ sym f.says_is,
+one_run : {u v w : Place} {blocks others : List (Range ℕ)} {says tells : FileReading} → v ≡ w → InUnit u blocks says v
+    → InUnit u others tells w → (blocks ≡ others) × (says ≡ tells)
+one_run same InUnit.none InUnit.none = (refl, refl)
+one_run same InUnit.none (InUnit.skipped {v = x} char passes rest) =
+    absurd (stuck (smaller char) (subst (Ahead x) (sym same) (ahead_in_unit rest)))
+one_run same InUnit.none (InUnit.line_comment {v = x} m rest) =
+    absurd (stuck (line_comment_smaller m) (subst (Ahead x) (sym same) (ahead_in_unit rest)))
+one_run same InUnit.none (InUnit.block {v = x} b rest) =
+    absurd (stuck (block_smaller b) (subst (Ahead x) (sym same) (ahead_in_unit rest)))
+one_run same (InUnit.skipped {v = x} char passes rest) second =
+    one_run same rest (after_char char passes (subst (Ahead x) same (ahead_in_unit rest)) second)
+one_run same (InUnit.line_comment {v = x} m rest) second =
+    one_run same rest (after_comment m (subst (Ahead x) same (ahead_in_unit rest)) second)
+one_run {u} {v} {w} same (InUnit.block {v = x} {first = first} {rest = rest} {blocks = blocks} b left) second =
+    let f = first_block b (subst (Ahead x) same (ahead_in_unit left)) second in
+    let equal = block_same f.block b in
+    let others = one_run same left (subst (λ y. InUnit y f.others f.rest w) equal.1 f.left) in (
+      ap₂ (λ n bs. record { start = u.at; end = n } ∷ bs) (sym (ap (λ y. y.at) equal.1)) others.0 ∙ sym f.blocks_are,
+      ap₂ (λ r s. then r s) (sym equal.0) others.1 ∙ sym f.says_is,
     )
 
 -- ---- the run of a unit
@@ -277,9 +282,9 @@ run_moved {f} {u} z stops iu iv (InUnit.line_comment {v = v} m rest) =
           }
     ] in
     InUnit.line_comment comment (run_moved z stops a iv rest)
-run_moved {f} {u} {v} z stops iu iv (InUnit.block {first = first} {rest = rest} {blocks = blocks} b left) =
+run_moved {f} {u} {v} z stops iu iv (InUnit.block {v = x} {first = first} {rest = rest} {blocks = blocks} b left) =
     let a = inside_between z iu iv (ahead_block b) (ahead_in_unit left) in
-    subst (λ r. InUnit (there f u) (map (moved_range f.move) (record { start = u.at; end = _ } ∷ blocks)) r (there f v))
+    subst (λ r. InUnit (there f u) (map (moved_range f.move) (record { start = u.at; end = x.at } ∷ blocks)) r (there f v))
     (sym (moved-then f.move first rest))
     (InUnit.block (block_there z iu a b) (run_moved z stops a iv left))
 
@@ -316,13 +321,14 @@ unit_zone {text} {other} {u} {v} run run' same =
     record {
       moves = λ n from below. omega (arith, from);
       same = same ∙ ap (λ n. take n (drop v.start other)) (sym size);
-      cut = λ {x} {y} {c} there char below. omega
+      cut = λ {u = x} {v = y} {c} there char below. omega
           (arith, not_over other v.end run'.border there char (omega (arith, size, ordered run, ordered run')), size, ordered run, ordered run');
     }
 
 -- a place in a unit
-pub inside_unit : {text other : List ℕ} {u v : UnitReading} (n : ℕ) → u.start ≤ n → n ≤ u.end → Inside (unit_frame text u other v) (place text n)
-inside_unit n from to = record { text = refl; start = from; end = to; moved = omega (arith, from, to) }
+pub inside_unit : {text other : List ℕ} (u v : UnitReading) (n : ℕ) → u.start ≤ n → n ≤ u.end
+    → Inside (unit_frame text u other v) (place text n)
+inside_unit u v n from to = record { text = refl; start = from; end = to; moved = omega (arith, from, to) }
 
 -- the reading of a unit is that of another one with moved byte offsets
 pub record IsMovedUnit (move : ℕ → ℕ) (u v : UnitReading) : Type 0 where
@@ -341,11 +347,11 @@ same_bytes_same_reading {text} {other} {u} {v} run run' same =
     let last : f.move u.end ≡ v.end = omega (arith, order, order', size) in
     let moved : InUnit (place other (f.move u.start)) (map (moved_range f.move) u.blocks) (moved_file f.move u.says)
     (place other (f.move u.end)) =
-    run_moved z (subst (λ n. Stops no_feed (place other n)) (sym last) run'.stops) (inside_unit u.start (omega arith) order)
-    (inside_unit u.end order (omega arith)) run.inside in
+    run_moved z (subst (λ n. Stops no_feed (place other n)) (sym last) run'.stops) (inside_unit u v u.start (omega arith) order)
+    (inside_unit u v u.end order (omega arith)) run.inside in
     let there : InUnit (place other v.start) (map (moved_range f.move) u.blocks) (moved_file f.move u.says) (place other v.end) =
     subst (λ n. InUnit (place other n) (map (moved_range f.move) u.blocks) (moved_file f.move u.says) (place other v.end)) first
     (subst (λ n. InUnit (place other (f.move u.start)) (map (moved_range f.move) u.blocks) (moved_file f.move u.says) (place other n)) last
     moved) in
-    let one = one_run run'.inside there in
+    let one = one_run refl run'.inside there in
     record { blocks = one.0; says = one.1 }

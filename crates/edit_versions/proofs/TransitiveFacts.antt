@@ -1,5 +1,5 @@
 -- Units that are alike the same unit are alike.
-use Rattle.std.proofs.Common.{◌≡◌, inl, inr, ℕ, zero, suc, Bool, true, false, List, [], ◌∷◌, Option, Some, None, length, refl, sym, ap, ap₂, ◌∙◌, arith}
+use Rattle.std.proofs.Common.{◌≡◌, inl, inr, ℕ, zero, suc, Bool, true, false, List, [], ◌∷◌, Option, Some, None, length, refl, sym, ap, ap₂, ◌∙◌, arith, subst}
 use Rattle.std.specs.Prelude.{◌⊎◌, ◌==◌, ◌&&◌, ◌||◌, ⊤, bytes_eq, not, option_map, slice_get}
 use Rattle.std.specs.List.{AllByRecursion}
 use Rattle.std.specs.Str.{str_to_ascii_lowercase}
@@ -150,9 +150,9 @@ have_words text u other v is =
 
 -- why two units are alike
 data AreAlikeAs (text : List ℕ) (u : UnitReading) (other : List ℕ) (v : UnitReading) : Type 0 where
-  same : text_of_unit text u ≡ text_of_unit other v → AreAlikeAs text u other v
-  layout : AreLaidOut text u other v → AreAlikeAs text u other v
-  words : HaveWords text u other v → AreAlikeAs text u other v
+  by_bytes : text_of_unit text u ≡ text_of_unit other v → AreAlikeAs text u other v
+  by_layout : AreLaidOut text u other v → AreAlikeAs text u other v
+  by_words : HaveWords text u other v → AreAlikeAs text u other v
 
 alike_as : (text : List ℕ) (u : UnitReading) (other : List ℕ) (v : UnitReading) → are_alike text u other v ≡ true → AreAlikeAs text u other v
 alike_as text u other v is =
@@ -160,10 +160,10 @@ alike_as text u other v is =
     let layout : Bool = are_alike_in_layout text u other v in
     elim (either_true (bytes || layout) (have_same_words text u other v) is) [
       | inl first ↦ elim (either_true bytes layout first) [
-        | inl same ↦ AreAlikeAs.same ((bytes_eq-Decides (text_of_unit text u) (text_of_unit other v)).0 same)
-        | inr alike ↦ AreAlikeAs.layout (laid_out text u other v alike)
+        | inl same ↦ AreAlikeAs.by_bytes ((bytes_eq-Decides (text_of_unit text u) (text_of_unit other v)).0 same)
+        | inr alike ↦ AreAlikeAs.by_layout (laid_out text u other v alike)
       ]
-      | inr words ↦ AreAlikeAs.words (have_words text u other v words)
+      | inr words ↦ AreAlikeAs.by_words (have_words text u other v words)
     ]
 
 or_second : (a b c : Bool) → b ≡ true → (a || b || c) ≡ true
@@ -214,19 +214,19 @@ units_transitive text u other v third w run run' run'' first second =
     vv = record { text = other; units = [] }
 
     by : AreAlikeAs text u other v → AreAlikeAs other v third w → are_alike text u third w ≡ true
-    by (AreAlikeAs.same same) two = sym (alike_moved run run' same third w) ∙ second
-    by (AreAlikeAs.layout one) (AreAlikeAs.same same) =
+    by (AreAlikeAs.by_bytes same) two = sym (alike_moved run run' same third w) ∙ second
+    by (AreAlikeAs.by_layout one) (AreAlikeAs.by_bytes same) =
         alike_symmetric uv (Some u) ww (Some w) ∙ alike_moved run' run'' same text u ∙ alike_symmetric vv (Some v) uv (Some u) ∙ first
-    by (AreAlikeAs.words one) (AreAlikeAs.same same) =
+    by (AreAlikeAs.by_words one) (AreAlikeAs.by_bytes same) =
         alike_symmetric uv (Some u) ww (Some w) ∙ alike_moved run' run'' same text u ∙ alike_symmetric vv (Some v) uv (Some u) ∙ first
-    by (AreAlikeAs.layout one) (AreAlikeAs.layout two) =
+    by (AreAlikeAs.by_layout one) (AreAlikeAs.by_layout two) =
         or_second (bytes_eq (text_of_unit text u) (text_of_unit third w)) (are_alike_in_layout text u third w)
         (have_same_words text u third w)
         (both_true (both_true one.plain two.plain')
         (by_transitive text u (single_entry u) other v (single_entry v) third w (single_entry w) one.alike two.alike))
-    by (AreAlikeAs.layout one) (AreAlikeAs.words two) = absurd (not_laid_out text u other v one two.empty)
-    by (AreAlikeAs.words one) (AreAlikeAs.layout two) = absurd (not_laid_out_from other v third w two one.empty')
-    by (AreAlikeAs.words one) (AreAlikeAs.words two) =
+    by (AreAlikeAs.by_layout one) (AreAlikeAs.by_words two) = absurd (not_laid_out text u other v one two.empty)
+    by (AreAlikeAs.by_words one) (AreAlikeAs.by_layout two) = absurd (not_laid_out_from other v third w two one.empty')
+    by (AreAlikeAs.by_words one) (AreAlikeAs.by_words two) =
         or_third (bytes_eq (text_of_unit text u) (text_of_unit third w)) (are_alike_in_layout text u third w)
         (have_same_words text u third w)
         (both_true (both_true one.empty two.empty')

@@ -1,4 +1,4 @@
-use Rattle.std.proofs.Common.{map, subst, ◌∙◌}
+use Rattle.std.proofs.Common.{map, subst, sym, ◌∙◌}
 use Rattle.std.specs.Prelude.{filter}
 use Rattle.std.proofs.lemmas.Result.{IfOk-weaker}
 use Rattle.edit_entries.specs.Documents.{IsDocument}
@@ -7,7 +7,13 @@ use Rattle.edit_merge.specs.Renames.{AreDocumentsOf, AreNewTexts, Documents, IsV
 use Rattle.edit_merge.specs.Views.{new_texts_of, versions_of}
 use Rattle.edit_merge.proofs.EntryFacts.{none_found, some_found}
 use Rattle.edit_merge.proofs.RenameFacts.{no_version_document, same_documents}
+use Rattle.edit_merge.proofs.RenameLawFacts.{nothing_renamed}
 use Rattle.edit_merge.proofs.renames.texts_after.Goals as goal
+
+pub returns-then-is_empty : goal.returns-then-is_empty
+returns-then-is_empty c = λ ds are.
+    subst (AreNewTexts (new_key (filter (have_one ds) (map rename_view c.args.renames.now))) ds) (sym c.none.ensures)
+    (nothing_renamed ds rename_view c.args.renames.now (sym c.is_empty.ensures ∙ c.if-is_empty.true))
 
 pub returns-in_default : goal.returns-in_default
 returns-in_default c = λ ds are.
