@@ -50,10 +50,13 @@ fn is_changed_twice(versions: Versions<'_, '_>, slots: &[Slot]) -> bool
     slots.iter().any(|slot| are_all_different(versions, *slot))
 }
 
-// Returns the numbers of the lines that equal a marker, from 1.
-fn lines_with(alloc: Global, text: &str, marker: &str) -> Result<Vec<usize>, AllocError> {
+// Returns the numbers of the lines of a merged text that equal a marker, from 1. Without conflicts there are none.
+fn lines_with(alloc: Global, merged: &Merged, marker: &str) -> Result<Vec<usize>, AllocError> {
     let mut numbers = Vec::new(alloc);
-    'lines: for (index, line) in text.lines().enumerate() {
+    if !has_conflict(&merged.slots) {
+        return Ok(numbers);
+    }
+    'lines: for (index, line) in merged.text.lines().enumerate() {
         if line == marker {
             numbers.push(index + 1)?;
         }
@@ -132,7 +135,7 @@ fn conflict_messages(
     versions: Versions<'_, '_>,
     merged: &Merged,
 ) -> Result<String, AllocError> {
-    let lines = lines_with(alloc, &merged.text, marker)?;
+    let lines = lines_with(alloc, merged, marker)?;
     let mut messages = String::new(alloc);
     let mut numbers = lines.iter();
     'slots: for (slot, lost) in merged.slots.iter().zip(&merged.lost) {
