@@ -5,8 +5,8 @@
 
 Both run in turn on the same files, on one core. Printed are ratios: of `bibkit lint` to `bib check`, of `bibkit keys`, `get`, `set` and `fmt` to `bib keys`,
 of `bibkit convert` to CSL-JSON, JSON and RIS to `bib biblatex`, each in processor time (user and system, the least of the rounds) and peak memory; how the time of `lint` for an entry grows from a
-hundredth of the entries to all; and the peak memory of `lint --each` over many files, one of which is much larger than the others, to that of
-the largest alone.
+hundredth of the entries to all; the peak memory of `lint --each` over many files, one of which is much larger than the others, to that of
+the largest alone; and `bibkit merge` to three times `bib keys`, with its peak memory as a multiple of the file.
 """
 import argparse
 import importlib.util
@@ -26,6 +26,12 @@ def entries(count, first=0):
     spec.loader.exec_module(compare)
     chance = random.Random(7)
     return "".join(compare.entry(chance, first + number) + "\n" for number in range(count))
+
+
+def changed(text, first):
+    """The text with another title in each hundredth entry with a title, from this one on."""
+    parts = text.split("  title      = {")
+    return "".join(("" if not at else "  title      = {New " if at % 100 == first else "  title      = {") + part for at, part in enumerate(parts))
 
 
 def run(words, path=None):
@@ -71,6 +77,13 @@ def main():
             pathlib.Path(path).write_text(entries(words.entries // 100, number), encoding="utf-8")
         (_, over_all), = least([([words.bibkit, "lint", "--each", *many[:10], large, *many[10:]], None)], 1)
         print(f"bibkit lint --each, memory of 21 files / of the largest: {over_all / memory:.2f}")
+        versions = [os.path.join(folder, name) for name in ("base.bib", "ours.bib", "theirs.bib")]
+        text = pathlib.Path(large).read_text(encoding="utf-8")
+        for path, version in zip(versions, (text, changed(text, 1), changed(text, 51))):
+            pathlib.Path(path).write_text(version, encoding="utf-8")
+        (time, memory), (other, _) = least([([words.bibkit, "merge", *versions], None), ([words.bib, "keys"], large)], words.rounds)
+        size = os.path.getsize(large) / 1024
+        print(f"bibkit merge / three bib keys, {words.entries} entries: time {time / other / 3:.2f}, memory {memory / size:.1f} times the file")
 
 
 if __name__ == "__main__":

@@ -127,7 +127,7 @@ FIELD = re.compile(r"\s*(\w+)\s*=\s*(\{.*\}|\d+),?$")
 def parsed(text):
     """The entries and comments of a text in one of the layouts, or None if it isn't such a text."""
     result = {}
-    for unit in re.split(r"\n\s*\n", text.strip("\n")):
+    for unit in filter(None, re.split(r"\n\s*\n", text.strip("\n"))):
         found = ENTRY.fullmatch(unit)
         if not found:
             result[unit] = unit

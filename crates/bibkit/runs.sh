@@ -2171,7 +2171,17 @@ run_messages 'standard input twice: the base and theirs' 2 $'bibkit: `merge` can
 run_messages '--write requires a file' 2 $'bibkit: `merge --write` requires the name of a file with our version\n' merge --write merge0.bib - merge2.bib
 
 "$program" merge --install >install.sh
-run 'the commands for git are printed without files' 0 "$(cat install.sh)"$'\n' merge --install
+install=$(cat <<'SH'
+grep -qs '^[*].bib merge=bibkit' .gitattributes || {
+  test -z "$(tail -c 1 .gitattributes 2>/dev/null)" || echo >> .gitattributes
+  echo '*.bib merge=bibkit diff=bibtex' >> .gitattributes
+}
+git config merge.bibkit.name 'bibkit merge'
+git config merge.bibkit.recursive binary
+git config merge.bibkit.driver 'bibkit merge --write --path=%P --marker-size %L %O %A %B || { test $? -eq 1 && exit 1; git merge-file --marker-size=%L -L ours -L base -L theirs %A %O %B; }'
+SH
+)
+run 'the commands for git are printed without files' 0 "$install"$'\n' merge --install
 if command -v git >/dev/null; then
     mkdir installed
     (cd installed && git init -q && sh -e ../install.sh && sh -e ../install.sh)

@@ -78,6 +78,9 @@ fn is_marker(line: &str, sign: u8, size: usize) -> bool {
 
 // Returns the byte offset of the first line of a text that begins like a marker line of `size` or of seven signs.
 fn first_marker(text: &str, size: usize) -> Option<usize> {
+    if !text.contains('<') && !text.contains('>') {
+        return None;
+    }
     let mut at = 0usize;
     'lines: for line in text.split('\n') {
         if is_marker(line, b'<', size) || is_marker(line, b'>', size) {

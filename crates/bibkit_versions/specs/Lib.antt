@@ -6,3 +6,4 @@ pub mod Lines
 pub mod Merging
 pub mod NewVersions
 pub mod Objects
+pub mod WholeMerges

@@ -43,8 +43,8 @@ pub record IsRefusedMerge (vs : Versions) : Type 0 where
 -- are no such entries, or a text with them isn't that of a file, they are the same versions
 pub data AreMergedBy (vs : Versions) : Versions → Type 0 where
   unneeded : is_changed_twice vs ≡ false → AreMergedBy vs vs
-  refused : IsRefusedMerge vs → AreMergedBy vs vs
-  by_fields : {ours theirs : VersionReading} → HasMergedEntries Ours vs ours.text → AreUnits ours.text ours.units
+  refused : is_changed_twice vs ≡ true → IsRefusedMerge vs → AreMergedBy vs vs
+  by_fields : {ours theirs : VersionReading} → is_changed_twice vs ≡ true → HasMergedEntries Ours vs ours.text → AreUnits ours.text ours.units
       → HasMergedEntries Theirs vs theirs.text → AreUnits theirs.text theirs.units
       → AreMergedBy vs (record { base = vs.base; ours = ours; theirs = theirs })
 

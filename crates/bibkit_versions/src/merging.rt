@@ -1,6 +1,6 @@
 //! The command `merge`: the merged text of three versions of a file, and a message for each conflict.
 
-ghost use Rattle.std.specs.Prelude.{◌≡◌, IfOk, MatchOption};
+ghost use Rattle.std.specs.Prelude.{◌≡◌, IfOk, MatchOption, true};
 ghost use Rattle.std.specs.List.{list_any};
 ghost use Rattle.std.specs.String.{string_bytes};
 ghost use Rattle.bibkit_versions.specs.Merging as spec;
@@ -50,10 +50,13 @@ fn is_changed_twice(versions: Versions<'_, '_>, slots: &[Slot]) -> bool
     slots.iter().any(|slot| are_all_different(versions, *slot))
 }
 
-// Returns the numbers of the lines that equal a marker, from 1.
-fn lines_with(alloc: Global, text: &str, marker: &str) -> Result<Vec<usize>, AllocError> {
+// Returns the numbers of the lines of a merged text that equal a marker, from 1. Without conflicts there are none.
+fn lines_with(alloc: Global, merged: &Merged, marker: &str) -> Result<Vec<usize>, AllocError> {
     let mut numbers = Vec::new(alloc);
-    'lines: for (index, line) in text.lines().enumerate() {
+    if !has_conflict(&merged.slots) {
+        return Ok(numbers);
+    }
+    'lines: for (index, line) in merged.text.lines().enumerate() {
         if line == marker {
             numbers.push(index + 1)?;
         }
@@ -132,7 +135,7 @@ fn conflict_messages(
     versions: Versions<'_, '_>,
     merged: &Merged,
 ) -> Result<String, AllocError> {
-    let lines = lines_with(alloc, &merged.text, marker)?;
+    let lines = lines_with(alloc, merged, marker)?;
     let mut messages = String::new(alloc);
     let mut numbers = lines.iter();
     'slots: for (slot, lost) in merged.slots.iter().zip(&merged.lost) {
@@ -193,7 +196,7 @@ fn output_by_units<'v, 's>(
 }
 
 // Returns the output for a merge in which entries that both sides changed are merged by their fields, or `None` if the text of a side with
-// these entries has a syntax error.
+// these entries has a syntax error. There are such entries.
 fn output_by_fields(
     alloc: Global,
     file: &str,
@@ -201,7 +204,8 @@ fn output_by_fields(
     versions: Versions<'_, '_>,
     markers: Markers<'_>,
 ) -> Result<Option<Output>, AllocError>
-    ensures { IfOk result (λ found. MatchOption found (IsRefusedMerge (versions_of versions.entry))
+    ensures { spec.is_changed_twice (versions_of versions.entry) ≡ true → IfOk result
+        (λ found. MatchOption found (IsRefusedMerge (versions_of versions.entry))
         (λ o. IsMergeByFields (marker_lines markers.entry) (versions_of versions.entry) (string_bytes o.text) o.has_conflict)) }
 {
     let our_text = with_merged_entries(alloc, versions, Side::Ours)?;

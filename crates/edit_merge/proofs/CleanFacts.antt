@@ -13,6 +13,7 @@ use Rattle.edit_merge.specs.Clean.{HaveUnits, IsClean, IsPicked, contents_togeth
 use Rattle.edit_entry_merge.specs.ConflictTexts.{MarkerLines}
 use Rattle.edit_merge.specs.Merged.{MergedPart, end_behind, has_feed, is_same_space, is_text_slot, merged_blank, merged_end, merged_start, merged_text, part_with, picked_space, slot_parts, slot_space, slot_text, space_at, space_between, start_of, text_behind, text_of_merge}
 use Rattle.edit_merge.specs.Picked.{Versions}
+use Rattle.edit_merge.specs.Resolved.{content_or_none, resolved_at, resolved_content, resolved_parts, resolved_text}
 use Rattle.edit_merge.specs.declared.picking.Choice.{Choice}
 use Rattle.edit_merge.specs.declared.picking.Choice.TheVariants.{Ours, Theirs, Conflict}
 use Rattle.edit_merge.specs.declared.slots.Slot.{Slot}
@@ -175,15 +176,17 @@ pub record HaveSides (vs : Versions) : Type 0 where
   pub ours : AreUnits vs.ours.text vs.ours.units
   pub theirs : AreUnits vs.theirs.text vs.theirs.units
 
+slot_space_ends : (vs : Versions) (s : Slot) → HaveSides vs → IsLineEnd (slot_space vs s)
+slot_space_ends vs s have =
+    or_blank_line
+    (picked_has IsLineEnd (space_at vs.base s.base) (space_ends vs.ours s.ours have.ours) (space_ends vs.theirs s.theirs have.theirs))
+
 slot_read : (markers : MarkerLines) (vs : Versions) (s : Slot) → HaveSides vs → IsPicked s.choice
     → ArePartsRead (slot_parts markers vs s) (picked_content vs s s.choice)
 slot_read markers vs s have picked = by s.choice picked
   where
     space : IsLineEnd (slot_space vs s)
-    space =
-        or_blank_line
-        (picked_has IsLineEnd (space_at vs.base s.base) (space_ends vs.ours s.ours have.ours)
-        (space_ends vs.theirs s.theirs have.theirs))
+    space = slot_space_ends vs s have
 
     by : (choice : Choice) → IsPicked choice
         → ArePartsRead (part_with (slot_space vs s) (is_text_slot vs s) (slot_text markers vs s choice)) (picked_content vs s choice)
@@ -195,6 +198,33 @@ slots_read : (markers : MarkerLines) (vs : Versions) (ss : List Slot) → HaveSi
     → ArePartsRead (flat_map (slot_parts markers vs) ss) (flat_map (λ s. picked_content vs s s.choice) ss)
 slots_read markers vs [] have all = ArePartsRead.none
 slots_read markers vs (s ∷ ss) have all = parts_append (slot_read markers vs s have all.0) (slots_read markers vs ss have all.1)
+
+-- the text of a unit, or no text
+or_nothing : {u : Option UnitReading} {t : Option UnitTexts} → IsReadAt u t
+    → IsReadPlaceless (content_or_none u) (unwrap_or (option_map (λ p. p.text) t) [])
+or_nothing IsReadAt.absent = parts_are_read [] [] (AreParts.none refl)
+or_nothing (IsReadAt.there read) = read
+
+-- the parts at a place whose conflict is resolved
+resolved_read : (vs : Versions) (takes : Bool) (s : Slot) → HaveSides vs
+    → ArePartsRead (resolved_parts vs takes s s.choice) (resolved_at vs takes s s.choice)
+resolved_read vs takes s have = by takes s.choice
+  where
+    space : IsLineEnd (slot_space vs s)
+    space = slot_space_ends vs s have
+
+    by : (takes : Bool) (choice : Choice) → ArePartsRead (resolved_parts vs takes s choice) (resolved_at vs takes s choice)
+    by takes Ours = part_read (slot_space vs s) (is_text_slot vs s) space (unit_read vs.ours s.ours have.ours)
+    by takes Theirs = part_read (slot_space vs s) (is_text_slot vs s) space (unit_read vs.theirs s.theirs have.theirs)
+    by true Conflict =
+        ArePartsRead.some (record { space = space; text = or_nothing (unit_read vs.theirs s.theirs have.theirs) }) ArePartsRead.none
+    by false Conflict =
+        ArePartsRead.some (record { space = space; text = or_nothing (unit_read vs.ours s.ours have.ours) }) ArePartsRead.none
+
+all_resolved : (vs : Versions) (takes : Slot → Bool) (ss : List Slot) → HaveSides vs
+    → ArePartsRead (flat_map (λ s. resolved_parts vs (takes s) s s.choice) ss) (flat_map (λ s. resolved_at vs (takes s) s s.choice) ss)
+all_resolved vs takes [] have = ArePartsRead.none
+all_resolved vs takes (s ∷ ss) have = parts_append (resolved_read vs (takes s) s have) (all_resolved vs takes ss have)
 
 -- ---- the text of a merge
 
@@ -248,15 +278,26 @@ picked_white : (same : Bool) (ours theirs : List ℕ) → IsWhite ours → IsWhi
 picked_white true ours theirs wo wt = wt
 picked_white false ours theirs wo wt = wo
 
-pub clean_sides_are_read : (markers : MarkerLines) (vs : Versions) (ss : List Slot) → HaveSides vs → IsClean ss
-    → IsReadPlaceless (merged_content vs ss) (merged_text markers vs ss)
-clean_sides_are_read markers vs ss have clean =
+-- the text of parts of both sides
+sides_read : (vs : Versions) {ps : List MergedPart} {says : List FileReading} → HaveSides vs → ArePartsRead ps says
+    → IsReadPlaceless (contents_together says) (text_of_merge vs ps)
+sides_read vs have read =
     text_read vs
     (or_empty (picked_has IsWhite (start_of vs.base) (version_read vs.ours have.ours).start (version_read vs.theirs have.theirs).start))
     (or_no_end (picked_has IsFileEnd (end_behind vs.base) (end_there vs.ours have.ours) (end_there vs.theirs have.theirs)))
     (picked_white (bytes_eq (end_of vs.ours) (end_of vs.base)) (end_of vs.ours) (end_of vs.theirs) (end_white vs.ours have.ours)
     (end_white vs.theirs have.theirs))
-    (slots_read markers vs ss have clean)
+    read
+
+pub clean_sides_are_read : (markers : MarkerLines) (vs : Versions) (ss : List Slot) → HaveSides vs → IsClean ss
+    → IsReadPlaceless (merged_content vs ss) (merged_text markers vs ss)
+clean_sides_are_read markers vs ss have clean = sides_read vs have (slots_read markers vs ss have clean)
+
+pub resolved_merges_are_read : (vs : Versions) (takes : Slot → Bool) (ss : List Slot) → HaveUnits vs
+    → IsReadPlaceless (resolved_content vs takes ss) (resolved_text vs takes ss)
+resolved_merges_are_read vs takes ss have =
+    let sides : HaveSides vs = record { ours = have.ours; theirs = have.theirs } in
+    sides_read vs sides (all_resolved vs takes ss sides)
 
 pub clean_merges_are_read : (markers : MarkerLines) (vs : Versions) (ss : List Slot) → HaveUnits vs → IsClean ss
     → IsReadPlaceless (merged_content vs ss) (merged_text markers vs ss)

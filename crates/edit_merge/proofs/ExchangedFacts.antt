@@ -11,13 +11,13 @@ use Rattle.edit_merge.specs.declared.picking.Choice.TheVariants.{Conflict}
 -- ---- choices
 
 -- four tests fail
-record FourFail (theirs_same ours_same theirs_alike ours_alike : Bool) : Type 0 where
-  first : theirs_same ≡ false
-  second : ours_same ≡ false
-  third : theirs_alike ≡ false
-  fourth : ours_alike ≡ false
+pub record FourFail (theirs_same ours_same theirs_alike ours_alike : Bool) : Type 0 where
+  pub first : theirs_same ≡ false
+  pub second : ours_same ≡ false
+  pub third : theirs_alike ≡ false
+  pub fourth : ours_alike ≡ false
 
-conflict_fails : (theirs_same ours_same theirs_alike ours_alike : Bool) → choose theirs_same ours_same theirs_alike ours_alike ≡ Conflict
+pub conflict_fails : (theirs_same ours_same theirs_alike ours_alike : Bool) → choose theirs_same ours_same theirs_alike ours_alike ≡ Conflict
     → FourFail theirs_same ours_same theirs_alike ours_alike
 conflict_fails true ours_same theirs_alike ours_alike is = absurd (cc)
 conflict_fails false true theirs_alike ours_alike is = absurd (cc)
@@ -25,13 +25,13 @@ conflict_fails false false true ours_alike is = absurd (cc)
 conflict_fails false false false true is = absurd (cc)
 conflict_fails false false false false is = record { first = refl; second = refl; third = refl; fourth = refl }
 
-failed_conflict : (theirs_same ours_same theirs_alike ours_alike : Bool) → FourFail theirs_same ours_same theirs_alike ours_alike
+pub failed_conflict : (theirs_same ours_same theirs_alike ours_alike : Bool) → FourFail theirs_same ours_same theirs_alike ours_alike
     → choose theirs_same ours_same theirs_alike ours_alike ≡ Conflict
 failed_conflict theirs_same ours_same theirs_alike ours_alike fail =
     ap (λ b. choose b ours_same theirs_alike ours_alike) fail.first ∙ ap (λ b. choose false b theirs_alike ours_alike) fail.second
     ∙ ap (λ b. choose false false b ours_alike) fail.third ∙ ap (λ b. choose false false false b) fail.fourth
 
-or_fails : (x y : Bool) → (x || y) ≡ false → (x ≡ false) × (y ≡ false)
+pub or_fails : (x y : Bool) → (x || y) ≡ false → (x ≡ false) × (y ≡ false)
 or_fails true y is = absurd (cc)
 or_fails false y is = (refl, is)
 

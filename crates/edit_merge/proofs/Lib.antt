@@ -4,12 +4,14 @@ pub mod EntryFacts
 pub mod ExchangedFacts
 pub mod GroupFacts
 pub mod KeptFacts
+pub mod KeyFacts
 pub mod LostFacts
 pub mod NameSetFacts
 pub mod OnceFacts
 pub mod OrderFacts
 pub mod PickedFacts
 pub mod PlaceFacts
+pub mod RelaidFacts
 pub mod RenameFacts
 pub mod RenameLawFacts
 pub mod SideFacts

@@ -18,16 +18,16 @@ use Rattle.edit_merge.proofs.WovenFacts.{get_dropped}
 -- ---- lists of different names
 
 -- a name that isn't one of these is equal to none of them
-none_equal : (names : List (List ℕ)) (name : List ℕ) → (IsAmong name names → ⊥) → AllByRecursion (λ other. name ≡ other → ⊥) names
+pub none_equal : (names : List (List ℕ)) (name : List ℕ) → (IsAmong name names → ⊥) → AllByRecursion (λ other. name ≡ other → ⊥) names
 none_equal [] name none = _
 none_equal (n ∷ ns) name none = ((λ same. none (inl same)), none_equal ns name (λ here. none (inr here)))
 
-not_among : (names : List (List ℕ)) (name : List ℕ) → AllByRecursion (λ other. name ≡ other → ⊥) names → IsAmong name names → ⊥
+pub not_among : (names : List (List ℕ)) (name : List ℕ) → AllByRecursion (λ other. name ≡ other → ⊥) names → IsAmong name names → ⊥
 not_among [] name all here = here
 not_among (n ∷ ns) name all (inl same) = all.0 same
 not_among (n ∷ ns) name all (inr here) = not_among ns name all.1 here
 
-among_either : (name : List ℕ) (xs ys : List (List ℕ)) → IsAmong name (xs ++ ys) → IsAmong name xs ⊎ IsAmong name ys
+pub among_either : (name : List ℕ) (xs ys : List (List ℕ)) → IsAmong name (xs ++ ys) → IsAmong name xs ⊎ IsAmong name ys
 among_either name [] ys here = inr here
 among_either name (x ∷ xs) ys (inl same) = inl (inl same)
 among_either name (x ∷ xs) ys (inr here) = elim (among_either name xs ys here) [
@@ -36,7 +36,7 @@ among_either name (x ∷ xs) ys (inr here) = elim (among_either name xs ys here)
 ]
 
 -- two lists of different names that share no name are one such list
-joined : (xs ys : List (List ℕ)) → AreAllDifferent xs → AreAllDifferent ys
+pub joined : (xs ys : List (List ℕ)) → AreAllDifferent xs → AreAllDifferent ys
     → ((name : List ℕ) → IsAmong name xs → IsAmong name ys → ⊥) → AreAllDifferent (xs ++ ys)
 joined [] ys first second apart = second
 joined (x ∷ xs) ys first second apart = (
@@ -256,7 +256,7 @@ at_index [] name here = absurd here
 at_index (n ∷ ns) name (inl same) = (0, ap Some (sym same))
 at_index (n ∷ ns) name (inr here) = let rest = at_index ns name here in (suc rest.0, rest.1)
 
-leads_at : (v : VersionReading) (name : List ℕ) (i : ℕ) → length v.units < 2 ^ 64 → named_index v name ≡ Some i
+pub leads_at : (v : VersionReading) (name : List ℕ) (i : ℕ) → length v.units < 2 ^ 64 → named_index v name ≡ Some i
     → slice_get (version_names v) i ≡ Some name
 leads_at v name i fits leads = by (among_or_none v name)
   where

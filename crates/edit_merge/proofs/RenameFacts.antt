@@ -106,32 +106,52 @@ rename_found vs i found o t ours theirs is =
 
 -- ---- the loop over the units of the base
 
--- the renames from an index on, of those that pass a test: that at the index, and those after it
-renames_from : (test : RenameReading → Bool) (f : ℕ → Option RenameReading) (names : List (List ℕ)) (i : ℕ) → i < length names
-    → filter test (filter_map (λ x. f x.0) (enumerate_from i (drop i names)))
-    ≡ filter test (option_to_list (f i)) ++ filter test (filter_map (λ x. f x.0) (enumerate_from (i + 1) (drop (i + 1) names)))
-renames_from test f names i within =
-    ap (λ ns. filter test (filter_map (λ x. f x.0) (enumerate_from i ns))) (drop_more names i [] within)
+-- the renames from an index on: that at the index, and those after it
+renames_from : (f : ℕ → Option RenameReading) (names : List (List ℕ)) (i : ℕ) → i < length names
+    → filter_map (λ x. f x.0) (enumerate_from i (drop i names))
+    ≡ option_to_list (f i) ++ filter_map (λ x. f x.0) (enumerate_from (i + 1) (drop (i + 1) names))
+renames_from f names i within =
+    ap (λ ns. filter_map (λ x. f x.0) (enumerate_from i ns)) (drop_more names i [] within)
     ∙ by (f i) (filter_map (λ x. f x.0) (enumerate_from (i + 1) (drop (i + 1) names)))
   where
-    passed : (b : Bool) (r : RenameReading) (rest : List RenameReading) → cond b (r ∷ rest) rest ≡ cond b (r ∷ []) [] ++ rest
-    passed true r rest = refl
-    passed false r rest = refl
-
-    by : (o : Option RenameReading) (rest : List RenameReading)
-        → filter test (cons_option o rest) ≡ filter test (option_to_list o) ++ filter test rest
+    by : (o : Option RenameReading) (rest : List RenameReading) → cons_option o rest ≡ option_to_list o ++ rest
     by None rest = refl
-    by (Some r) rest = passed (test r) r (filter test rest)
+    by (Some r) rest = refl
 
 -- the renames so far and those from an index on, after the one at the index
-pub more_renames : (test : RenameReading → Bool) (f : ℕ → Option RenameReading) (names : List (List ℕ)) (i : ℕ)
-    (old new all : List RenameReading) → i < length names → new ≡ old ++ filter test (option_to_list (f i))
-    → old ++ filter test (filter_map (λ x. f x.0) (enumerate_from i (drop i names))) ≡ all
-    → new ++ filter test (filter_map (λ x. f x.0) (enumerate_from (i + 1) (drop (i + 1) names))) ≡ all
-more_renames test f names i old new all within new_is so_far =
-    let rest = filter test (filter_map (λ x. f x.0) (enumerate_from (i + 1) (drop (i + 1) names))) in
-    ap (λ rs. rs ++ rest) new_is ∙ append_assoc old (filter test (option_to_list (f i))) rest
-    ∙ ap (λ rs. old ++ rs) (sym (renames_from test f names i within)) ∙ so_far
+pub more_renames : (f : ℕ → Option RenameReading) (names : List (List ℕ)) (i : ℕ) (old new all : List RenameReading) → i < length names
+    → new ≡ old ++ option_to_list (f i) → old ++ filter_map (λ x. f x.0) (enumerate_from i (drop i names)) ≡ all
+    → new ++ filter_map (λ x. f x.0) (enumerate_from (i + 1) (drop (i + 1) names)) ≡ all
+more_renames f names i old new all within new_is so_far =
+    let rest = filter_map (λ x. f x.0) (enumerate_from (i + 1) (drop (i + 1) names)) in
+    ap (λ rs. rs ++ rest) new_is ∙ append_assoc old (option_to_list (f i)) rest
+    ∙ ap (λ rs. old ++ rs) (sym (renames_from f names i within)) ∙ so_far
+
+-- a rename was appended if it is counted
+pub data IsCounted (counts : Bool) (old new : List RenameReading) (r : RenameReading) : Type 0 where
+  appended : counts ≡ true → new ≡ old ++ r ∷ [] → IsCounted counts old new r
+  skipped : counts ≡ false → new ≡ old → IsCounted counts old new r
+
+-- the counted renames so far and those that remain, after one more
+pub more_counted : {A : Type 0} (test : RenameReading → Bool) (view : A → RenameReading) (xs : List A) (i : ℕ) (default : A) (counts : Bool)
+    (old new all : List RenameReading) → i < length xs → counts ≡ test (view (get_or xs i default))
+    → IsCounted counts old new (view (get_or xs i default)) → old ++ filter test (map view (drop i xs)) ≡ all
+    → new ++ filter test (map view (drop (i + 1) xs)) ≡ all
+more_counted test view xs i default counts old new all within counts_is counted so_far = by counted
+  where
+    r : RenameReading
+    r = view (get_or xs i default)
+
+    rest : List RenameReading
+    rest = filter test (map view (drop (i + 1) xs))
+
+    next : (b : Bool) → counts ≡ b → filter test (map view (drop i xs)) ≡ cond b (r ∷ rest) rest
+    next b is = ap (λ l. filter test (map view l)) (drop_more xs i default within) ∙ ap (λ t. cond t (r ∷ rest) rest) (sym counts_is ∙ is)
+
+    by : IsCounted counts old new r → new ++ rest ≡ all
+    by (IsCounted.appended is new_is) =
+        ap (λ l. l ++ rest) new_is ∙ append_assoc old (r ∷ []) rest ∙ ap (λ l. old ++ l) (sym (next true is)) ∙ so_far
+    by (IsCounted.skipped is new_is) = ap (λ l. l ++ rest) new_is ∙ ap (λ l. old ++ l) (sym (next false is)) ∙ so_far
 
 -- ---- maps with a new key for an old one
 

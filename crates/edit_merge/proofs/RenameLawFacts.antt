@@ -1,7 +1,8 @@
 -- Laws of renamed entries in merges.
-use Rattle.std.proofs.Common.{◌≡◌, ℕ, Bool, true, false, List, [], ◌∷◌, Option, Some, None, cond, refl, sym, ap, ◌∙◌, subst}
-use Rattle.std.specs.Prelude.{◌&&◌, bytes_eq, filter, not, option_and_then, slice_get}
+use Rattle.std.proofs.Common.{◌≡◌, ℕ, Bool, true, false, List, [], ◌∷◌, Option, Some, None, arith, cond, length, map, refl, sym, ap, ◌∙◌, subst}
+use Rattle.std.specs.Prelude.{◌==◌, ◌&&◌, bytes_eq, filter, not, option_and_then, slice_get}
 use Rattle.std.specs.List.{enumerate_from, filter_map}
+use Rattle.std.proofs.lemmas.Bool.{eqb-true}
 use Rattle.std.proofs.lemmas.Slice.Eq.{bytes_eq-Decides}
 use mathlib.Core.Path.{fun_ext}
 use Rattle.bib_syntax.specs.Reading.{EntryReading}
@@ -39,11 +40,32 @@ all_stay ds texts (AreNewTexts.refused_base refused) = refl
 all_stay ds texts (AreNewTexts.refused_ours refused) = refl
 all_stay ds texts (AreNewTexts.refused_theirs refused) = refl
 
+-- without renames all texts stay
+pub no_renames : (vs : Versions) (ds : Documents) → renames vs ds ≡ [] → AreNewTexts (new_key (renames vs ds)) ds no_texts
+no_renames vs ds none =
+    subst (λ rs. AreNewTexts (new_key rs) ds no_texts) (sym none)
+    (AreNewTexts.renamed (none_after ds.base) (none_after ds.ours) (none_after ds.theirs))
+
+-- versions with the same text have no renames that count
+pub equal_renames : (vs : Versions) (ds : Documents) → have_different_texts vs ≡ false → renames vs ds ≡ []
+equal_renames vs ds equal = ap (λ b. cond b (filter (have_one ds) (renames_of_sides vs)) []) equal
+
+-- the renames that count, if no two versions have the same text
+pub different_renames : (vs : Versions) (ds : Documents) (all : List RenameReading) → have_different_texts vs ≡ true
+    → all ≡ renames_of_sides vs → renames vs ds ≡ filter (have_one ds) all
+different_renames vs ds all differ is =
+    ap (λ b. cond b (filter (have_one ds) (renames_of_sides vs)) []) differ ∙ sym (ap (filter (have_one ds)) is)
+
+-- without renames of the sides all texts stay
+pub nothing_renamed : {A : Type 0} (ds : Documents) (view : A → RenameReading) (all : List A) → (length all == 0) ≡ true
+    → AreNewTexts (new_key (filter (have_one ds) (map view all))) ds no_texts
+nothing_renamed ds view [] empty = AreNewTexts.renamed (none_after ds.base) (none_after ds.ours) (none_after ds.theirs)
+nothing_renamed ds view (x ∷ xs) empty = absurd (omega (arith, eqb-true (length (x ∷ xs)) 0 empty))
+
 pub equal_texts_stay : (vs : Versions) (ds : Documents) (texts : NewTexts) → have_different_texts vs ≡ false → AreDocumentsOf vs ds
     → HaveNewTexts vs texts → texts ≡ no_texts
 equal_texts_stay vs ds texts equal are have =
-    let none : renames vs ds ≡ [] = ap (λ b. cond b (filter (have_one ds) (renames_of_sides vs)) []) equal in
-    all_stay ds texts (subst (λ rs. AreNewTexts (new_key rs) ds texts) none (have ds are))
+    all_stay ds texts (subst (λ rs. AreNewTexts (new_key rs) ds texts) (equal_renames vs ds equal) (have ds are))
 
 -- a test of two equal texts
 same_texts : (text other : List ℕ) → text ≡ other → bytes_eq text other ≡ true

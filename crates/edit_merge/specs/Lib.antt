@@ -1,13 +1,16 @@
 pub mod Clean
 pub mod Entries
 pub mod Groups
+pub mod Keys
 pub mod Lost
 pub mod Merged
 pub mod NameSets
 pub mod PartViews
 pub mod Picked
+pub mod Relaid
 pub mod RenameViews
 pub mod Renames
+pub mod Resolved
 pub mod Unchanged
 pub mod UnitNames
 pub mod Views

@@ -1,15 +1,18 @@
 //! Laws of merges. These functions have no code: their clauses are theorems about definitions.
 
-ghost use Rattle.std.specs.Prelude.{◌≡◌, ◌⊎◌, ◌<◌, ◌^◌, ℕ, List, false, length, true};
+ghost use Rattle.std.specs.Prelude.{◌≡◌, ◌⊎◌, ◌<◌, ◌^◌, ℕ, Bool, List, false, length, true};
 ghost use Rattle.std.specs.List.{Contains, flat_map};
 ghost use Rattle.bib_queries.specs.Needed.{is_listed};
 ghost use Rattle.edit_entries.specs.Changes.{IsReadPlaceless};
-ghost use Rattle.edit_merge.specs.Clean.{HaveUnits, IsClean, merged_content};
+ghost use Rattle.edit_merge.specs.Clean.{HaveUnits, IsClean, IsPicked, merged_content};
 ghost use Rattle.edit_entry_merge.specs.ConflictTexts.{MarkerLines};
+ghost use Rattle.edit_merge.specs.Keys.{HaveFewEntries, keys_in};
 ghost use Rattle.edit_merge.specs.Lost.{is_lost, kept_slots, units_at};
 ghost use Rattle.edit_merge.specs.Merged.{merged_text};
 ghost use Rattle.edit_merge.specs.Picked.{Versions, exchanged, is_alike_named, merged_names, order_choice, slot_of};
+ghost use Rattle.edit_merge.specs.Relaid.{AreRelaid, pick_alike};
 ghost use Rattle.edit_merge.specs.Renames.{AreDocumentsOf, Documents, HaveNewTexts, NewTexts, exchanged_texts, no_texts};
+ghost use Rattle.edit_merge.specs.Resolved.{resolved_content, resolved_text};
 ghost use Rattle.edit_merge.specs.UnitNames.{dangles, defined_names};
 ghost use Rattle.edit_merge.specs.Unchanged.{IsMerge};
 ghost use Rattle.edit_merge.specs.declared.picking.Choice.TheVariants.{Ours, Theirs, Conflict};
@@ -23,6 +26,13 @@ ghost use Rattle.edit_versions.specs.Versions.{VersionReading, version_names};
 pub fn clean_merges_are_read()
     ensures { (markers : MarkerLines) (vs : Versions) (places : List Slot) → HaveUnits vs → IsClean places →
         IsReadPlaceless (merged_content vs places) (merged_text markers vs places) }
+{}
+
+/// States that a merge is the text of a file if each of its conflicts is replaced by the text of either side, or by nothing if this side
+/// lacks the unit. Its content is that of the picked units and of the units in place of the conflicts, in order. This holds for any places.
+pub fn resolved_merges_are_read()
+    ensures { (vs : Versions) (takes : Slot → Bool) (places : List Slot) → HaveUnits vs →
+        IsReadPlaceless (resolved_content vs takes places) (resolved_text vs takes places) }
 {}
 
 /// States that the merge is our text, byte for byte and without a conflict, if they changed nothing.
@@ -56,6 +66,15 @@ pub fn places_have_different_names()
     ensures { (vs : Versions) → length vs.ours.units < 2 ^ 64 → length vs.theirs.units < 2 ^ 64 → AreAllDifferent (merged_names vs) }
 {}
 
+/// States that no key is twice in a merge without a conflict if none is twice in its sides, and no unit of them has several entries. Keys
+/// that differ in case are different. The sides have fewer than 2^64 units.
+pub fn keys_stay_different()
+    ensures { (vs originals : Versions) → length vs.ours.units < 2 ^ 64 → length vs.theirs.units < 2 ^ 64 →
+        HaveFewEntries vs.ours.units → HaveFewEntries vs.theirs.units → AreAllDifferent (keys_in vs.ours.units) →
+        AreAllDifferent (keys_in vs.theirs.units) → IsClean (kept_slots vs originals) →
+        AreAllDifferent (keys_in (units_at vs (kept_slots vs originals))) }
+{}
+
 /// States for each name that the picked unit has the changes of both sides: if one side is picked, the unit that the other side has with
 /// this name is alike that of the base, or the picked one. This also holds for absent units. A text that a side moves to a unit with
 /// another name isn't followed.
@@ -69,6 +88,16 @@ pub fn picked_units_keep_changes()
 pub fn sides_can_be_exchanged()
     ensures places { (vs : Versions) (name : List ℕ) → (slot_of vs name).choice ≡ Conflict → (slot_of (exchanged vs) name).choice ≡ Conflict }
     ensures order { (vs : Versions) → order_choice vs ≡ Conflict → order_choice (exchanged vs) ≡ Conflict }
+{}
+
+/// States that the layout of a unit is no change. If versions have units with a name that differ from those of other versions in layout
+/// only, both merges have a conflict there or none, and without one they pick alike units. This doesn't hold for units with an own name that
+/// other units of a version have too, and it is about conflicts before lost names are looked for.
+pub fn layout_is_no_change()
+    ensures conflicts { (vs ws : Versions) (name : List ℕ) → AreRelaid vs ws name → (slot_of vs name).choice ≡ Conflict →
+        (slot_of ws name).choice ≡ Conflict }
+    ensures picks { (vs ws : Versions) (name : List ℕ) → AreRelaid vs ws name → IsPicked (slot_of vs name).choice →
+        IsPicked (slot_of ws name).choice → pick_alike vs ws name ≡ true }
 {}
 
 /// States that no version gets a new text for renamed entries if two versions have the same text.

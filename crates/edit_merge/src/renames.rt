@@ -5,7 +5,7 @@
 //! renamed, so that no entry is lost. If two versions have the same text, no rename counts. So a merge with an unchanged side stays the
 //! text of the other side.
 
-ghost use Rattle.std.specs.Prelude.{◌≡◌, ◌≢◌, ◌==◌, ◌+◌, ◌∷◌, ◌++◌, [], ℕ, List, IfErr, IfOk, OnOk, Some, filter, is_none, map, option_and_then, option_map, option_to_list, slice_get, unwrap_or};
+ghost use Rattle.std.specs.Prelude.{◌≡◌, ◌≢◌, ◌==◌, ◌+◌, ◌∷◌, ◌++◌, [], ℕ, List, IfErr, IfOk, OnOk, Some, filter, is_none, map, option_and_then, option_map, slice_get, unwrap_or};
 ghost use Rattle.std.specs.FinMap.{get};
 ghost use Rattle.std.specs.List.{list_all};
 ghost use Rattle.std.specs.Option.{option_or};
@@ -173,33 +173,12 @@ fn have_different_texts(versions: Versions<'_, '_>) -> bool
     ours != base && theirs != base && ours != theirs
 }
 
-// Appends a rename, if it is there and exactly one entry of each version has its old or its new key.
-fn push_rename<'s>(
-    renames: &mut Vec<Rename<'s>>,
-    counts: &KeyCounts,
-    found: Option<Rename<'s>>,
-) -> Result<(), AllocError>
-    ensures { OnOk result ((ds : spec.Documents) → AreKeyCounts ds counts.now → map rename_view renames.new.items ≡
-        map rename_view renames.old.items ++ filter (spec.have_one ds) (option_to_list (option_map rename_view found.entry))) }
-{
-    let Some(rename) = found else {
-        return Ok(());
-    };
-    if !counts.have_one(rename) {
-        return Ok(());
-    }
-    renames.push(rename)?;
-    Ok(())
-}
-
-// Returns the renames of both sides of which exactly one entry of each version has the old or the new key.
-fn find_renames<'s>(
+// Returns the renames of both sides, in the order of the entries in the base.
+fn renames_of_sides<'s>(
     alloc: Global,
     versions: Versions<'_, 's>,
-    counts: &KeyCounts,
 ) -> Result<Vec<Rename<'s>>, AllocError>
-    ensures { IfOk result (λ found. (ds : spec.Documents) → AreKeyCounts ds counts.now →
-        map rename_view found.items ≡ filter (spec.have_one ds) (spec.renames_of_sides (versions_of versions.entry))) }
+    ensures { IfOk result (λ found. map rename_view found.items ≡ spec.renames_of_sides (versions_of versions.entry)) }
 {
     let ours = renamed_indices(alloc, versions.base, versions.ours)?;
     let theirs = renamed_indices(alloc, versions.base, versions.theirs)?;
@@ -208,26 +187,29 @@ fn find_renames<'s>(
     'names: for (index, _name) in names.iter().enumerate() {
         let our_index = index_in(&ours, index);
         let their_index = index_in(&theirs, index);
-        let found = rename_at(versions, index, our_index, their_index);
-        push_rename(&mut renames, counts, found)?;
+        if let Some(rename) = rename_at(versions, index, our_index, their_index) {
+            renames.push(rename)?;
+        }
     }
     Ok(renames)
 }
 
-// Returns the renames that count.
-fn renames<'s>(
+// Returns those of these renames of which exactly one entry of each version has the old or the new key.
+fn counted_renames<'s>(
     alloc: Global,
-    versions: Versions<'_, 's>,
-    documents: Documents<'_, '_>,
+    renames: &[Rename<'s>],
+    counts: &KeyCounts,
 ) -> Result<Vec<Rename<'s>>, AllocError>
-    ensures { IfOk result (λ found. map rename_view found.items ≡
-        spec.renames (versions_of versions.entry) (documents_of documents.entry)) }
+    ensures { IfOk result (λ found. (ds : spec.Documents) → AreKeyCounts ds counts.now →
+        map rename_view found.items ≡ filter (spec.have_one ds) (map rename_view renames.now)) }
 {
-    if !have_different_texts(versions) {
-        return Ok(Vec::new(alloc));
+    let mut found = Vec::new(alloc);
+    'renames: for rename in renames {
+        if counts.have_one(*rename) {
+            found.push(*rename)?;
+        }
     }
-    let counts = KeyCounts::of(alloc, documents)?;
-    find_renames(alloc, versions, &counts)
+    Ok(found)
 }
 
 // ---- the new texts
@@ -365,19 +347,49 @@ fn new_texts_or_none<'k>(
     }
 }
 
-// Returns the new texts of the versions, given their documents.
+// Returns the new texts of the versions, given the renames of both sides and the documents of the versions.
 fn texts_of_documents(
     alloc: Global,
-    versions: Versions<'_, '_>,
+    renames: &[Rename<'_>],
     documents: Documents<'_, '_>,
 ) -> Result<RenamedTexts, AllocError>
     ensures { IfOk result (λ texts. spec.AreNewTexts
-        (spec.new_key (spec.renames (versions_of versions.entry) (documents_of documents.entry)))
+        (spec.new_key (filter (spec.have_one (documents_of documents.entry)) (map rename_view renames.now)))
         (documents_of documents.entry) (new_texts_of texts)) }
 {
-    let renames = renames(alloc, versions, documents)?;
-    let keys = keys_of(alloc, &renames)?;
+    let counts = KeyCounts::of(alloc, documents)?;
+    let counted = counted_renames(alloc, renames, &counts)?;
+    let keys = keys_of(alloc, &counted)?;
     new_texts_or_none(alloc, documents, &keys)
+}
+
+// Returns the texts of the versions with new keys for those of these renames that count.
+fn texts_after(
+    alloc: Global,
+    versions: Versions<'_, '_>,
+    renames: &[Rename<'_>],
+) -> Result<RenamedTexts, AllocError>
+    ensures { IfOk result (λ texts. (ds : spec.Documents) → spec.AreDocumentsOf (versions_of versions.entry) ds →
+        spec.AreNewTexts (spec.new_key (filter (spec.have_one ds) (map rename_view renames.now))) ds (new_texts_of texts)) }
+{
+    if renames.is_empty() {
+        return Ok(RenamedTexts::none());
+    }
+    let Some(base) = document(alloc, versions.base.text())? else {
+        return Ok(RenamedTexts::none());
+    };
+    let Some(ours) = document(alloc, versions.ours.text())? else {
+        return Ok(RenamedTexts::none());
+    };
+    let Some(theirs) = document(alloc, versions.theirs.text())? else {
+        return Ok(RenamedTexts::none());
+    };
+    let documents = Documents {
+        base: &base,
+        ours: &ours,
+        theirs: &theirs,
+    };
+    texts_of_documents(alloc, renames, documents)
 }
 
 /// Returns the texts of the versions after the renames that count. An entry that one side renamed gets its new key in the base and on the
@@ -393,19 +405,9 @@ fn texts_of_documents(
 pub fn renamed_texts(alloc: Global, versions: Versions<'_, '_>) -> Result<RenamedTexts, AllocError>
     ensures { IfOk result (λ texts. spec.HaveNewTexts (versions_of versions.entry) (new_texts_of texts)) }
 {
-    let Some(base) = document(alloc, versions.base.text())? else {
+    if !have_different_texts(versions) {
         return Ok(RenamedTexts::none());
-    };
-    let Some(ours) = document(alloc, versions.ours.text())? else {
-        return Ok(RenamedTexts::none());
-    };
-    let Some(theirs) = document(alloc, versions.theirs.text())? else {
-        return Ok(RenamedTexts::none());
-    };
-    let documents = Documents {
-        base: &base,
-        ours: &ours,
-        theirs: &theirs,
-    };
-    texts_of_documents(alloc, versions, documents)
+    }
+    let renames = renames_of_sides(alloc, versions)?;
+    texts_after(alloc, versions, &renames)
 }

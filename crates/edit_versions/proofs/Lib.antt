@@ -2,7 +2,10 @@ pub mod AlikeFacts
 pub mod ApartFacts
 pub mod BlockFacts
 pub mod IndexFacts
+pub mod MovedFacts
 pub mod NameFacts
+pub mod RunFacts
 pub mod SymmetryFacts
 pub mod TextFacts
+pub mod TransitiveFacts
 pub mod WordFacts

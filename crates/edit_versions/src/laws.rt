@@ -1,10 +1,10 @@
 //! Laws of versions. These functions have no code: their clauses are theorems about definitions.
 
-ghost use Rattle.std.specs.Prelude.{◌≡◌, ◌<◌, ◌^◌, ℕ, List, Option, Some, length, slice_get};
-ghost use Rattle.edit_units.specs.Units.{UnitReading};
+ghost use Rattle.std.specs.Prelude.{◌≡◌, ◌<◌, ◌^◌, ℕ, List, Option, Some, length, slice_get, true};
+ghost use Rattle.edit_units.specs.Units.{AreUnits, UnitReading};
 ghost use Rattle.edit_versions.specs.Alike.{is_alike, is_same};
 ghost use Rattle.edit_versions.specs.Distinct.{AreAllDifferent};
-ghost use Rattle.edit_versions.specs.Versions.{VersionReading, named_index, version_names};
+ghost use Rattle.edit_versions.specs.Versions.{VersionReading, named_index, version_names, version_unit};
 
 /// States that no two units of a version have the same name, if it has fewer than 2^64 units.
 pub fn names_are_distinct()
@@ -23,4 +23,11 @@ pub fn comparisons_are_symmetric()
         is_same v u w x ≡ is_same w x v u }
     ensures alike { (v : VersionReading) (u : Option UnitReading) (w : VersionReading) (x : Option UnitReading) →
         is_alike v u w x ≡ is_alike w x v u }
+{}
+
+/// States that two units are alike if both are alike a third one, or all three are absent.
+pub fn alike_units_are_alike_others()
+    ensures { (v w x : VersionReading) (i j k : Option ℕ) → AreUnits v.text v.units → AreUnits w.text w.units → AreUnits x.text x.units →
+        is_alike v (version_unit v i) w (version_unit w j) ≡ true → is_alike w (version_unit w j) x (version_unit x k) ≡ true →
+        is_alike v (version_unit v i) x (version_unit x k) ≡ true }
 {}

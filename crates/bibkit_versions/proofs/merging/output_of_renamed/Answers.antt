@@ -1,7 +1,7 @@
-use Rattle.std.proofs.Common.{◌≡◌, ◌∙◌, ap, false, sym}
+use Rattle.std.proofs.Common.{◌≡◌, ◌∙◌, ap, false, sym, true}
 use Rattle.std.specs.List.{list_any}
 use Rattle.std.specs.String.{string_bytes}
-use Rattle.edit_merge.proofs.EntryFacts.{none_found}
+use Rattle.edit_merge.proofs.EntryFacts.{none_found, some_found}
 use Rattle.edit_merge.specs.Entries.{are_all_different}
 use Rattle.edit_merge.specs.Picked.{Versions, slots}
 use Rattle.edit_entry_merge.specs.ConflictTexts.{marker_lines}
@@ -20,8 +20,13 @@ returns-then-not-is_changed_twice c =
     is_merge c.output_of.result (λ o. string_bytes o.text) (λ o. o.has_conflict) (marker_lines c.args.markers) vs (unneeded none)
     c.in_ok-merged.ensures.text c.in_ok-merged.ensures.slots c.output_of.ensures.text c.output_of.ensures.conflict
 
+pub returns-in-Some : goal.returns-in-Some
+returns-in-Some c = some_found _ _ c.in-Some.is (c.in_ok-output.ensures ?)
+
 pub returns-in-None : goal.returns-in-None
 returns-in-None c =
-    is_merge c.output_of-in-None.result (λ o. string_bytes o.text) (λ o. o.has_conflict) (marker_lines c.args.markers)
-    (versions_of c.args.versions) (refused (none_found _ c.in-None.is c.in_ok-output.ensures)) c.in_ok-merged.ensures.text
+    let vs : Versions = versions_of c.args.versions in
+    let changed : is_changed_twice vs ≡ true = ? in
+    is_merge c.output_of-in-None.result (λ o. string_bytes o.text) (λ o. o.has_conflict) (marker_lines c.args.markers) vs
+    (refused changed (none_found _ c.in-None.is (c.in_ok-output.ensures changed))) c.in_ok-merged.ensures.text
     c.in_ok-merged.ensures.slots c.output_of-in-None.ensures.text c.output_of-in-None.ensures.conflict
