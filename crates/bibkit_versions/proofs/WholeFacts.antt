@@ -4,17 +4,14 @@ use Rattle.std.specs.Prelude.{◌&&◌, ◌||◌, bytes_eq, not, option_map}
 use Rattle.std.specs.List.{list_any}
 use Rattle.std.proofs.lemmas.Slice.Eq.{bytes_eq-Decides}
 use Rattle.bib_text.proofs.PlaceFacts.{test_clash}
-use Rattle.bib_syntax.specs.Lines.{lines_together}
-use Rattle.bib_syntax.proofs.LineReadFacts.{lines_are_file}
 use Rattle.edit_entry_merge.specs.ConflictTexts.{MarkerLines}
-use Rattle.edit_entries.specs.Documents.{Document}
-use Rattle.edit_merge.proofs.RenameLawFacts.{equal_texts_stay, ours_equal, sides_equal, theirs_equal}
+use Rattle.edit_merge.proofs.RenameLawFacts.{equal_versions_stay, ours_equal, sides_equal, theirs_equal}
 use Rattle.edit_merge.proofs.UnchangedFacts.{equal_sides_give_their_text, unchanged_ours_gives_theirs, unchanged_theirs_gives_ours}
-use Rattle.edit_merge.specs.Clean.{IsClean, IsPicked}
+use Rattle.edit_merge.specs.Clean.{HaveUnits, IsClean, IsPicked}
 use Rattle.edit_merge.specs.Entries.{are_all_different}
 use Rattle.edit_merge.specs.Lost.{kept_slots}
 use Rattle.edit_merge.specs.Picked.{Versions, merged_names, slot_of, slots}
-use Rattle.edit_merge.specs.Renames.{AreDocumentsOf, Documents, IsVersionDocument, have_different_texts, no_texts}
+use Rattle.edit_merge.specs.Renames.{have_different_texts, no_texts}
 use Rattle.edit_merge.specs.Unchanged.{IsMerge}
 use Rattle.edit_merge.specs.declared.picking.Choice.{Choice}
 use Rattle.edit_merge.specs.declared.picking.Choice.TheVariants as choice
@@ -25,40 +22,14 @@ use Rattle.edit_versions.specs.Versions.{VersionReading, named_index, text_of_un
 use Rattle.bibkit_versions.specs.Merging.{AreMergedBy, AreRenamedBy, IsMergeByFields, IsMergedFile, IsNewVersion, has_conflict, is_changed_twice, is_conflict_choice}
 use Rattle.bibkit_versions.specs.Merging.AreMergedBy.{by_fields, refused, unneeded}
 use Rattle.bibkit_versions.specs.Merging.AreRenamedBy.{refused_base, refused_ours, refused_theirs, renamed}
-use Rattle.bibkit_versions.specs.WholeMerges.{IsWhole}
+use Rattle.bibkit_versions.specs.WholeMerges.{IsWholeMerge}
 
 -- ---- renames
 
-document_of : (v : VersionReading) → AreUnits v.text v.units → Document
-document_of v are = record { text = v.text; says = lines_together are.lines }
-
-is_document : (v : VersionReading) (are : AreUnits v.text v.units) → IsVersionDocument v (document_of v are)
-is_document v are = record { text = refl; read = lines_are_file are.are }
-
--- all versions have the units of their texts
-record HaveAll (vs : Versions) : Type 0 where
-  base : AreUnits vs.base.text vs.base.units
-  ours : AreUnits vs.ours.text vs.ours.units
-  theirs : AreUnits vs.theirs.text vs.theirs.units
-
-documents_of : (vs : Versions) → HaveAll vs → Documents
-documents_of vs all = record {
-  base = document_of vs.base all.base;
-  ours = document_of vs.ours all.ours;
-  theirs = document_of vs.theirs all.theirs;
-}
-
-are_documents : (vs : Versions) (all : HaveAll vs) → AreDocumentsOf vs (documents_of vs all)
-are_documents vs all = record {
-  base = is_document vs.base all.base;
-  ours = is_document vs.ours all.ours;
-  theirs = is_document vs.theirs all.theirs;
-}
-
 -- if two versions have the same text, no version is renamed
-same_versions : (vs renamed_vs : Versions) → HaveAll vs → have_different_texts vs ≡ false → AreRenamedBy vs renamed_vs → renamed_vs ≡ vs
+same_versions : (vs renamed_vs : Versions) → HaveUnits vs → have_different_texts vs ≡ false → AreRenamedBy vs renamed_vs → renamed_vs ≡ vs
 same_versions vs renamed_vs all equal (renamed {texts = texts} {base = base} {ours = ours} {theirs = theirs} have b o t) =
-    let none : texts ≡ no_texts = equal_texts_stay vs (documents_of vs all) texts equal (are_documents vs all) have in
+    let none : texts ≡ no_texts = equal_versions_stay vs texts all equal have in
     let base_is : base ≡ vs.base = subst (λ x. IsNewVersion x.base vs.base base) none b in
     let ours_is : ours ≡ vs.ours = subst (λ x. IsNewVersion x.ours vs.ours ours) none o in
     let theirs_is : theirs ≡ vs.theirs = subst (λ x. IsNewVersion x.theirs vs.theirs theirs) none t in
@@ -126,23 +97,23 @@ clean_conflicts (s ∷ ss) clean = ap₂ (λ x y. x || y) (by s.choice clean.0) 
     by choice.Conflict picked = absurd picked
 
 merge_is : (markers : MarkerLines) (vs : Versions) (whole text : List ℕ) (conflicts : Bool) → is_changed_twice vs ≡ false
-    → IsMerge markers vs whole → IsMergeByFields markers vs text conflicts → IsWhole whole text conflicts
+    → IsMerge markers vs whole → IsMergeByFields markers vs text conflicts → IsWholeMerge whole text conflicts
 merge_is markers vs whole text conflicts none merge fields = by fields.merged fields.are fields.is fields.has
   where
-    by : (merged : Versions) → AreMergedBy vs merged → text ≡ _ → conflicts ≡ _ → IsWhole whole text conflicts
+    by : (merged : Versions) → AreMergedBy vs merged → text ≡ _ → conflicts ≡ _ → IsWholeMerge whole text conflicts
     by merged (unneeded no) is has = record { same = is ∙ merge.text_is; clean = has ∙ clean_conflicts (kept_slots vs vs) merge.clean }
     by merged (refused yes why) is has = absurd (test_clash (is_changed_twice vs) yes none)
     by merged (by_fields yes ours units theirs units') is has = absurd (test_clash (is_changed_twice vs) yes none)
 
-file_is : (markers : MarkerLines) (vs : Versions) (whole text : List ℕ) (conflicts : Bool) → HaveAll vs → have_different_texts vs ≡ false
-    → is_changed_twice vs ≡ false → IsMerge markers vs whole → IsMergedFile markers vs text conflicts → IsWhole whole text conflicts
+file_is : (markers : MarkerLines) (vs : Versions) (whole text : List ℕ) (conflicts : Bool) → HaveUnits vs → have_different_texts vs ≡ false
+    → is_changed_twice vs ≡ false → IsMerge markers vs whole → IsMergedFile markers vs text conflicts → IsWholeMerge whole text conflicts
 file_is markers vs whole text conflicts all equal none merge file =
     merge_is markers vs whole text conflicts none merge
     (subst (λ ws. IsMergeByFields markers ws text conflicts) (same_versions vs file.renamed all equal file.are) file.merge)
 
 pub theirs_unchanged : (markers : MarkerLines) (base ours : VersionReading) (text : List ℕ) (conflicts : Bool)
     → AreUnits base.text base.units → AreUnits ours.text ours.units → length ours.units < 2 ^ 64
-    → IsMergedFile markers (record { base = base; ours = ours; theirs = base }) text conflicts → IsWhole ours.text text conflicts
+    → IsMergedFile markers (record { base = base; ours = ours; theirs = base }) text conflicts → IsWholeMerge ours.text text conflicts
 theirs_unchanged markers base ours text conflicts units units' fits file =
     let vs : Versions = record { base = base; ours = ours; theirs = base } in
     file_is markers vs ours.text text conflicts (record { base = units; ours = units'; theirs = units }) (theirs_equal vs refl)
@@ -150,7 +121,7 @@ theirs_unchanged markers base ours text conflicts units units' fits file =
 
 pub ours_unchanged : (markers : MarkerLines) (base theirs : VersionReading) (text : List ℕ) (conflicts : Bool)
     → AreUnits base.text base.units → AreUnits theirs.text theirs.units → length theirs.units < 2 ^ 64
-    → IsMergedFile markers (record { base = base; ours = base; theirs = theirs }) text conflicts → IsWhole theirs.text text conflicts
+    → IsMergedFile markers (record { base = base; ours = base; theirs = theirs }) text conflicts → IsWholeMerge theirs.text text conflicts
 ours_unchanged markers base theirs text conflicts units units' fits file =
     let vs : Versions = record { base = base; ours = base; theirs = theirs } in
     file_is markers vs theirs.text text conflicts (record { base = units; ours = units; theirs = units' }) (ours_equal vs refl)
@@ -158,7 +129,7 @@ ours_unchanged markers base theirs text conflicts units units' fits file =
 
 pub sides_the_same : (markers : MarkerLines) (base side : VersionReading) (text : List ℕ) (conflicts : Bool)
     → AreUnits base.text base.units → AreUnits side.text side.units → length side.units < 2 ^ 64
-    → IsMergedFile markers (record { base = base; ours = side; theirs = side }) text conflicts → IsWhole side.text text conflicts
+    → IsMergedFile markers (record { base = base; ours = side; theirs = side }) text conflicts → IsWholeMerge side.text text conflicts
 sides_the_same markers base side text conflicts units units' fits file =
     let vs : Versions = record { base = base; ours = side; theirs = side } in
     file_is markers vs side.text text conflicts (record { base = units; ours = units'; theirs = units' }) (sides_equal vs refl)

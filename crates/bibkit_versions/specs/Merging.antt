@@ -44,8 +44,8 @@ pub record IsRefusedMerge (vs : Versions) : Type 0 where
 pub data AreMergedBy (vs : Versions) : Versions → Type 0 where
   unneeded : is_changed_twice vs ≡ false → AreMergedBy vs vs
   refused : is_changed_twice vs ≡ true → IsRefusedMerge vs → AreMergedBy vs vs
-  by_fields : {ours theirs : VersionReading} → is_changed_twice vs ≡ true → HasMergedEntries Ours vs ours.text → AreUnits ours.text ours.units
-      → HasMergedEntries Theirs vs theirs.text → AreUnits theirs.text theirs.units
+  by_fields : {ours theirs : VersionReading} → is_changed_twice vs ≡ true → HasMergedEntries Ours vs ours.text
+      → AreUnits ours.text ours.units → HasMergedEntries Theirs vs theirs.text → AreUnits theirs.text theirs.units
       → AreMergedBy vs (record { base = vs.base; ours = ours; theirs = theirs })
 
 -- A text is a merge of versions, after the renames, and `conflicts` says whether it has conflicts. Lost names are those of `vs`, the

@@ -204,8 +204,8 @@ fn output_by_fields(
     versions: Versions<'_, '_>,
     markers: Markers<'_>,
 ) -> Result<Option<Output>, AllocError>
-    ensures { spec.is_changed_twice (versions_of versions.entry) ≡ true → IfOk result
-        (λ found. MatchOption found (IsRefusedMerge (versions_of versions.entry))
+    ensures { IfOk result (λ found. spec.is_changed_twice (versions_of versions.entry) ≡ true →
+        MatchOption found (IsRefusedMerge (versions_of versions.entry))
         (λ o. IsMergeByFields (marker_lines markers.entry) (versions_of versions.entry) (string_bytes o.text) o.has_conflict)) }
 {
     let our_text = with_merged_entries(alloc, versions, Side::Ours)?;

@@ -17,8 +17,8 @@ pub record FourFail (theirs_same ours_same theirs_alike ours_alike : Bool) : Typ
   pub third : theirs_alike ≡ false
   pub fourth : ours_alike ≡ false
 
-pub conflict_fails : (theirs_same ours_same theirs_alike ours_alike : Bool) → choose theirs_same ours_same theirs_alike ours_alike ≡ Conflict
-    → FourFail theirs_same ours_same theirs_alike ours_alike
+pub conflict_fails : (theirs_same ours_same theirs_alike ours_alike : Bool)
+    → choose theirs_same ours_same theirs_alike ours_alike ≡ Conflict → FourFail theirs_same ours_same theirs_alike ours_alike
 conflict_fails true ours_same theirs_alike ours_alike is = absurd (cc)
 conflict_fails false true theirs_alike ours_alike is = absurd (cc)
 conflict_fails false false true ours_alike is = absurd (cc)

@@ -12,7 +12,7 @@ use Rattle.edit_versions.specs.Distinct.{AreAllDifferent}
 use Rattle.edit_versions.proofs.IndexFacts.{IsAmong}
 use Rattle.edit_versions.specs.Versions.{VersionReading, name_by_blocks, name_by_definitions, name_by_entries, name_by_preamble, named_index, own_name, unique_name, unique_names, version_names, version_unit}
 use Rattle.edit_merge.specs.Clean.{IsClean, IsPicked}
-use Rattle.edit_merge.specs.Keys.{HaveFewEntries, keys_in}
+use Rattle.edit_merge.specs.Keys.{HaveFewEntries, keys_of_units}
 use Rattle.edit_merge.specs.Lost.{kept_slot, kept_slots, picked_units, unit_list, units_at}
 use Rattle.edit_merge.specs.Picked.{Versions, merged_names, slot_of, slots}
 use Rattle.edit_merge.specs.declared.picking.Choice.{Choice}
@@ -101,13 +101,13 @@ among_right : (name : List ℕ) (xs ys : List (List ℕ)) → IsAmong name ys �
 among_right name [] ys here = here
 among_right name (x ∷ xs) ys here = inr (among_right name xs ys here)
 
-key_is_in : (us : List UnitReading) (i : ℕ) (key : List ℕ) → HasKey us i key → IsAmong key (keys_in us)
+key_is_in : (us : List UnitReading) (i : ℕ) (key : List ℕ) → HasKey us i key → IsAmong key (keys_of_units us)
 key_is_in [] i key h = absurd (let clash : None ≡ Some h.unit = h.at in cc)
 key_is_in (u ∷ us) zero key h =
     let same : u ≡ h.unit = let found : Some u ≡ Some h.unit = h.at in cc in
-    among_left key (unit_keys u) (keys_in us) (subst (λ x. IsAmong key (unit_keys x)) (sym same) h.has)
+    among_left key (unit_keys u) (keys_of_units us) (subst (λ x. IsAmong key (unit_keys x)) (sym same) h.has)
 key_is_in (u ∷ us) (suc i) key h =
-    among_right key (unit_keys u) (keys_in us) (key_is_in us i key (record { unit = h.unit; at = h.at; has = h.has }))
+    among_right key (unit_keys u) (keys_of_units us) (key_is_in us i key (record { unit = h.unit; at = h.at; has = h.has }))
 
 -- lists that are parts of a list of different names
 different_left : (xs ys : List (List ℕ)) → AreAllDifferent (xs ++ ys) → (name : List ℕ) → IsAmong name xs → IsAmong name ys → ⊥
@@ -121,7 +121,8 @@ different_right [] ys all = all
 different_right (x ∷ xs) ys all = different_right xs ys all.1
 
 -- the own name of a unit with this key, if it has no other entry
-named_by_key : (text key : List ℕ) (u : UnitReading) → length u.says.entries ≤ 1 → IsAmong key (unit_keys u) → own_name text u ≡ entry_name key
+named_by_key : (text key : List ℕ) (u : UnitReading) → length u.says.entries ≤ 1 → IsAmong key (unit_keys u)
+    → own_name text u ≡ entry_name key
 named_by_key text key u few has = by u.says.entries few has
   where
     by : (es : List EntryReading) → length es ≤ 1 → IsAmong key (map (λ e. e.key.text) es) → name_by_entries text u es ≡ entry_name key
@@ -141,7 +142,7 @@ other_name text key u lacks same = by u.says.entries refl
         lacks (subst (λ l. IsAmong key (map (λ x. x.key.text) l)) (sym is) (inl (same_key key e.key.text own)))
 
 name_of_key : (text : List ℕ) (earlier : List (List ℕ)) (us : List UnitReading) (i : ℕ) (key : List ℕ) → HaveFewEntries us
-    → AreAllDifferent (keys_in us) → HasNone key earlier → HasKey us i key
+    → AreAllDifferent (keys_of_units us) → HasNone key earlier → HasKey us i key
     → slice_get (unique_names earlier (map (own_name text) us)) i ≡ Some (first_name key)
 name_of_key text earlier [] i key few differ none h = absurd (let clash : None ≡ Some h.unit = h.at in cc)
 name_of_key text earlier (u ∷ us) zero key few differ none h =
@@ -153,15 +154,15 @@ name_of_key text earlier (u ∷ us) zero key few differ none h =
 name_of_key text earlier (u ∷ us) (suc i) key few differ none h =
     let rest : HasKey us i key = record { unit = h.unit; at = h.at; has = h.has } in
     let lacks : IsAmong key (unit_keys u) → ⊥ =
-    λ here. different_left (unit_keys u) (keys_in us) differ key here (key_is_in us i key rest) in
-    name_of_key text (earlier ++ own_name text u ∷ []) us i key few.1 (different_right (unit_keys u) (keys_in us) differ)
+    λ here. different_left (unit_keys u) (keys_of_units us) differ key here (key_is_in us i key rest) in
+    name_of_key text (earlier ++ own_name text u ∷ []) us i key few.1 (different_right (unit_keys u) (keys_of_units us) differ)
     (none_more key (own_name text u) earlier none (other_name text key u lacks)) rest
 
 -- a version without two equal keys, and without units with several entries
 pub record HasDifferentKeys (v : VersionReading) : Type 0 where
   pub fits : length v.units < 2 ^ 64
   pub few : HaveFewEntries v.units
-  pub differ : AreAllDifferent (keys_in v.units)
+  pub differ : AreAllDifferent (keys_of_units v.units)
 
 few_at : (us : List UnitReading) (i : ℕ) (u : UnitReading) → HaveFewEntries us → slice_get us i ≡ Some u → length u.says.entries ≤ 1
 few_at [] i u few is = absurd (cc)
@@ -172,7 +173,7 @@ few_at (x ∷ xs) (suc i) u few is = few_at xs i u few.1 is
 
 -- the keys of a unit, if it is there
 abbrev keys_at : VersionReading → List ℕ → List (List ℕ)
-keys_at v name = keys_in (unit_list (version_unit v (named_index v name)))
+keys_at v name = keys_of_units (unit_list (version_unit v (named_index v name)))
 
 -- a list has one name at most, and the name of a place is that of its key
 record IsKeyed (name : List ℕ) (keys : List (List ℕ)) : Type 0 where
@@ -183,7 +184,7 @@ keyed : (v : VersionReading) (name : List ℕ) → HasDifferentKeys v → IsKeye
 keyed v name h = by (named_index v name) refl
   where
     at : (i : ℕ) → named_index v name ≡ Some i → (found : Option UnitReading) → slice_get v.units i ≡ found
-        → IsKeyed name (keys_in (unit_list found))
+        → IsKeyed name (keys_of_units (unit_list found))
     at i leads None is = record { few = omega arith; named = λ key here. absurd here }
     at i leads (Some u) is = record {
       few = omega (arith, few_at v.units i u h.few is, ap length (append-nil (unit_keys u)), length-map u.says.entries (λ e. e.key.text));
@@ -195,13 +196,13 @@ keyed v name h = by (named_index v name) refl
           cc;
     }
 
-    by : (index : Option ℕ) → named_index v name ≡ index → IsKeyed name (keys_in (unit_list (version_unit v index)))
+    by : (index : Option ℕ) → named_index v name ≡ index → IsKeyed name (keys_of_units (unit_list (version_unit v index)))
     by None is = record { few = omega arith; named = λ key here. absurd here }
     by (Some i) is = at i is (slice_get v.units i) refl
 
 -- the keys of what is picked at a place
 abbrev picked_keys : Versions → Slot → Choice → List (List ℕ)
-picked_keys vs s choice = keys_in (picked_units vs s choice)
+picked_keys vs s choice = keys_of_units (picked_units vs s choice)
 
 place_keyed : (vs : Versions) (name : List ℕ) (choice : Choice) → HasDifferentKeys vs.ours → HasDifferentKeys vs.theirs → IsPicked choice
     → IsKeyed name (picked_keys vs (slot_of vs name) choice)
@@ -232,14 +233,14 @@ apart_keys keys_of (n ∷ ns) differ all =
       | inr second ↦ apart ms others.1 keyed.1 key here second
     ]
 
-keys_append : (us vs : List UnitReading) → keys_in (us ++ vs) ≡ keys_in us ++ keys_in vs
+keys_append : (us vs : List UnitReading) → keys_of_units (us ++ vs) ≡ keys_of_units us ++ keys_of_units vs
 keys_append [] vs = refl
 keys_append (u ∷ us) vs =
-    ap (λ l. unit_keys u ++ l) (keys_append us vs) ∙ sym (append_assoc (unit_keys u) (keys_in us) (keys_in vs))
+    ap (λ l. unit_keys u ++ l) (keys_append us vs) ∙ sym (append_assoc (unit_keys u) (keys_of_units us) (keys_of_units vs))
 
 -- the keys at the places of names
 place_keys : (vs originals : Versions) (names : List (List ℕ))
-    → keys_in (units_at vs (map (kept_slot vs originals) (map (slot_of vs) names)))
+    → keys_of_units (units_at vs (map (kept_slot vs originals) (map (slot_of vs) names)))
     ≡ flat_map (λ n. picked_keys vs (slot_of vs n) (kept_slot vs originals (slot_of vs n)).choice) names
 place_keys vs originals [] = refl
 place_keys vs originals (n ∷ ns) =
@@ -257,7 +258,7 @@ clean_places vs originals (n ∷ ns) clean ours theirs = (
 )
 
 pub merged_keys_differ : (vs originals : Versions) → HasDifferentKeys vs.ours → HasDifferentKeys vs.theirs
-    → IsClean (kept_slots vs originals) → AreAllDifferent (keys_in (units_at vs (kept_slots vs originals)))
+    → IsClean (kept_slots vs originals) → AreAllDifferent (keys_of_units (units_at vs (kept_slots vs originals)))
 merged_keys_differ vs originals ours theirs clean =
     subst AreAllDifferent (sym (place_keys vs originals (merged_names vs)))
     (apart_keys (λ n. picked_keys vs (slot_of vs n) (kept_slot vs originals (slot_of vs n)).choice) (merged_names vs)

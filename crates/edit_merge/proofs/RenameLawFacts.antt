@@ -5,12 +5,16 @@ use Rattle.std.specs.List.{enumerate_from, filter_map}
 use Rattle.std.proofs.lemmas.Bool.{eqb-true}
 use Rattle.std.proofs.lemmas.Slice.Eq.{bytes_eq-Decides}
 use mathlib.Core.Path.{fun_ext}
+use Rattle.bib_syntax.specs.Lines.{lines_together}
 use Rattle.bib_syntax.specs.Reading.{EntryReading}
+use Rattle.bib_syntax.proofs.LineReadFacts.{lines_are_file}
 use Rattle.edit_entries.specs.Documents.{Document}
+use Rattle.edit_merge.specs.Clean.{HaveUnits}
 use Rattle.edit_merge.specs.Picked.{Versions, exchanged}
-use Rattle.edit_merge.specs.Renames.{AreDocumentsOf, AreNewTexts, AreRefusedIn, Documents, HasNewKey, HaveNewTexts, IsNewText, IsRenamedText, NewTexts, RenameReading, agreed_key, have_different_texts, exchanged_documents, exchanged_texts, has_one, have_one, key_on_side, keys_after, new_key, no_texts, rename_at, rename_from, renames, renames_of_sides, single_key}
+use Rattle.edit_merge.specs.Renames.{AreDocumentsOf, AreNewTexts, AreRefusedIn, Documents, HasNewKey, HaveNewTexts, IsNewText, IsRenamedText, IsVersionDocument, NewTexts, RenameReading, agreed_key, have_different_texts, exchanged_documents, exchanged_texts, has_one, have_one, key_on_side, keys_after, new_key, no_texts, rename_at, rename_from, renames, renames_of_sides, single_key}
 use Rattle.edit_versions.proofs.SymmetryFacts.{bytes_symmetric}
-use Rattle.edit_versions.specs.Versions.{version_names, version_unit}
+use Rattle.edit_units.specs.Units.{AreUnits}
+use Rattle.edit_versions.specs.Versions.{VersionReading, version_names, version_unit}
 
 -- ---- equal texts
 
@@ -66,6 +70,32 @@ pub equal_texts_stay : (vs : Versions) (ds : Documents) (texts : NewTexts) → h
     → HaveNewTexts vs texts → texts ≡ no_texts
 equal_texts_stay vs ds texts equal are have =
     all_stay ds texts (subst (λ rs. AreNewTexts (new_key rs) ds texts) (equal_renames vs ds equal) (have ds are))
+
+-- ---- documents of versions
+
+document_of : (v : VersionReading) → AreUnits v.text v.units → Document
+document_of v are = record { text = v.text; says = lines_together are.lines }
+
+is_document : (v : VersionReading) (are : AreUnits v.text v.units) → IsVersionDocument v (document_of v are)
+unfolding document_of
+is_document v are = record { text = refl; read = lines_are_file are.are }
+
+-- versions of which two have the same text stay
+pub equal_versions_stay : (vs : Versions) (texts : NewTexts) → HaveUnits vs → have_different_texts vs ≡ false → HaveNewTexts vs texts
+    → texts ≡ no_texts
+equal_versions_stay vs texts all equal have =
+    let ds : Documents = record {
+      base = document_of vs.base all.base;
+      ours = document_of vs.ours all.ours;
+      theirs = document_of vs.theirs all.theirs;
+    } in
+    equal_texts_stay vs ds texts equal
+    (record {
+      base = is_document vs.base all.base;
+      ours = is_document vs.ours all.ours;
+      theirs = is_document vs.theirs all.theirs;
+    })
+    have
 
 -- a test of two equal texts
 same_texts : (text other : List ℕ) → text ≡ other → bytes_eq text other ≡ true

@@ -5,8 +5,8 @@ use Rattle.std.specs.List.{AllByRecursion, flat_map}
 use Rattle.edit_units.specs.Units.{UnitReading}
 
 -- the keys of the entries in these units, in order
-abbrev pub keys_in : List UnitReading → List (List ℕ)
-keys_in units = flat_map (λ u. map (λ e. e.key.text) u.says.entries) units
+abbrev pub keys_of_units : List UnitReading → List (List ℕ)
+keys_of_units units = flat_map (λ u. map (λ e. e.key.text) u.says.entries) units
 
 -- no unit has several entries
 abbrev pub HaveFewEntries : List UnitReading → Type 0

@@ -6,7 +6,7 @@ ghost use Rattle.bib_queries.specs.Needed.{is_listed};
 ghost use Rattle.edit_entries.specs.Changes.{IsReadPlaceless};
 ghost use Rattle.edit_merge.specs.Clean.{HaveUnits, IsClean, IsPicked, merged_content};
 ghost use Rattle.edit_entry_merge.specs.ConflictTexts.{MarkerLines};
-ghost use Rattle.edit_merge.specs.Keys.{HaveFewEntries, keys_in};
+ghost use Rattle.edit_merge.specs.Keys.{HaveFewEntries, keys_of_units};
 ghost use Rattle.edit_merge.specs.Lost.{is_lost, kept_slots, units_at};
 ghost use Rattle.edit_merge.specs.Merged.{merged_text};
 ghost use Rattle.edit_merge.specs.Picked.{Versions, exchanged, is_alike_named, merged_names, order_choice, slot_of};
@@ -70,9 +70,9 @@ pub fn places_have_different_names()
 /// that differ in case are different. The sides have fewer than 2^64 units.
 pub fn keys_stay_different()
     ensures { (vs originals : Versions) → length vs.ours.units < 2 ^ 64 → length vs.theirs.units < 2 ^ 64 →
-        HaveFewEntries vs.ours.units → HaveFewEntries vs.theirs.units → AreAllDifferent (keys_in vs.ours.units) →
-        AreAllDifferent (keys_in vs.theirs.units) → IsClean (kept_slots vs originals) →
-        AreAllDifferent (keys_in (units_at vs (kept_slots vs originals))) }
+        HaveFewEntries vs.ours.units → HaveFewEntries vs.theirs.units → AreAllDifferent (keys_of_units vs.ours.units) →
+        AreAllDifferent (keys_of_units vs.theirs.units) → IsClean (kept_slots vs originals) →
+        AreAllDifferent (keys_of_units (units_at vs (kept_slots vs originals))) }
 {}
 
 /// States for each name that the picked unit has the changes of both sides: if one side is picked, the unit that the other side has with

@@ -46,7 +46,8 @@ record IsBetween (start end n : ℕ) : Type 0 where
 
 bounded : (start end start' end' n : ℕ) → start ≤ end → start' ≤ end' → end - start ≡ end' - start'
     → n ≡ moved_at start' end' start (moved_at start end start' n) → IsBetween start end n
-bounded start end start' end' n order order' size back = record { from = omega (arith, back); to = omega (arith, back, order, order', size) }
+bounded start end start' end' n order order' size back =
+    record { from = omega (arith, back); to = omega (arith, back, order, order', size) }
 
 -- all byte offsets of fields are in the stretch of their unit
 data AreBetween (start end : ℕ) : List FieldReading → Type 0 where

@@ -216,8 +216,8 @@ last_runs l false same line end = record {
   first = λ is. record { unit = unit_of l; others = []; is = refl; starts = line.starts };
 }
 
-more_runs : {text : List ℕ} {u end v : Place} (l : LineReading) (ls : List LineReading) (blank joins : Bool) → u.text ≡ text → IsLine u l end
-    → CharAt end 10 v → is_above text l ls ≡ joins → AreRuns text v.at (begin_filled text ls) (line_units text ls)
+more_runs : {text : List ℕ} {u end v : Place} (l : LineReading) (ls : List LineReading) (blank joins : Bool) → u.text ≡ text
+    → IsLine u l end → CharAt end 10 v → is_above text l ls ≡ joins → AreRuns text v.at (begin_filled text ls) (line_units text ls)
     → AreRuns text u.at (not blank) (cond blank (line_units text ls) (with_line joins l (line_units text ls)))
 more_runs l ls true joins same line feed above others = record { all = others.all; first = λ is. absurd (test_clash false is refl) }
 more_runs {text} {u} l ls false false same line feed above others =
@@ -310,8 +310,8 @@ size_of_unit : {text : List ℕ} {u : UnitReading} → IsUnitRun text u → leng
 size_of_unit {text} {u} run =
     length-take-le (u.end - u.start) (drop u.start text) (omega (arith, run.within, ordered run, length-drop u.start text))
 
-pub same_size : {text other : List ℕ} {u v : UnitReading} → IsUnitRun text u → IsUnitRun other v → text_of_unit text u ≡ text_of_unit other v
-    → u.end - u.start ≡ v.end - v.start
+pub same_size : {text other : List ℕ} {u v : UnitReading} → IsUnitRun text u → IsUnitRun other v
+    → text_of_unit text u ≡ text_of_unit other v → u.end - u.start ≡ v.end - v.start
 same_size run run' same = sym (size_of_unit run) ∙ ap length same ∙ size_of_unit run'
 
 pub unit_zone : {text other : List ℕ} {u v : UnitReading} → IsUnitRun text u → IsUnitRun other v
@@ -321,8 +321,10 @@ unit_zone {text} {other} {u} {v} run run' same =
     record {
       moves = λ n from below. omega (arith, from);
       same = same ∙ ap (λ n. take n (drop v.start other)) (sym size);
-      cut = λ {u = x} {v = y} {c} there char below. omega
-          (arith, not_over other v.end run'.border there char (omega (arith, size, ordered run, ordered run')), size, ordered run, ordered run');
+      cut = λ {u = x} {v = y} {c} there char below.
+          let order = ordered run in
+          let order' = ordered run' in
+          omega (arith, not_over other v.end run'.border there char (omega (arith, size, order, order')), size, order, order');
     }
 
 -- a place in a unit

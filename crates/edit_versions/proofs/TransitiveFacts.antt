@@ -72,7 +72,8 @@ fields_transitive (f ∷ fs) (g ∷ gs) (h ∷ hs) first second =
     both_true (field_transitive f g h one.0 two.0) (fields_transitive fs gs hs one.1 two.1)
 
 -- the tests of two entries
-record AreAlikeParts (text : List ℕ) (u : UnitReading) (e : EntryReading) (other : List ℕ) (v : UnitReading) (g : EntryReading) : Type 0 where
+record AreAlikeParts (text : List ℕ) (u : UnitReading) (e : EntryReading) (other : List ℕ) (v : UnitReading) (g : EntryReading)
+    : Type 0 where
   kind : is_word e.kind.text g.kind.text ≡ true
   fields : are_alike_fields e.fields g.fields ≡ true
   before : bytes_eq (before_entry text u e) (before_entry other v g) ≡ true
@@ -144,7 +145,8 @@ have_words : (text : List ℕ) (u : UnitReading) (other : List ℕ) (v : UnitRea
 have_words text u other v is =
     let none : Bool = length u.blocks == 0 in
     let none' : Bool = length v.blocks == 0 in
-    let all = and_parts (none && none') (bytes_eq (words_with_spaces (text_of_unit text u)) (words_with_spaces (text_of_unit other v))) is in
+    let words : Bool = bytes_eq (words_with_spaces (text_of_unit text u)) (words_with_spaces (text_of_unit other v)) in
+    let all = and_parts (none && none') words is in
     let empty = and_parts none none' all.0 in
     record { empty = empty.0; empty' = empty.1; same = all.1 }
 
@@ -154,7 +156,8 @@ data AreAlikeAs (text : List ℕ) (u : UnitReading) (other : List ℕ) (v : Unit
   by_layout : AreLaidOut text u other v → AreAlikeAs text u other v
   by_words : HaveWords text u other v → AreAlikeAs text u other v
 
-alike_as : (text : List ℕ) (u : UnitReading) (other : List ℕ) (v : UnitReading) → are_alike text u other v ≡ true → AreAlikeAs text u other v
+alike_as : (text : List ℕ) (u : UnitReading) (other : List ℕ) (v : UnitReading) → are_alike text u other v ≡ true
+    → AreAlikeAs text u other v
 alike_as text u other v is =
     let bytes : Bool = bytes_eq (text_of_unit text u) (text_of_unit other v) in
     let layout : Bool = are_alike_in_layout text u other v in

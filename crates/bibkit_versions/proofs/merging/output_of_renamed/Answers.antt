@@ -21,12 +21,19 @@ returns-then-not-is_changed_twice c =
     c.in_ok-merged.ensures.text c.in_ok-merged.ensures.slots c.output_of.ensures.text c.output_of.ensures.conflict
 
 pub returns-in-Some : goal.returns-in-Some
-returns-in-Some c = some_found _ _ c.in-Some.is (c.in_ok-output.ensures ?)
+returns-in-Some c =
+    let vs : Versions = versions_of c.args.versions in
+    let places =
+    ap (list_any (are_all_different vs)) (c.deref.ensures.value ∙ c.in_ok-merged.ensures.slots) ∙ kept_changed vs (slots vs) in
+    let changed : is_changed_twice vs ≡ true = sym (c.is_changed_twice.ensures ∙ places) ∙ c.if-not-is_changed_twice.false in
+    some_found _ _ c.in-Some.is (c.in_ok-output.ensures changed)
 
 pub returns-in-None : goal.returns-in-None
 returns-in-None c =
     let vs : Versions = versions_of c.args.versions in
-    let changed : is_changed_twice vs ≡ true = ? in
+    let places =
+    ap (list_any (are_all_different vs)) (c.deref.ensures.value ∙ c.in_ok-merged.ensures.slots) ∙ kept_changed vs (slots vs) in
+    let changed : is_changed_twice vs ≡ true = sym (c.is_changed_twice.ensures ∙ places) ∙ c.if-not-is_changed_twice.false in
     is_merge c.output_of-in-None.result (λ o. string_bytes o.text) (λ o. o.has_conflict) (marker_lines c.args.markers) vs
     (refused changed (none_found _ c.in-None.is (c.in_ok-output.ensures changed))) c.in_ok-merged.ensures.text
     c.in_ok-merged.ensures.slots c.output_of-in-None.ensures.text c.output_of-in-None.ensures.conflict
