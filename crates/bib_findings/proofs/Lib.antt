@@ -27,3 +27,6 @@ mod ChosenFacts
 mod DefinitionFacts
 mod KeyFacts
 mod RepeatedFacts
+mod ParentFacts
+mod MarkupFacts
+mod LowercaseFacts

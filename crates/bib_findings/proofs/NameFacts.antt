@@ -1,8 +1,9 @@
 -- The findings of unknown fields, and the cache of field names.
-use Rattle.std.proofs.Common.{◌≡◌, ℕ, Bool, true, false, not, ◌&&◌, List, [], ◌+◌, ◌<◌, ◌≤◌, length, Option, Some, None, option_copied, Result, Ok, Err, OnOk, refl, sym, ap, ◌∙◌, subst, arith, cond}
+use Rattle.std.proofs.Common.{◌≡◌, ℕ, Bool, true, false, not, ◌&&◌, ◌||◌, List, [], ◌∷◌, ◌+◌, ◌<◌, ◌≤◌, length, Option, Some, None, option_copied, Result, Ok, Err, OnOk, refl, sym, ap, ◌∙◌, subst, arith, cond}
 use Rattle.std.specs.Borrow.{Bor}
-use Rattle.std.specs.List.{after_first, before_first, position_or_len}
+use Rattle.std.specs.List.{after_first, before_first, list_all, list_any, position_or_len}
 use Rattle.std.specs.Str.{str_to_ascii_lowercase}
+use Rattle.std.proofs.lemmas.Bool.{and_parts}
 use Rattle.std.proofs.lemmas.List.{drop_all}
 use Rattle.std.proofs.lemmas.Slice.Eq.{bytes_eq-Decides}
 use Rattle.std.proofs.Math.Bool.{and-false}
@@ -12,10 +13,11 @@ use Rattle.bib_text.specs.Characters as char
 use Rattle.bib_syntax.specs.Reading.{FieldReading}
 use Rattle.bib_text.proofs.ListFacts.{some_same}
 use Rattle.bib_findings.specs.Foreign.{is_foreign}
-use Rattle.bib_findings.specs.Met.{AreFieldNames, IsFieldName}
+use Rattle.bib_findings.specs.Met.{AreFieldNames, IsFieldName, frequent_fields}
 use Rattle.bib_findings.specs.Names.{annotated_name, is_annotation_mark, is_known_field, is_unknown_field, known_fields, meant_field, meant_findings, misspelled_of}
 use Rattle.bib_findings.specs.Nearest.{suggestion}
 use Rattle.bib_findings.specs.declared.names.FieldName.{FieldName}
+use Rattle.bib_findings.specs.declared.names.FieldName.TheVariants.{Known}
 
 -- a field whose name isn't unknown isn't misspelled
 pub no_misspelled : (key : List ℕ) (f : FieldReading) → is_unknown_field f.name.text ≡ false → misspelled_of key f ≡ []
@@ -116,3 +118,36 @@ split_here c text r x is says = subst (SplitAt c text) is says
 pub split_not : (c : ℕ) (text : List ℕ) (r : Option (Bor (List ℕ) × Bor (List ℕ))) → r ≡ None → SplitAt c text r
     → position_or_len (λ b. b == c) text ≡ length text
 split_not c text r is says = subst (SplitAt c text) is says
+
+-- whether BibLaTeX knows a name, and no other program uses it
+abbrev is_only_known : List ℕ → Bool
+is_only_known name = not (is_foreign name) && not (is_unknown_field name)
+
+only_known : (name : List ℕ) → is_only_known name ≡ true → IsFieldName name Known
+only_known name both =
+    let parts = and_parts (not (is_foreign name)) (not (is_unknown_field name)) both in
+    (not_true (is_foreign name) parts.0, not_true (is_unknown_field name) parts.1)
+  where
+    not_true : (b : Bool) → not b ≡ true → b ≡ false
+    not_true true is = absurd (let clash : false ≡ true = is in cc)
+    not_true false is = refl
+
+-- a name that is one of some known names is known
+one_known : (names : List (List ℕ)) (name : List ℕ) → list_all is_only_known names ≡ true
+    → list_any (λ one. bytes_eq one name) names ≡ true → IsFieldName name Known
+one_known [] name all is = absurd (let clash : false ≡ true = is in cc)
+one_known (first ∷ names) name all is =
+    by (bytes_eq first name) refl
+    (one_known names name (and_parts (is_only_known first) (list_all is_only_known names) all).1)
+  where
+    by : (same : Bool) → bytes_eq first name ≡ same
+        → (list_any (λ one. bytes_eq one name) names ≡ true → IsFieldName name Known) → IsFieldName name Known
+    by true same later =
+        subst (λ n. IsFieldName n Known) ((bytes_eq-Decides first name).0 same)
+        (only_known first (and_parts (is_only_known first) (list_all is_only_known names) all).0)
+    by false other later =
+        later (sym (ap (λ b. b || list_any (λ one. bytes_eq one name) names) other) ∙ is)
+
+-- a frequent name is known
+pub frequent_known : (name : List ℕ) → list_any (λ frequent. bytes_eq frequent name) frequent_fields ≡ true → IsFieldName name Known
+frequent_known name is = one_known frequent_fields name refl is

@@ -14,7 +14,7 @@ pub record IsSpecialAfter (characters : List ℕ) (count depth : ℕ) (zone : Zo
   pub small : depth ≤ count
   pub left : first_special InText (outside 0 characters) ≡ first_special zone (outside depth (drop count characters))
 
-and_false : (b : Bool) → (b && false) ≡ false
+pub and_false : (b : Bool) → (b && false) ≡ false
 and_false true = refl
 and_false false = refl
 

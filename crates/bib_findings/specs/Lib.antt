@@ -25,6 +25,7 @@ pub mod KeyCases
 pub mod Lacking
 pub mod LastDefinitions
 pub mod MalformedDates
+pub mod Lowercase
 pub mod Marks
 pub mod Met
 pub mod Names

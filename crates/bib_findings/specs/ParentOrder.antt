@@ -38,6 +38,10 @@ early_finding said parent =
     finding_at EarlyParent (field_place said (codes "crossref"))
     (named_message said.key.text (codes "the parent ") parent (codes " comes first; BibTeX finds it only if it is cited too"))
 
+-- whether an entry has a `crossref` that is one literal and not blank
+abbrev pub has_parent : EntryReading → Bool
+has_parent said = not (length (parent_key said) == 0)
+
 -- the finding of an entry if its `crossref` is one literal, and is the key of one of the earlier entries in any ASCII case
 abbrev pub early_after : List EntryReading → EntryReading → List Finding
 early_after earlier said =

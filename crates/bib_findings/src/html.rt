@@ -2,13 +2,13 @@
 
 ghost use Rattle.std.specs.Prelude.{◌≡◌, ◌==◌, ◌++◌, false, map, option_map, slice_get, IfOk, OnOk};
 ghost use Rattle.std.specs.Char.{is_ascii_hexdigit};
-ghost use Rattle.std.specs.List.{flat_map, list_all, take_while};
+ghost use Rattle.std.specs.List.{flat_map, list_all, list_any, take_while};
 ghost use Rattle.std.specs.Option.{option_map_or};
 ghost use Rattle.std.specs.String.{string_bytes};
 ghost use Rattle.bib_syntax.specs.Views.{entry_reading_of, field_of};
 ghost use Rattle.bib_findings.specs.Html as spec;
 ghost use Rattle.bib_findings.specs.Html.{printed_finding, printed_findings};
-ghost use Rattle.bib_findings.specs.HtmlParts.{markup_of};
+ghost use Rattle.bib_findings.specs.HtmlParts.{is_tested_byte, markup_of};
 ghost use Rattle.bib_findings.specs.declared.special_characters.Zone.TheVariants.{InText};
 
 use crate::codes::Code;
@@ -265,6 +265,20 @@ fn html_finding(
     })
 }
 
+// Returns whether a byte may begin HTML, or is special to LaTeX.
+fn is_tested_byte(b: u8) -> bool
+    ensures { result ≡ is_tested_byte b }
+{
+    matches!(b, b'<' | b'&' | b'%' | b'#' | b'_' | b'^')
+}
+
+// Returns whether a text has a byte that may begin HTML or is special to LaTeX.
+fn has_tested_byte(text: &str) -> bool
+    ensures { result ≡ list_any is_tested_byte text.now }
+{
+    text.as_bytes().iter().any(|b| is_tested_byte(*b))
+}
+
 // Appends the findings of HTML and of a special character in a field of the entry with this key, if the field is printed and its value is
 // one literal. Beside a character reference, no special character is reported.
 fn add_printed(
@@ -278,7 +292,11 @@ fn add_printed(
     if !is_printed(field.key.v) {
         return Ok(());
     }
-    let Some(html) = first_html(literal_text(&field.value.v).as_bytes()) else {
+    let text = literal_text(&field.value.v);
+    if !has_tested_byte(text) {
+        return Ok(());
+    }
+    let Some(html) = first_html(text.as_bytes()) else {
         return add_special(alloc, found, key, field);
     };
     found.push(html_finding(alloc, key, field, html)?)?;

@@ -10,6 +10,7 @@ ghost use Rattle.bib_findings.specs.CheckDigits as spec;
 ghost use Rattle.bib_findings.specs.Words.{ends_before, spaced_word, without_braces, words_text};
 
 use crate::check_digits::{are_digits_or_x, is_isbn};
+use crate::lowercase::lowercase;
 use crate::nearest::is_among;
 use crate::people::{has_end, has_start};
 use crate::places::last_named;
@@ -115,7 +116,7 @@ fn words(alloc: Global, lowercase: &str, is_first: bool) -> Result<String, Alloc
 pub(crate) fn plain_words(alloc: Global, text: &str) -> Result<String, AllocError>
     ensures { IfOk result (λ plain. string_bytes plain ≡ plain_words text.now) }
 {
-    let lowercase = text.to_lowercase(alloc)?;
+    let lowercase = lowercase(alloc, text)?;
     words(alloc, &lowercase, false)
 }
 

@@ -1,7 +1,6 @@
 //! Findings of fields that should be a date and aren't one.
 
-ghost use Rattle.std.specs.Prelude.{◌≡◌, ◌++◌, ◌==◌, ◌||◌, bytes_eq, codes, is_none, IfOk, OnOk};
-ghost use Rattle.std.specs.List.{list_any};
+ghost use Rattle.std.specs.Prelude.{◌≡◌, ◌++◌, ◌==◌, ◌||◌, codes, is_none, IfOk, OnOk};
 ghost use Rattle.bib_tables.specs.Requirements.{texts};
 ghost use Rattle.bib_dates.specs.Chunks.{date_read};
 ghost use Rattle.bib_dates.specs.Dates.{is_approximate, is_open, is_uncertain, without_mark};
@@ -12,6 +11,7 @@ ghost use Rattle.bib_findings.specs.MalformedDates.{date_findings, dates_among, 
 use crate::codes::Code;
 use crate::entries::field_finding;
 use crate::finding::Finding;
+use crate::nearest::is_one_of;
 use crate::other_digits::is_other_year;
 use crate::places::last_named;
 use bib_chunks::chunk::making::normal;
@@ -59,22 +59,13 @@ fn without_mark(text: &[u8]) -> &[u8]
     }
 }
 
-// Returns whether a text is one of these numbers of divisions, each with a hyphen before it.
-fn is_division_number(number: &[u8], divisions: &[&'static str]) -> bool
-    ensures { result ≡ list_any (λ division. bytes_eq division number.now) (texts divisions.now) }
-{
-    divisions
-        .iter()
-        .any(|division| division.as_bytes() == number)
-}
-
 // Returns whether a text without a sign is a year with a division.
 fn is_division(year: &[u8]) -> bool
     ensures { result ≡ spec.is_division year.now }
 {
     match year {
         [a, b, c, d, number @ ..] => {
-            are_digits(&[*a, *b, *c, *d]) && is_division_number(number, &YEAR_DIVISIONS)
+            are_digits(&[*a, *b, *c, *d]) && is_one_of(&YEAR_DIVISIONS, number)
         }
         _ => false,
     }

@@ -1,16 +1,17 @@
 //! Field names that BibLaTeX knows, and findings of fields with a misspelled one.
 
-ghost use Rattle.std.specs.Prelude.{◌≡◌, ◌++◌, IfOk, OnOk, option_copied};
+ghost use Rattle.std.specs.Prelude.{◌≡◌, ◌++◌, bytes_eq, IfOk, OnOk, option_copied};
 ghost use Rattle.std.specs.BTreeMap.{get_by_text};
+ghost use Rattle.std.specs.List.{list_any};
 ghost use Rattle.bib_syntax.specs.Views.{entry_reading_of, field_of};
-ghost use Rattle.bib_findings.specs.Met.{AreFieldNames, IsFieldName};
+ghost use Rattle.bib_findings.specs.Met.{AreFieldNames, IsFieldName, frequent_fields};
 ghost use Rattle.bib_findings.specs.Names as spec;
 ghost use Rattle.bib_findings.specs.Names.{misspelled_findings, misspelled_of};
 
 use crate::codes::Code;
 use crate::finding::Finding;
 use crate::foreign::{begins_with, is_foreign};
-use crate::nearest::{is_among, suggestion, unknown_message};
+use crate::nearest::{is_among, is_one_of, suggestion, unknown_message};
 use bib_syntax::raw::{Pair, RawEntry};
 use bib_text::spanned::Spanned;
 use bib_text::text::Text;
@@ -237,6 +238,26 @@ static CUSTOM_FIELDS: [&str; 21] = [
     "verbc",
 ];
 
+// Frequent names of fields that BibLaTeX knows. Comparing a name with these takes less time than searching the cache for it.
+static FREQUENT_FIELDS: [&str; 16] = [
+    "author",
+    "title",
+    "year",
+    "date",
+    "pages",
+    "journal",
+    "volume",
+    "number",
+    "publisher",
+    "doi",
+    "url",
+    "booktitle",
+    "address",
+    "month",
+    "abstract",
+    "editor",
+];
+
 // Returns whether the text after a plus sign in a field name marks a data annotation.
 fn is_annotation_mark(mark: &str) -> bool
     ensures { result ≡ spec.is_annotation_mark mark.now }
@@ -294,6 +315,13 @@ fn look_up(alloc: Global, name: &str) -> Result<FieldName, AllocError>
     Ok(FieldName::Unknown(meant))
 }
 
+// Returns whether a name is one of `FREQUENT_FIELDS`.
+fn is_frequent_field(name: &str) -> bool
+    ensures { result ≡ list_any (λ frequent. bytes_eq frequent name.now) frequent_fields }
+{
+    is_one_of(&FREQUENT_FIELDS, name.as_bytes())
+}
+
 /// Classifies a field name, with a cache: a file has few names, and each occurs often.
 pub(crate) fn meet(
     alloc: Global,
@@ -304,6 +332,9 @@ pub(crate) fn meet(
     ensures met { OnOk result (AreFieldNames (get_by_text met.new)) }
     ensures is { IfOk result (IsFieldName name.now) }
 {
+    if is_frequent_field(name) {
+        return Ok(FieldName::Known);
+    }
     if let Some(is) = met.get(name).copied() {
         return Ok(is);
     }

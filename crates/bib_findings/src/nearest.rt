@@ -1,6 +1,7 @@
 //! The known name that an unknown one may mean.
 
-ghost use Rattle.std.specs.Prelude.{◌≡◌, IfOk, option_copied};
+ghost use Rattle.std.specs.Prelude.{◌≡◌, bytes_eq, IfOk, option_copied};
+ghost use Rattle.std.specs.List.{list_any};
 ghost use Rattle.std.specs.String.{string_bytes};
 ghost use Rattle.bib_tables.specs.Requirements.{texts};
 ghost use Rattle.bib_findings.specs.Nearest as spec;
@@ -14,6 +15,13 @@ pub(crate) fn is_among(names: &[&'static str], name: &str) -> bool
     ensures { result ≡ spec.is_known_name (texts names.now) name.now }
 {
     names.iter().any(|known| known.eq_ignore_ascii_case(name))
+}
+
+// Returns whether a text is one of these words.
+pub(crate) fn is_one_of(words: &[&'static str], text: &[u8]) -> bool
+    ensures { result ≡ list_any (λ word. bytes_eq word text.now) (texts words.now) }
+{
+    words.iter().any(|word| word.as_bytes() == text)
 }
 
 // Returns whether two texts begin with the same byte.

@@ -181,6 +181,25 @@ fn add_early_among(
     Ok(())
 }
 
+// Returns whether an entry has a `crossref` that is one literal and not blank.
+fn has_parent(said: &Spanned<RawEntry<'_>>) -> bool
+    ensures { result ≡ spec.has_parent (entry_reading_of said.now) }
+{
+    !parent_key(said).is_empty()
+}
+
+// Returns whether one of these entries has a `crossref` that is one literal and not blank.
+fn have_parents(said: &[Spanned<RawEntry<'_>>]) -> bool
+    ensures { result ≡ list_any spec.has_parent (map entry_reading_of said.now) }
+{
+    'entries: for one in said {
+        if has_parent(one) {
+            return true;
+        }
+    }
+    false
+}
+
 /// Appends a finding for each of these entries whose `crossref` is one literal, and is the key of an earlier one in any ASCII case. Only
 /// entries with a type of BibTeX's standard styles count. `origins` contains the index of each entry in `said`.
 pub(crate) fn add_early(
@@ -193,6 +212,9 @@ pub(crate) fn add_early(
     ensures { OnOk result (found.new.items ≡ found.old.items ++
         early_findings (entries_at (map entry_reading_of said.now) origins.now)) }
 {
+    if !have_parents(said) {
+        return Ok(());
+    }
     let chosen = bibtex_origins(alloc, said, origins)?;
     add_early_among(alloc, found, said, &chosen)
 }

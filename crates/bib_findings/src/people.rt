@@ -70,22 +70,16 @@ fn push_in_lines(lines: &mut String, word: &str) -> Result<(), AllocError>
     lines.push_str(" ")
 }
 
-// Returns words without the empty ones, each followed by a space, but a line feed in place of each word `and`.
-fn words_in_lines(alloc: Global, words: &[&str]) -> Result<String, AllocError>
-    ensures { IfOk result (λ lines. string_bytes lines ≡ flat_map spec.word_in_lines (map (λ word. word.now) words.now)) }
+// Returns the parts of a text between spaces without the empty ones, each followed by a space, but a line feed in place of each word `and`.
+fn words_in_lines(alloc: Global, text: &str) -> Result<String, AllocError>
+    ensures { IfOk result (λ lines. string_bytes lines ≡
+        flat_map spec.word_in_lines (slice_split (λ b. b == char.space) text.now)) }
 {
-    let mut lines = String::new(alloc);
-    'words: for word in words {
+    let mut lines = String::with_capacity(alloc, text.len())?;
+    'words: for word in text.split(' ') {
         push_in_lines(&mut lines, word)?;
     }
     Ok(lines)
-}
-
-// Returns the parts of a text between spaces.
-fn words_in(alloc: Global, text: &str) -> Result<Vec<&str>, AllocError>
-    ensures { IfOk result (λ words. map (λ word. word.now) words.items ≡ slice_split (λ b. b == char.space) text.now) }
-{
-    text.split(' ').collect(alloc)
 }
 
 // Returns a list of people in lowercase: the words of each person, each followed by a space, with a line feed between people. An `x`
@@ -95,8 +89,7 @@ fn lines_of_people(alloc: Global, text: &str) -> Result<String, AllocError>
 {
     let outside = outside_braces(alloc, text)?;
     let plain = plain_words(alloc, &outside)?;
-    let words = words_in(alloc, &plain)?;
-    words_in_lines(alloc, &words)
+    words_in_lines(alloc, &plain)
 }
 
 // Returns the people in these lines.

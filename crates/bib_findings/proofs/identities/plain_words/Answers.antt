@@ -8,5 +8,5 @@ use Rattle.bib_findings.proofs.identities.plain_words.Goals as goal
 pub returns : goal.returns
 returns c =
     subst (λ l. IfOk c.words.result (λ plain. string_bytes plain ≡ l))
-    (ap (λ t. words_text false (without_braces t)) (c.deref.ensures ∙ c.in_ok-lowercase.ensures.value)
+    (ap (λ t. words_text false (without_braces t)) (c.deref.ensures ∙ c.in_ok-lowercase.ensures)
     ∙ ap spaced_words (all_words (folded_words (folded c.args.text.now)))) c.words.ensures
