@@ -10,7 +10,8 @@ use Rattle.edit_merge.proofs.UnchangedFacts.{equal_sides_give_their_text, unchan
 use Rattle.edit_merge.specs.Clean.{HaveUnits, IsClean, IsPicked}
 use Rattle.edit_merge.specs.Entries.{are_all_different}
 use Rattle.edit_merge.specs.Lost.{kept_slots}
-use Rattle.edit_merge.specs.Picked.{Versions, merged_names, slot_of, slots}
+use Rattle.edit_merge.specs.Merged.{merged_text}
+use Rattle.edit_merge.specs.Picked.{Versions, merged_names, slot_of}
 use Rattle.edit_merge.specs.Renames.{have_different_texts, no_texts}
 use Rattle.edit_merge.specs.Unchanged.{IsMerge}
 use Rattle.edit_merge.specs.declared.picking.Choice.{Choice}
@@ -36,9 +37,9 @@ same_versions vs renamed_vs all equal (renamed {texts = texts} {base = base} {ou
     ap (λ x. let ws : Versions = record { base = x; ours = ours; theirs = theirs } in ws) base_is
     ∙ ap (λ x. let ws : Versions = record { base = vs.base; ours = x; theirs = theirs } in ws) ours_is
     ∙ ap (λ x. let ws : Versions = record { base = vs.base; ours = vs.ours; theirs = x } in ws) theirs_is
-same_versions vs renamed_vs all equal (refused_base have refused) = refl
-same_versions vs renamed_vs all equal (refused_ours have refused) = refl
-same_versions vs renamed_vs all equal (refused_theirs have refused) = refl
+same_versions vs renamed_vs all equal (refused_base have why) = refl
+same_versions vs renamed_vs all equal (refused_ours have why) = refl
+same_versions vs renamed_vs all equal (refused_theirs have why) = refl
 
 -- ---- entries that both sides changed
 
@@ -100,10 +101,11 @@ merge_is : (markers : MarkerLines) (vs : Versions) (whole text : List ℕ) (conf
     → IsMerge markers vs whole → IsMergeByFields markers vs text conflicts → IsWholeMerge whole text conflicts
 merge_is markers vs whole text conflicts none merge fields = by fields.merged fields.are fields.is fields.has
   where
-    by : (merged : Versions) → AreMergedBy vs merged → text ≡ _ → conflicts ≡ _ → IsWholeMerge whole text conflicts
-    by merged (unneeded no) is has = record { same = is ∙ merge.text_is; clean = has ∙ clean_conflicts (kept_slots vs vs) merge.clean }
-    by merged (refused yes why) is has = absurd (test_clash (is_changed_twice vs) yes none)
-    by merged (by_fields yes ours units theirs units') is has = absurd (test_clash (is_changed_twice vs) yes none)
+    by : (merged : Versions) → AreMergedBy vs merged → text ≡ merged_text markers merged (kept_slots merged vs)
+        → conflicts ≡ has_conflict (kept_slots merged vs) → IsWholeMerge whole text conflicts
+    by merged (unneeded unchanged) is has = record { same = is ∙ merge.text_is; clean = has ∙ clean_conflicts (kept_slots vs vs) merge.clean }
+    by merged (refused changed why) is has = absurd (test_clash (is_changed_twice vs) changed none)
+    by merged (by_fields changed ours units theirs units') is has = absurd (test_clash (is_changed_twice vs) changed none)
 
 file_is : (markers : MarkerLines) (vs : Versions) (whole text : List ℕ) (conflicts : Bool) → HaveUnits vs → have_different_texts vs ≡ false
     → is_changed_twice vs ≡ false → IsMerge markers vs whole → IsMergedFile markers vs text conflicts → IsWholeMerge whole text conflicts
