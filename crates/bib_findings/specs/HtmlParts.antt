@@ -1,5 +1,5 @@
 -- Machinery: words of private contracts.
--- The tags and character references that the code represents.
+-- The tags and character references that the code represents, and the bytes for which it tests a text first.
 use Rattle.std.specs.Prelude.{ℕ, Bool, ◌==◌, ◌||◌, ◌++◌, codes}
 use Rattle.bib_text.specs.Characters as char
 use Rattle.bib_findings.specs.Html.{Markup}

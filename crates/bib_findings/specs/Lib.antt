@@ -24,8 +24,8 @@ pub mod Identities
 pub mod KeyCases
 pub mod Lacking
 pub mod LastDefinitions
-pub mod MalformedDates
 pub mod Lowercase
+pub mod MalformedDates
 pub mod Marks
 pub mod Met
 pub mod Names

@@ -46,7 +46,7 @@ has_parent said = not (length (parent_key said) == 0)
 abbrev pub early_after : List EntryReading → EntryReading → List Finding
 early_after earlier said =
     let parent : List ℕ = parent_key said in
-    if not (length parent == 0) && list_any (is_key_of parent) earlier then early_finding said parent ∷ [] else []
+    if has_parent said && list_any (is_key_of parent) earlier then early_finding said parent ∷ [] else []
 
 -- the findings of each of these entries whose `crossref` is one literal, and is the key of an earlier one in any ASCII case
 abbrev pub early_among : List EntryReading → List Finding

@@ -11,9 +11,9 @@
 //! blocks. `lacking` finds the entries of which fields may be lost: those of skipped blocks, and those that refer to one by
 //! `crossref` or `xdata`, directly or through others. `demands` has the fields that BibLaTeX requires. `nearest` finds the known name
 //! that may be meant, `marks` selects the entries that may be the same work as another, `check_digits` tests ISBNs and ISSNs,
-//! `other_digits` tests texts for the digits of other scripts, `lowercase` returns texts in lowercase, `foreign` has the fields of other programs, `outside` finds the
-//! text outside braces, `volume_labels` tests texts for usual labels of volumes, `date_parts` finds the field of a date that can't be
-//! parsed, and `definition_cases` makes the notes on abbreviations that are defined in another case.
+//! `other_digits` tests texts for the digits of other scripts, `lowercase` returns texts in lowercase, `foreign` has the fields of other
+//! programs, `outside` finds the text outside braces, `volume_labels` tests texts for usual labels of volumes, `date_parts` finds the field
+//! of a date that can't be parsed, and `definition_cases` makes the notes on abbreviations that are defined in another case.
 //! `errors`, `types`, `entries`, `names`, `fields`, `standard_numbers`, `urls`, `malformed_dates`, `people`,
 //! `special_characters`, `html`, `years`, `stray`, `comments`, `quotes`, `references`, `duplicates`, `key_cases`, `parent_order`, `once`,
 //! `definitions` and `unused_definitions` make the findings; `duplicates` uses `identities`.

@@ -55,8 +55,8 @@ fn lowercase_forms(alloc: Global, text: &str) -> Result<String, AllocError>
     Ok(forms)
 }
 
-/// Returns a text in lowercase, like `to_lowercase` of the standard library, but tests for the context of a sigma only if the text
-/// contains a capital one.
+/// Returns a text in lowercase, like `to_lowercase` of the standard library. Unlike there, the characters around a letter are looked at only
+/// if the text contains a capital sigma.
 pub(crate) fn lowercase(alloc: Global, text: &str) -> Result<String, AllocError>
     ensures { IfOk result (λ lower. string_bytes lower ≡ str_to_lowercase text.now) }
 {

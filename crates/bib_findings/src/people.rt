@@ -70,7 +70,7 @@ fn push_in_lines(lines: &mut String, word: &str) -> Result<(), AllocError>
     lines.push_str(" ")
 }
 
-// Returns the parts of a text between spaces without the empty ones, each followed by a space, but a line feed in place of each word `and`.
+// Returns the words of a text, which are separated by spaces. A space follows each word, and a line feed is in place of each word `and`.
 fn words_in_lines(alloc: Global, text: &str) -> Result<String, AllocError>
     ensures { IfOk result (λ lines. string_bytes lines ≡
         flat_map spec.word_in_lines (slice_split (λ b. b == char.space) text.now)) }
