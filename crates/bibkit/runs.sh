@@ -974,7 +974,7 @@ refuses() {
     run_messages "$name: what is said" "$status" "$said" "$@"
 }
 refuses 'no such key' 1 $'bibkit: two.bib: `z`: `title`: no entry has the key\n' set z title=A -f two.bib
-refuses 'no such key, after an edit that is made' 1 $'bibkit: two.bib: `z`: no entry has the key\n' remove a z -f two.bib
+refuses 'no such key, after the key of an entry' 1 $'bibkit: two.bib: `z`: no entry has the key\n' remove a z -f two.bib
 refuses 'two keys of no entry' 1 $'bibkit: two.bib: `z`: no entry has the key\n' remove a z y -f two.bib
 refuses 'a key of no entry before another key' 1 $'bibkit: two.bib: `z`: no entry has the key\n' remove z a -f two.bib
 refuses 'the key of one entry is given twice' 1 $'bibkit: two.bib: `a`: no entry has the key\n' remove a a -f two.bib
@@ -2149,8 +2149,10 @@ run 'a byte order mark of theirs does not count' 0 "$(cat merge0.bib)"$'\n' merg
 printf '@misc{a, title={\xff}}\n' >merge-bytes.bib
 printf '@misc{a, title={A} year=2001}\n' >merge-syntax.bib
 printf '@misc{a, title={A}}\n<<<<<<< HEAD\n=======\n>>>>>>> other\n' >merge-marker.bib
+printf '@misc{a, title={A}}\n<<<<<<< HEAD\n' >merge-first.bib
+printf '@misc{a, title={A}}\n>>>>>>> other\n' >merge-last.bib
 printf '@misc{a, title={A}}\n<<<<<<<<< ours\n=========\n>>>>>>>>> theirs\n' >merge-markers.bib
-for name in bytes syntax marker; do
+for name in bytes syntax marker first last; do
     run "a refused version ($name): nothing is printed" 2 '' merge merge0.bib merge1.bib merge-$name.bib
     cp merge-$name.bib written.bib
     run "a refused version ($name): nothing is written" 2 '' merge --write merge0.bib written.bib merge2.bib

@@ -339,7 +339,7 @@ fn edit(rt: &HostRuntime, editing: &Editing<'_>, edits: &[Edit<'_>]) -> Result<(
     Ok(())
 }
 
-// Applies edits to a file as `edit` does. Several removals of different entries are one edit, so that the file is parsed only once.
+// Applies edits to a file as `edit` does. Removals with different keys are one edit, so that the file is parsed only once.
 fn edit_these(rt: &HostRuntime, editing: &Editing<'_>, edits: &[Edit<'_>]) -> Result<(), Stop> {
     match distinct_removals(rt.alloc(), edits)? {
         Some(keys) => edit(rt, editing, &[Edit::RemoveEach { keys: &keys }]),

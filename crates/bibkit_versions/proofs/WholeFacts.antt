@@ -103,7 +103,8 @@ merge_is markers vs whole text conflicts none merge fields = by fields.merged fi
   where
     by : (merged : Versions) → AreMergedBy vs merged → text ≡ merged_text markers merged (kept_slots merged vs)
         → conflicts ≡ has_conflict (kept_slots merged vs) → IsWholeMerge whole text conflicts
-    by merged (unneeded unchanged) is has = record { same = is ∙ merge.text_is; clean = has ∙ clean_conflicts (kept_slots vs vs) merge.clean }
+    by merged (unneeded unchanged) is has =
+        record { same = is ∙ merge.text_is; clean = has ∙ clean_conflicts (kept_slots vs vs) merge.clean }
     by merged (refused changed why) is has = absurd (test_clash (is_changed_twice vs) changed none)
     by merged (by_fields changed ours units theirs units') is has = absurd (test_clash (is_changed_twice vs) changed none)
 

@@ -39,8 +39,8 @@ pub record IsRefusedMerge (vs : Versions) : Type 0 where
   pub merged : HasMergedEntries side vs text
   pub refused : IsFile text → ⊥
 
--- Versions whose merge by units is the merge of `vs`: those in which entries that both sides changed are merged by their fields. If there
--- are no such entries, or a text with them isn't that of a file, they are the same versions
+-- Versions whose merge by units is the merge of `vs`: those in which entries that both sides changed are merged by their fields. If no unit
+-- was changed by both sides, or a text with merged entries isn't that of a file, they are the same versions
 pub data AreMergedBy (vs : Versions) : Versions → Type 0 where
   unneeded : is_changed_twice vs ≡ false → AreMergedBy vs vs
   refused : is_changed_twice vs ≡ true → IsRefusedMerge vs → AreMergedBy vs vs

@@ -50,7 +50,7 @@ fn is_changed_twice(versions: Versions<'_, '_>, slots: &[Slot]) -> bool
     slots.iter().any(|slot| are_all_different(versions, *slot))
 }
 
-// Returns the numbers of the lines of a merged text that equal a marker, from 1. Without conflicts there are none.
+// Returns the numbers of the lines of a merged text that equal a marker, from 1; none if the merge has no conflict.
 fn lines_with(alloc: Global, merged: &Merged, marker: &str) -> Result<Vec<usize>, AllocError> {
     let mut numbers = Vec::new(alloc);
     if !has_conflict(&merged.slots) {
@@ -196,7 +196,7 @@ fn output_by_units<'v, 's>(
 }
 
 // Returns the output for a merge in which entries that both sides changed are merged by their fields, or `None` if the text of a side with
-// these entries has a syntax error. There are such entries.
+// these entries has a syntax error. The clause applies if both sides changed a unit differently.
 fn output_by_fields(
     alloc: Global,
     file: &str,

@@ -88,7 +88,7 @@ abbrev pub accent_with : ℕ → Option (List ℕ) → Option (List ℕ)
 accent_with name None = None
 accent_with name (Some text) = Some (accent_command name text)
 
--- an accent on a letter, given the name of the accent if there is one
+-- the command for an accent on a letter, given the name of the accent if there is one
 abbrev pub accent_on : Option ℕ → ℕ → Option (List ℕ)
 accent_on None c = None
 accent_on (Some name) c = if is_put_on name c then accent_with name (base_text c) else None

@@ -41,7 +41,8 @@ field_span d k e j f read here there =
       omega (arith, field.starts, field.ends, (ahead_elements field.elements).at),
     )
 
--- an entry still agrees up to the start of an edit in a field after other fields replace this field. The stretch of the edit isn't empty
+-- Other fields replace a field. The entry agrees with itself before that, up to the start of an edit in this field, whose stretch isn't
+-- empty
 put_agrees : (d : Document) (edit : Edit) (k : ℕ) (e entry : EntryReading) (j : ℕ) (f : FieldReading)
     (news : List FieldReading) → IsDocument d → edit.start < edit.end → edit.start < f.value.end
     → slice_get d.says.entries k ≡ Some e → slice_get e.fields j ≡ Some f → AgreesIn edit.start e entry

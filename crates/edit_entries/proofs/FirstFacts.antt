@@ -43,7 +43,7 @@ passing_first test before es e = by_case (test before e)
     by_case true = refl
     by_case false = refl
 
--- a key that is one of some keys and isn't found yet is one of them that no earlier entry has
+-- a condition that counts only beside another one isn't tested again beside it
 pub first_now : (listed before : Bool) → (listed && not (listed && before)) ≡ (listed && not before)
 first_now true before = refl
 first_now false before = refl

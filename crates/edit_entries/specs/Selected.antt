@@ -69,7 +69,7 @@ pub record EntriesRemoved (d : Document) (selected : List ℕ → Bool) (after :
 
 -- ---- the first entry with each key is removed
 
--- the entries that pass a test. The test sees the entries before an entry, and the entry. The first of these entries comes after `before`
+-- the entries of a list that pass a test. The test receives all earlier entries, which begin with `before`, and the entry
 abbrev pub passing_after : (List EntryReading → EntryReading → Bool) → List EntryReading → List EntryReading → List EntryReading
 passing_after test before [] = []
 passing_after test before (e ∷ es) =

@@ -217,7 +217,7 @@ impl<'s> RawDocument<'s> {
     ///
     /// # Errors
     ///
-    /// `UnknownKey` if no entry has one of the keys.
+    /// `UnknownKey` if one of the keys is the key of no entry.
     pub fn remove_first_entries(&self, alloc: Global, keys: &[&str]) -> Result<String, EditError>
         ensures removed { IfOk result (λ new. IsEdited (FirstsRemoved self.now (map (λ k. k.now) keys.now)) (string_bytes new)) }
         ensures refused { IfErr result (FirstsAreRefused self.now (map (λ k. k.now) keys.now)) }

@@ -58,7 +58,7 @@ fn is_found_first<'s>(
     Ok(found.insert(key)?)
 }
 
-// Adds the edit that removes an entry, if its key is one of `keys` and isn't in `found`. Then adds this key to `found`.
+// If the key of an entry is in `keys` and not in `found`, adds it to `found`, and appends the edit that removes the entry.
 fn push_first_removal<'s>(
     edits: &mut Vec<Edit>,
     found: &mut BTreeSet<&'s str>,

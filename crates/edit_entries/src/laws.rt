@@ -16,8 +16,8 @@ pub fn set_is_there()
         HasValue after key name value }
 {}
 
-/// States that removing the first entry with each of several different keys at once gives the same text as removing them one after the
-/// other, in the order of the keys.
+/// States that removing the first entries with several different keys at once gives the text of removing them in turn, in the order of the
+/// keys.
 pub fn removals_are_in_turn()
     ensures { (d after : Document) (keys : List (List ℕ)) → IsDocument d → IsDistinct bytes_eq keys → FirstsRemoved d keys after →
         (last : Document) × RemovedInTurn keys d last × IsDocument last × (last.text ≡ after.text) }

@@ -101,7 +101,7 @@ rest_distinct f fs distinct = by_case (not (list_any (λ g. has_name g.name.text
 
 module _ (takes : List ℕ → Bool) (main other : Version) (name : List ℕ)
     (alike : (n : List ℕ) → is_word n name ≡ true → takes n ≡ takes name) where
-  -- what the field with the name becomes
+  -- the field with the name after the merge, given the one of the main side
   abbrev becomes : Option FieldReading → Option FieldReading
   becomes None = None
   becomes (Some f) = find (has_name name) (field_merged f (pick takes other f))

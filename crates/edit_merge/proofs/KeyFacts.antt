@@ -175,7 +175,7 @@ few_at (x ∷ xs) (suc i) u few is = few_at xs i u few.1 is
 abbrev keys_at : VersionReading → List ℕ → List (List ℕ)
 keys_at v name = keys_of_units (unit_list (version_unit v (named_index v name)))
 
--- a list has one name at most, and the name of a place is that of its key
+-- a list has at most one key, and a place with this key has this name
 record IsKeyed (name : List ℕ) (keys : List (List ℕ)) : Type 0 where
   few : length keys ≤ 1
   named : (key : List ℕ) → IsAmong key keys → name ≡ first_name key
@@ -212,7 +212,7 @@ place_keyed vs name Conflict ours theirs picked = absurd picked
 
 -- ---- all places
 
--- lists of at most one name, of which none is in two
+-- lists of at most one key have different keys if their places have different names
 apart_keys : (keys_of : List ℕ → List (List ℕ)) (names : List (List ℕ)) → AreAllDifferent names
     → AllByRecursion (λ n. IsKeyed n (keys_of n)) names → AreAllDifferent (flat_map keys_of names)
 apart_keys keys_of [] differ all = _

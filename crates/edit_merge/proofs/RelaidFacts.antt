@@ -83,7 +83,7 @@ conflict_stays b o t b' o' t' are is =
 
 -- ---- what is picked
 
--- why a choice isn't a conflict
+-- the reason for a choice
 data IsChoice (b o t : Placed) : Choice → Type 0 where
   ours_by_base : alike t b ≡ true → IsChoice b o t Ours
   ours_by_ours : alike t o ≡ true → IsChoice b o t Ours

@@ -38,7 +38,7 @@ abbrev pub is_lost : Versions → Versions → List ℕ → Bool
 is_lost vs originals name =
     dangles (units_at vs (slots vs)) name && (not (dangles originals.ours.units name) && not (dangles originals.theirs.units name))
 
--- the first lost name that the unit at a place defines that isn't picked
+-- the first lost name in the unit at a place that isn't picked: a name that this unit defines
 abbrev pub lost_at : Versions → Versions → Slot → Option (List ℕ)
 lost_at vs originals s = find (is_lost vs originals) (flat_map defined_names (unpicked_units vs s s.choice))
 

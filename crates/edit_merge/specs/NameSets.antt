@@ -38,7 +38,7 @@ is_dangling sets name = contains_text sets.used name && not (contains_text sets.
 abbrev pub is_lost_by : MergeNames → List ℕ → Bool
 is_lost_by names name = is_dangling names.picked name && (not (is_dangling names.ours name) && not (is_dangling names.theirs name))
 
--- the first lost name that the unit at a place defines that isn't picked, by the sets
+-- the first lost name, by the sets, that is defined in the unit at a place that isn't picked
 abbrev pub lost_by : MergeNames → Versions → Slot → Option (List ℕ)
 lost_by names vs s = find (is_lost_by names) (flat_map defined_names (unpicked_units vs s s.choice))
 

@@ -8,7 +8,7 @@ use Rattle.edit_merge.specs.declared.picking.Choice.{Choice}
 use Rattle.edit_merge.specs.declared.picking.Choice.TheVariants.{Ours, Theirs, Conflict}
 
 -- In two triples of versions, the bases, ours and theirs have alike units with a name, or none. No version has several units with the own
--- name in it.
+-- name that is a part of this name.
 pub record AreRelaid (vs ws : Versions) (name : List ℕ) : Type 0 where
   pub units : HaveUnits vs
   pub units' : HaveUnits ws

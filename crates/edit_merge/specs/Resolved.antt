@@ -12,7 +12,7 @@ use Rattle.edit_merge.specs.declared.picking.Choice.{Choice}
 use Rattle.edit_merge.specs.declared.picking.Choice.TheVariants.{Ours, Theirs, Conflict}
 use Rattle.edit_merge.specs.declared.slots.Slot.{Slot}
 
--- the text in place of the conflict at a place: that of theirs, or that of ours
+-- the text in place of the conflict at a place: that of theirs if the Bool is true, or that of ours
 abbrev pub text_instead : Versions → Slot → Bool → List ℕ
 text_instead vs s true = unwrap_or (found_text (texts_at vs.theirs s.theirs)) []
 text_instead vs s false = unwrap_or (found_text (texts_at vs.ours s.ours)) []

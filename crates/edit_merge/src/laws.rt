@@ -28,8 +28,9 @@ pub fn clean_merges_are_read()
         IsReadPlaceless (merged_content vs places) (merged_text markers vs places) }
 {}
 
-/// States that a merge is the text of a file if each of its conflicts is replaced by the text of either side, or by nothing if this side
-/// lacks the unit. Its content is that of the picked units and of the units in place of the conflicts, in order. This holds for any places.
+/// States that a merge is the text of a file if each of its conflicts is replaced by the text of either side, with the white space around
+/// it kept. If this side lacks the unit, the text is empty. The content is that of the picked units and of the units in place of the
+/// conflicts, in order. This holds for any places, and so for those of a merge.
 pub fn resolved_merges_are_read()
     ensures { (vs : Versions) (takes : Slot → Bool) (places : List Slot) → HaveUnits vs →
         IsReadPlaceless (resolved_content vs takes places) (resolved_text vs takes places) }
@@ -66,8 +67,8 @@ pub fn places_have_different_names()
     ensures { (vs : Versions) → length vs.ours.units < 2 ^ 64 → length vs.theirs.units < 2 ^ 64 → AreAllDifferent (merged_names vs) }
 {}
 
-/// States that no key is twice in a merge without a conflict if none is twice in its sides, and no unit of them has several entries. Keys
-/// that differ in case are different. The sides have fewer than 2^64 units.
+/// States that the picked units of a merge without a conflict have no key twice if neither side has a key twice, or several entries in one
+/// unit. Keys that differ in case are different. The sides have fewer than 2^64 units.
 pub fn keys_stay_different()
     ensures { (vs originals : Versions) → length vs.ours.units < 2 ^ 64 → length vs.theirs.units < 2 ^ 64 →
         HaveFewEntries vs.ours.units → HaveFewEntries vs.theirs.units → AreAllDifferent (keys_of_units vs.ours.units) →
@@ -90,10 +91,10 @@ pub fn sides_can_be_exchanged()
     ensures order { (vs : Versions) → order_choice vs ≡ Conflict → order_choice (exchanged vs) ≡ Conflict }
 {}
 
-/// States that the layout of a unit is no change. If versions have units with a name that differ from those of other versions in layout
-/// only, both merges have a conflict there or none, and without one they pick alike units. This doesn't hold for units with an own name that
-/// other units of a version have too, and it is about conflicts before lost names are looked for.
-pub fn layout_is_no_change()
+/// States that a merge makes no difference between alike units, such as an entry in two layouts. If the units with a name in two triples of
+/// versions are alike, version by version, both merges have a conflict there or neither has. Without one, they pick alike units. Own names
+/// that several units of a version have, and conflicts because of lost names, aren't covered.
+pub fn alike_units_are_interchangeable()
     ensures conflicts { (vs ws : Versions) (name : List ℕ) → AreRelaid vs ws name → (slot_of vs name).choice ≡ Conflict →
         (slot_of ws name).choice ≡ Conflict }
     ensures picks { (vs ws : Versions) (name : List ℕ) → AreRelaid vs ws name → IsPicked (slot_of vs name).choice →

@@ -194,7 +194,7 @@ fn renames_of_sides<'s>(
     Ok(renames)
 }
 
-// Returns those of these renames of which exactly one entry of each version has the old or the new key.
+// Returns the renames of which exactly one entry of each version has the old or the new key.
 fn counted_renames<'s>(
     alloc: Global,
     renames: &[Rename<'s>],
@@ -363,7 +363,7 @@ fn texts_of_documents(
     new_texts_or_none(alloc, documents, &keys)
 }
 
-// Returns the texts of the versions with new keys for those of these renames that count.
+// Returns the texts of the versions after those of `renames` that count.
 fn texts_after(
     alloc: Global,
     versions: Versions<'_, '_>,

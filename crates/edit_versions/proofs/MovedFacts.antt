@@ -39,11 +39,12 @@ fields_moved move (f ∷ fs) (g ∷ gs) =
 
 -- ---- byte offsets
 
--- a byte offset that comes back from the stretch of another unit is in the stretch of its unit
+-- a byte offset is between two others
 record IsBetween (start end n : ℕ) : Type 0 where
   from : start ≤ n
   to : n ≤ end
 
+-- a byte offset that comes back from the stretch of another unit is in the stretch of its unit
 bounded : (start end start' end' n : ℕ) → start ≤ end → start' ≤ end' → end - start ≡ end' - start'
     → n ≡ moved_at start' end' start (moved_at start end start' n) → IsBetween start end n
 bounded start end start' end' n order order' size back =
@@ -55,7 +56,7 @@ data AreBetween (start end : ℕ) : List FieldReading → Type 0 where
   some : {f : FieldReading} {fs : List FieldReading} → IsBetween start end f.name.start → IsBetween start end f.value.end
       → AreBetween start end fs → AreBetween start end (f ∷ fs)
 
--- those of an entry that decide whether units are alike
+-- the byte offsets by which entries are compared are in the stretch of their unit
 record IsEntryBetween (start end : ℕ) (e : EntryReading) : Type 0 where
   first : IsBetween start end e.start
   last : IsBetween start end e.end

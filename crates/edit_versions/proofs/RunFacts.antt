@@ -148,7 +148,7 @@ place_is same at = ap₂ place same (sym at)
 abbrev unit_of : LineReading → UnitReading
 unit_of l = record { start = l.start; end = l.end; blocks = l.blocks; says = l.says }
 
--- how a line ends
+-- a place is the end of a line
 record IsLineEnd (text : List ℕ) (v : Place) : Type 0 where
   same : v.text ≡ text
   within : v.at ≤ length text

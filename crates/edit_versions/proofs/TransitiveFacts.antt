@@ -182,7 +182,7 @@ no_single : (blocks : List (Range ℕ)) (es : List EntryReading) → (length blo
 no_single [] es empty = refl
 no_single (b ∷ bs) es empty = absurd (omega (arith, eqb-true (length (b ∷ bs)) 0 empty))
 
--- a unit without blocks doesn't differ in its layout only from another one
+-- two units don't differ in layout only if the second one has no blocks
 not_laid_out : (text : List ℕ) (u : UnitReading) (other : List ℕ) (v : UnitReading) → AreLaidOut text u other v
     → (length v.blocks == 0) ≡ true → ⊥
 not_laid_out text u other v laid empty = by (single_entry u) (single_entry v) (no_single v.blocks v.says.entries empty) laid.alike
@@ -192,7 +192,7 @@ not_laid_out text u other v laid empty = by (single_entry u) (single_entry v) (n
     by (Some e) None none is = cc
     by (Some e) (Some g) none is = cc
 
--- and another one doesn't differ in its layout only from a unit without blocks
+-- two units don't differ in layout only if the first one has no blocks
 not_laid_out_from : (text : List ℕ) (u : UnitReading) (other : List ℕ) (v : UnitReading) → AreLaidOut text u other v
     → (length u.blocks == 0) ≡ true → ⊥
 not_laid_out_from text u other v laid empty = by (single_entry u) (single_entry v) (no_single u.blocks u.says.entries empty) laid.alike

@@ -26,7 +26,7 @@ pub fn comparisons_are_symmetric()
 {}
 
 /// States that two units are alike if both are alike a third one, or all three are absent.
-pub fn alike_units_are_alike_others()
+pub fn comparisons_are_transitive()
     ensures { (v w x : VersionReading) (i j k : Option ℕ) → AreUnits v.text v.units → AreUnits w.text w.units → AreUnits x.text x.units →
         is_alike v (version_unit v i) w (version_unit w j) ≡ true → is_alike w (version_unit w j) x (version_unit x k) ≡ true →
         is_alike v (version_unit v i) x (version_unit x k) ≡ true }

@@ -9,8 +9,8 @@ use Rattle.edit_entries.specs.Placed.{IsEntryPlaced}
 use Rattle.edit_entries.specs.Selected.{AreRemovals, is_first_with, passing_after}
 use Rattle.edit_entries.proofs.firsts.first_removals.Given as goal
 
--- with the edits that remove the first entries that are left, the edits are those that remove all of them; the keys of the entries so far
--- are found
+-- The edits so far, and those that remove the first entries among the entries that are left, remove all first entries. The keys of the
+-- entries so far are found.
 abbrev pub invariant-entries : goal.invariant-entries
 invariant-entries l = record {
   made : (more : List Edit)

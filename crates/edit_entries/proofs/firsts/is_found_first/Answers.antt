@@ -5,7 +5,7 @@ use Rattle.std.proofs.lemmas.Map.Text.{is_eq-slice_cmp}
 use Rattle.bib_queries.specs.Sets.{is_in_set}
 use Rattle.edit_entries.proofs.firsts.is_found_first.Goals as goal
 
--- one more key is in the set
+-- a choice of true is a disjunction
 one_more : (same before : Bool) → cond same true before ≡ (before || (true && same))
 one_more true true = refl
 one_more true false = refl

@@ -1,6 +1,6 @@
 use Rattle.edit_versions.specs.Versions.{version_unit}
 use Rattle.edit_versions.proofs.TransitiveFacts.{alike_transitive, has_run}
-use Rattle.edit_versions.proofs.laws.alike_units_are_alike_others.Goals as goal
+use Rattle.edit_versions.proofs.laws.comparisons_are_transitive.Goals as goal
 
 pub returns : goal.returns
 returns c v w x i j k units units' units'' first second =
