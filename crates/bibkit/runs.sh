@@ -2703,6 +2703,9 @@ for kind, block in re.findall(r"^```(\S*)\n(.*?)^```$", open(document, encoding=
         open(os.path.join(folder, name.group(1)), "w", encoding="utf-8").write(block)
     if kind != "console":
         continue
+    if "$ git " in block and not shutil.which("git"):
+        print("sessions: not run: the session with git, which is missing")
+        continue
     for command, want in re.findall(r"^\$ (.*)\n((?:(?!\$ ).*\n)*)", block, re.M):
         ran += 1
         path = folder + ":" + os.environ["PATH"]
